@@ -1,5 +1,6 @@
 -- What is sent for a command asks what the command means.
-use Rattle.std.proofs.Common.{◌≡◌, ◌&&◌, ◌==◌, ◌<◌, ℕ, Bool, true, false, cond, List, [], ◌∷◌, ◌++◌, length, drop, map, Option, Some, None, Ok, Err, codes, option_map, unwrap_or, refl, ap, ◌∙◌, subst, arith}
+use Rattle.std.proofs.Common.{◌≡◌, ◌&&◌, ◌==◌, ◌<◌, ℕ, Bool, true, false, cond, List, [], ◌∷◌, ◌++◌, length, drop, map}
+use Rattle.std.proofs.Common.{Option, Some, None, Ok, Err, codes, option_map, unwrap_or, refl, ap, ◌∙◌, subst, arith}
 use Rattle.std.specs.Option.{option_or}
 use Rattle.std.specs.Str.{is_utf8}
 use Rattle.std.proofs.lemmas.Bool.Decides.{nat_tests}
@@ -9,7 +10,8 @@ use Rattle.httparse.specs.Spans.{name_and_value}
 use Rattle.percent_encoding.specs.Percent.{percent_decode}
 use Rattle.broker_types.specs.Path.{is_path, without_slash}
 use Rattle.broker_types.specs.declared.refusal.Reason.TheVariants as reason
-use Rattle.http_layer.specs.Asked.{asked, bad_request, client_token, path_asked, path_read, token_asked, value_asked, verb_asked, wrap_ttl_asked}
+use Rattle.http_layer.specs.Asked.{asked, bad_request, client_token, path_asked, path_read, token_asked, value_asked}
+use Rattle.http_layer.specs.Asked.{verb_asked, wrap_ttl_asked}
 use Rattle.http_layer.specs.Front.{IsFront, whole}
 use Rattle.http_layer.specs.HeadParts.{HeadField, parts_of, same_in_any_case}
 use Rattle.http_layer.specs.Laws.{PrintedLengthIsRead, PrintedRequestIsFront}
@@ -20,8 +22,10 @@ use Rattle.api_client.specs.Requests.{body_of, method_of, path_of, sent}
 use Rattle.api_client.specs.declared.command.Command.{Command}
 use Rattle.api_client.specs.declared.command.Request.{Request}
 use Rattle.api_client.specs.declared.command.Request.TheVariants as request
-use Rattle.api_client.proofs.PathLemmas.{percent_decode-escaped, target_of, target_path-target, target_query-target, without_slash-path}
-use Rattle.api_client.proofs.SentLemmas.{optional_field, can_be_sent, client_token_sent, no_credentials, path_good, printed, sent_fields, values_in, wrap_ttl_sent}
+use Rattle.api_client.proofs.PathLemmas.{percent_decode-escaped, target_of, target_path-target, target_query-target}
+use Rattle.api_client.proofs.PathLemmas.{without_slash-path}
+use Rattle.api_client.proofs.SentLemmas.{optional_field, can_be_sent, client_token_sent, no_credentials, path_good}
+use Rattle.api_client.proofs.SentLemmas.{printed, sent_fields, values_in, wrap_ttl_sent}
 use Rattle.api_client.proofs.TextLemmas.{field_parts, trim_visible, visible_text}
 
 verb : (r : Request) → verb_asked (method_of r) [] ≡ Ok (verb_of r)
@@ -36,18 +40,23 @@ path : (p : List ℕ) → IsPathText p → path_asked (target_of p) ≡ Ok p
 path p good =
     ap (λ (t : List ℕ). path_read (percent_decode (drop 4 t))) (target_path-target p)
     ∙ ap path_read (percent_decode-escaped p good.bytes)
-    ∙ ap (λ (b : Bool). cond (b && is_path (without_slash p)) (Ok (without_slash p)) (Err (bad_request reason.InvalidPath))) (is_utf8-from_IsUtf8 p good.text)
-    ∙ ap (λ (q : List ℕ). cond (is_path q) (Ok q) (Err (bad_request reason.InvalidPath))) (without_slash-path p good.good)
+    ∙ ap (λ (b : Bool). cond (b && is_path (without_slash p)) (Ok (without_slash p))
+    (Err (bad_request reason.InvalidPath))) (is_utf8-from_IsUtf8 p good.text)
+    ∙ ap (λ (q : List ℕ). cond (is_path q) (Ok q) (Err (bad_request reason.InvalidPath)))
+    (without_slash-path p good.good)
     ∙ ap (λ (b : Bool). cond b (Ok p) (Err (bad_request reason.InvalidPath))) good.good
 
 -- the value of an option, under its name in any case
-value_sent : (name sent : List ℕ) (o : Option (List ℕ)) → same_in_any_case sent name ≡ true → IsOptionalField o → value_asked (values_in name (optional_field sent o)) ≡ Ok o
+value_sent : (name sent : List ℕ) (o : Option (List ℕ)) → same_in_any_case sent name ≡ true → IsOptionalField o
+    → value_asked (values_in name (optional_field sent o)) ≡ Ok o
 value_sent name sent None same good = refl
 value_sent name sent (Some t) same good =
     let parts = field_parts t good in
     ap (λ (b : Bool). value_asked (map (λ (f : HeadField). f.1) (cond b ((sent, trim_ows (32 ∷ t)) ∷ []) []))) same
-    ∙ ap (λ (v : List ℕ). cond (is_utf8 v) (Ok (Some v)) (Err (bad_request reason.MalformedRequest))) (trim_visible t parts.2)
-    ∙ ap (λ (b : Bool). cond b (Ok (Some t)) (Err (bad_request reason.MalformedRequest))) (is_utf8-from_IsUtf8 t (visible_text t parts.2))
+    ∙ ap (λ (v : List ℕ). cond (is_utf8 v) (Ok (Some v)) (Err (bad_request reason.MalformedRequest)))
+    (trim_visible t parts.2)
+    ∙ ap (λ (b : Bool). cond b (Ok (Some t)) (Err (bad_request reason.MalformedRequest)))
+    (is_utf8-from_IsUtf8 t (visible_text t parts.2))
 
 -- the client token
 alone : (o : Option (List ℕ)) → IsOptionalField o → client_token o None ≡ o
@@ -57,17 +66,26 @@ alone (Some t) good = ap (λ (b : Bool). option_or (cond b None (Some t)) None) 
     some : (n : ℕ) → 0 < n → (n == 0) ≡ false
     some n more = grind (arith, nat_tests)
 
-token : (c : Command) (len : Option ℕ) → IsOptionalField c.token → token_asked (map name_and_value (sent_fields c len)) ≡ Ok c.token
+token : (c : Command) (len : Option ℕ) → IsOptionalField c.token
+    → token_asked (map name_and_value (sent_fields c len)) ≡ Ok c.token
 token c len good =
-    rw (client_token_sent c len, no_credentials c len, value_sent (codes "x-vault-token") (codes "X-Vault-Token") c.token refl good) (ap (λ (o : Option (List ℕ)). Ok o) (alone c.token good))
+    rw (
+      client_token_sent c len,
+      no_credentials c len,
+      value_sent (codes "x-vault-token")
+          (codes "X-Vault-Token") c.token refl good,
+    ) (ap (λ (o : Option (List ℕ)). Ok o) (alone c.token good))
 
 -- the text of the wrap TTL
-wrap_ttl : (c : Command) (len : Option ℕ) → IsOptionalField c.wrap_ttl → wrap_ttl_asked (map name_and_value (sent_fields c len)) ≡ Ok c.wrap_ttl
+wrap_ttl : (c : Command) (len : Option ℕ) → IsOptionalField c.wrap_ttl
+    → wrap_ttl_asked (map name_and_value (sent_fields c len)) ≡ Ok c.wrap_ttl
 wrap_ttl c len good =
-    ap value_asked (wrap_ttl_sent c len) ∙ value_sent (codes "x-vault-wrap-ttl") (codes "X-Vault-Wrap-TTL") c.wrap_ttl refl good
+    ap value_asked (wrap_ttl_sent c len) ∙ value_sent (codes "x-vault-wrap-ttl")
+    (codes "X-Vault-Wrap-TTL") c.wrap_ttl refl good
 
 -- what is sent is read as it was meant
-pub sent_asks : PrintedRequestIsFront → PrintedLengthIsRead → (c : Command) → is_field_text c.address ≡ true → IsOptionalField c.token → IsOptionalField c.wrap_ttl
+pub sent_asks : PrintedRequestIsFront → PrintedLengthIsRead → (c : Command) → is_field_text c.address ≡ true
+    → IsOptionalField c.token → IsOptionalField c.wrap_ttl
     → IsSendable c.request → Asks (sent c) c
 unfolding sent asked
 sent_asks law length_law c address vault ttl good =
@@ -75,10 +93,18 @@ sent_asks law length_law c address vault ttl good =
     let body = unwrap_or (body_of c.request) [] in
     let p = path_of c.request in
     let h = printed_head (method_of c.request) (target_of p) (sent_fields c len) in
-    let front = law (method_of c.request) (target_of p) (sent_fields c len) body (can_be_sent length_law c address vault ttl good) in
+    let front = law (method_of c.request) (target_of p) (sent_fields c len) body
+    (can_be_sent length_law c address vault ttl good) in
     record {
       head = parts_of h;
       body = body;
-      front = subst (λ (bytes : List ℕ). IsFront (bytes ++ body) (whole (length (bytes ++ body)) (parts_of h) body)) (printed c len) front;
-      asks = rw (target_query-target p, verb c.request, token c len vault, wrap_ttl c len ttl, path p (path_good c.request good)) refl;
+      front = subst (λ (bytes : List ℕ). IsFront (bytes ++ body) (whole (length (bytes ++ body)) (parts_of h) body))
+          (printed c len) front;
+      asks = rw (
+        target_query-target p,
+        verb c.request,
+        token c len vault,
+        wrap_ttl c len ttl,
+        path p (path_good c.request good),
+      ) refl;
     }

@@ -1,5 +1,6 @@
 -- The bytes that a client escapes.
-use Rattle.std.proofs.Common.{◌≡◌, ◌≢◌, ℕ, ◌<◌, ◌≤◌, ◌==◌, ◌&&◌, not, Bool, true, false, List, [], ◌∷◌, refl, arith, inl, inr, if◌then◌else◌}
+use Rattle.std.proofs.Common.{◌≡◌, ◌≢◌, ℕ, ◌<◌, ◌≤◌, ◌==◌, ◌&&◌, not, Bool, true, false, List, [], ◌∷◌, refl, arith}
+use Rattle.std.proofs.Common.{inl, inr, if◌then◌else◌}
 use Rattle.std.specs.Char.{is_ascii}
 use Rattle.std.specs.List.{flat_map}
 use Rattle.std.proofs.lemmas.List.Concat.{flat_map-cons}
@@ -30,7 +31,8 @@ without f g x out rest b small =
 
 -- the set, as a test
 abbrev pub is_escaped : ℕ → Bool
-is_escaped b = contains NON_ALPHANUMERIC b && not (b == 45) && not (b == 46) && not (b == 95) && not (b == 126) && not (b == 47)
+is_escaped b = contains NON_ALPHANUMERIC b && not (b == 45) && not (b == 46) && not (b == 95) && not (b == 126)
+    && not (b == 47)
 
 pub escaped_table : agree_below is_escaped (λ b. not (is_plain b)) 128 ≡ true
 escaped_table = refl
@@ -47,7 +49,8 @@ past_ascii b high = grind (arith, nat_tests)
 in_ascii : (b : ℕ) → b < 128 → is_ascii b ≡ true
 in_ascii b low = grind (arith, nat_tests)
 
-escapes : (set : AsciiSet) → ((b : ℕ) → b < 128 → contains set b ≡ not (is_plain b)) → (b : ℕ) → should_percent_encode set b ≡ not (is_plain b)
+escapes : (set : AsciiSet) → ((b : ℕ) → b < 128 → contains set b ≡ not (is_plain b)) → (b : ℕ)
+    → should_percent_encode set b ≡ not (is_plain b)
 unfolding should_percent_encode
 escapes set h b =
     elim (cases_lt b 128) [
@@ -55,15 +58,18 @@ escapes set h b =
       | inr high ↦ rw (past_ascii b high, not_plain b high) refl
     ]
 
-one_byte : (set : AsciiSet) → ((b : ℕ) → b < 128 → contains set b ≡ not (is_plain b)) → (b : ℕ) → encode_byte set b ≡ escaped_byte b
+one_byte : (set : AsciiSet) → ((b : ℕ) → b < 128 → contains set b ≡ not (is_plain b)) → (b : ℕ)
+    → encode_byte set b ≡ escaped_byte b
 one_byte set h b = rw (escapes set h b) (swap (is_plain b))
   where
-    swap : (v : Bool) → (if not v then percent_encode_byte b else b ∷ []) ≡ (if v then b ∷ [] else percent_encode_byte b)
+    swap : (v : Bool) → (if not v then percent_encode_byte b else b ∷ [])
+        ≡ (if v then b ∷ [] else percent_encode_byte b)
     swap true = refl
     swap false = refl
 
 -- what the crate writes with that set
-pub percent_encode-escaped : (set : AsciiSet) → ((b : ℕ) → b < 128 → contains set b ≡ not (is_plain b)) → (bs : List ℕ) → percent_encode set bs ≡ escaped bs
+pub percent_encode-escaped : (set : AsciiSet) → ((b : ℕ) → b < 128 → contains set b ≡ not (is_plain b)) → (bs : List ℕ)
+    → percent_encode set bs ≡ escaped bs
 unfolding percent_encode escaped
 percent_encode-escaped set h bs = all bs
   where

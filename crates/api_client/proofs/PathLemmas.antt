@@ -1,5 +1,7 @@
 -- Paths as they are sent in a target.
-use Rattle.std.proofs.Common.{◌≡◌, ◌≢◌, ℕ, suc, ◌+◌, ◌-◌, ◌*◌, ◌<◌, ◌≤◌, ◌==◌, ◌&&◌, Bool, true, false, not, cond, List, [], ◌∷◌, ◌++◌, length, take, drop, All, refl, sym, ap, ◌∙◌, subst, arith, length-append, nat_lt, nat_le, slice_index}
+use Rattle.std.proofs.Common.{◌≡◌, ◌≢◌, ℕ, suc, ◌+◌, ◌-◌, ◌*◌, ◌<◌, ◌≤◌, ◌==◌, ◌&&◌, Bool, true, false, not, cond, List}
+use Rattle.std.proofs.Common.{[], ◌∷◌, ◌++◌, length, take, drop, All, refl, sym, ap, ◌∙◌, subst, arith, length-append}
+use Rattle.std.proofs.Common.{nat_lt, nat_le, slice_index}
 use Rattle.std.specs.List.{list_all, position_or_len}
 use Rattle.std.proofs.Math.ListN.{drop_of_length-le}
 use Rattle.std.proofs.lemmas.Bool.{and_parts, leb-true, ltb-true, false≢true}
@@ -7,7 +9,8 @@ use Rattle.std.proofs.lemmas.Bool.Decides.{nat_tests}
 use Rattle.std.proofs.lemmas.List.{take_all}
 use Rattle.std.proofs.lemmas.List.Elements.{All-append, All-cons, All-head, All-nil, All-tail, All-weaker}
 use Rattle.percent_encoding.specs.Percent.{percent_decode, percent_encode_byte}
-use Rattle.percent_encoding.proofs.PercentLemmas.{All-percent_encode_byte, IsEscapeByte, percent_decode-nil, percent_decode_not_percent, percent_decode-percent_encode_byte}
+use Rattle.percent_encoding.proofs.PercentLemmas.{All-percent_encode_byte, IsEscapeByte, percent_decode-nil}
+use Rattle.percent_encoding.proofs.PercentLemmas.{percent_decode_not_percent, percent_decode-percent_encode_byte}
 use Rattle.broker_types.specs.Path.{is_path, is_path_byte, is_segment, segments, without_slash}
 use Rattle.http_layer.specs.Query.{is_query_mark, target_path, target_query}
 use Rattle.api_client.specs.Commands.{is_visible}
@@ -22,13 +25,15 @@ list_all-cons t ts h = (and_parts (is_segment t) (list_all is_segment ts) h).1
 -- no part after the last slash
 ends_empty : (c : ℕ) (begun : List ℕ) → (c == 47) ≡ true → list_all is_segment (segments begun (c ∷ [])) ≡ false
 ends_empty c begun slash =
-    ap (λ (b : Bool). list_all is_segment (cond b (begun ∷ [] ∷ []) ((begun ++ c ∷ []) ∷ []))) slash ∙ no (is_segment begun)
+    ap (λ (b : Bool). list_all is_segment (cond b (begun ∷ [] ∷ []) ((begun ++ c ∷ []) ∷ []))) slash
+    ∙ no (is_segment begun)
   where
     no : (b : Bool) → (b && false) ≡ false
     no true = refl
     no false = refl
 
-last_of : (s : List ℕ) (begun : List ℕ) → 0 < length s → list_all is_segment (segments begun s) ≡ true → (slice_index s (length s - 1) == 47) ≡ false
+last_of : (s : List ℕ) (begun : List ℕ) → 0 < length s → list_all is_segment (segments begun s) ≡ true
+    → (slice_index s (length s - 1) == 47) ≡ false
 last_of [] begun some h = absurd (omega arith)
 last_of (c ∷ []) begun some h = by (c == 47) refl
   where
@@ -41,17 +46,21 @@ last_of (c ∷ d ∷ ds) begun some h =
     ap (λ (k : ℕ). slice_index (c ∷ d ∷ ds) k == 47) here ∙ ap (λ (k : ℕ). slice_index (d ∷ ds) k == 47) (sym next)
     ∙ by (c == 47) (last_of (d ∷ ds) [] (omega arith)) (last_of (d ∷ ds) (begun ++ c ∷ []) (omega arith)) h
   where
-    by : (b : Bool) → (list_all is_segment (segments [] (d ∷ ds)) ≡ true → (slice_index (d ∷ ds) (length (d ∷ ds) - 1) == 47) ≡ false)
-        → (list_all is_segment (segments (begun ++ c ∷ []) (d ∷ ds)) ≡ true → (slice_index (d ∷ ds) (length (d ∷ ds) - 1) == 47) ≡ false)
+    by : (b : Bool) → (list_all is_segment (segments [] (d ∷ ds)) ≡ true
+        → (slice_index (d ∷ ds) (length (d ∷ ds) - 1) == 47) ≡ false)
+        → (list_all is_segment (segments (begun ++ c ∷ []) (d ∷ ds)) ≡ true
+        → (slice_index (d ∷ ds) (length (d ∷ ds) - 1) == 47) ≡ false)
         → list_all is_segment (cond b (begun ∷ segments [] (d ∷ ds)) (segments (begun ++ c ∷ []) (d ∷ ds))) ≡ true
         → (slice_index (d ∷ ds) (length (d ∷ ds) - 1) == 47) ≡ false
     by true at_slash at_other h = at_slash (list_all-cons begun (segments [] (d ∷ ds)) h)
     by false at_slash at_other h = at_other h
 
 -- what a path is
-pub path_parts : (p : List ℕ) → is_path p ≡ true → (0 < length p) × (length p ≤ 512) × (list_all is_segment (segments [] p) ≡ true)
+pub path_parts : (p : List ℕ) → is_path p ≡ true → (0 < length p) × (length p ≤ 512)
+    × (list_all is_segment (segments [] p) ≡ true)
 path_parts p good =
-    let a = and_parts ((nat_lt 0 (length p) && nat_le (length p) 512) && list_all is_path_byte p) (list_all is_segment (segments [] p)) good in
+    let a = and_parts ((nat_lt 0 (length p) && nat_le (length p) 512) && list_all is_path_byte p)
+    (list_all is_segment (segments [] p)) good in
     let b = and_parts (nat_lt 0 (length p) && nat_le (length p) 512) (list_all is_path_byte p) a.0 in
     let c = and_parts (nat_lt 0 (length p)) (nat_le (length p) 512) b.0 in
     (ltb-true 0 (length p) c.0, leb-true (length p) 512 c.1, a.1)
@@ -82,10 +91,12 @@ plain_no_percent : (b : ℕ) → is_plain b ≡ true → b ≢ 37
 plain_no_percent b plain = λ e. false≢true (subst (λ (c : ℕ). is_plain c ≡ true) e plain)
 
 -- what holds of each plain byte and of each byte of an escape holds of an escaped path
-All-escaped : (P : ℕ → Type 0) (bs : List ℕ) → ((b : ℕ) → is_plain b ≡ true → P b) → ((b : ℕ) → IsEscapeByte b → P b) → All P (escaped bs)
+All-escaped : (P : ℕ → Type 0) (bs : List ℕ) → ((b : ℕ) → is_plain b ≡ true → P b) → ((b : ℕ) → IsEscapeByte b → P b)
+    → All P (escaped bs)
 unfolding escaped
 All-escaped P [] plain escape = All-nil P
-All-escaped P (b ∷ bs) plain escape = All-append P (escaped_byte b) (escaped bs) (by (is_plain b) refl) (All-escaped P bs plain escape)
+All-escaped P (b ∷ bs) plain escape = All-append P (escaped_byte b) (escaped bs) (by (is_plain b) refl)
+    (All-escaped P bs plain escape)
   where
     by : (t : Bool) → is_plain b ≡ t → All P (cond t (b ∷ []) (percent_encode_byte b))
     by true e = All-cons P b [] (plain b e) (All-nil P)
@@ -113,16 +124,19 @@ percent_decode-escaped [] small = percent_decode-nil
 percent_decode-escaped (b ∷ bs) small =
     by (is_plain b) refl (percent_decode-escaped bs (All-tail (λ c. c < 256) b bs small))
   where
-    by : (t : Bool) → is_plain b ≡ t → percent_decode (escaped bs) ≡ bs → percent_decode (cond t (b ∷ []) (percent_encode_byte b) ++ escaped bs) ≡ b ∷ bs
+    by : (t : Bool) → is_plain b ≡ t → percent_decode (escaped bs) ≡ bs
+        → percent_decode (cond t (b ∷ []) (percent_encode_byte b) ++ escaped bs) ≡ b ∷ bs
     by true e rest = percent_decode_not_percent b (escaped bs) (plain_no_percent b e) ∙ ap (λ (l : List ℕ). b ∷ l) rest
-    by false e rest = percent_decode-percent_encode_byte b (escaped bs) (All-head (λ c. c < 256) b bs small) ∙ ap (λ (l : List ℕ). b ∷ l) rest
+    by false e rest = percent_decode-percent_encode_byte b (escaped bs) (All-head (λ c. c < 256) b bs small)
+        ∙ ap (λ (l : List ℕ). b ∷ l) rest
 
 -- ---- a target without a query
 
 all_before : (t : List ℕ) → All (λ b. is_query_mark b ≡ false) t → position_or_len is_query_mark t ≡ length t
 all_before [] none = refl
 all_before (b ∷ bs) none =
-    ap (λ (q : Bool). cond (not q) (1 + position_or_len is_query_mark bs) 0) (All-head (λ c. is_query_mark c ≡ false) b bs none)
+    ap (λ (q : Bool). cond (not q) (1 + position_or_len is_query_mark bs) 0)
+    (All-head (λ c. is_query_mark c ≡ false) b bs none)
     ∙ ap (λ (n : ℕ). 1 + n) (all_before bs (All-tail (λ c. is_query_mark c ≡ false) b bs none)) ∙ one_more (length bs)
   where
     one_more : (n : ℕ) → 1 + n ≡ suc n
@@ -134,9 +148,11 @@ target_of path = 47 ∷ 118 ∷ 49 ∷ 47 ∷ escaped path
 
 no_query : (path : List ℕ) → All (λ b. is_query_mark b ≡ false) (target_of path)
 no_query path =
-    more 47 (118 ∷ 49 ∷ 47 ∷ escaped path) refl (more 118 (49 ∷ 47 ∷ escaped path) refl (more 49 (47 ∷ escaped path) refl (more 47 (escaped path) refl (escaped_no_query path))))
+    more 47 (118 ∷ 49 ∷ 47 ∷ escaped path) refl (more 118 (49 ∷ 47 ∷ escaped path) refl
+    (more 49 (47 ∷ escaped path) refl (more 47 (escaped path) refl (escaped_no_query path))))
   where
-    more : (b : ℕ) (bs : List ℕ) → is_query_mark b ≡ false → All (λ c. is_query_mark c ≡ false) bs → All (λ c. is_query_mark c ≡ false) (b ∷ bs)
+    more : (b : ℕ) (bs : List ℕ) → is_query_mark b ≡ false → All (λ c. is_query_mark c ≡ false) bs
+        → All (λ c. is_query_mark c ≡ false) (b ∷ bs)
     more b bs is rest = All-cons (λ c. is_query_mark c ≡ false) b bs is rest
 
 pub target_path-target : (path : List ℕ) → target_path (target_of path) ≡ target_of path

@@ -1,5 +1,8 @@
 -- What is sent for a command is a request of the grammar of HTTP, with its body.
-use Rattle.std.proofs.Common.{◌≡◌, ℕ, ◌+◌, ◌*◌, ◌/◌, ◌%◌, nat_lt, ◌<◌, ◌≤◌, Bool, true, false, cond, List, [], ◌∷◌, ◌++◌, length, map, All, IfSome, Option, Some, None, Ok, codes, decimal, option_map, unwrap_or, refl, sym, ap, ap₂, ◌∙◌, subst, arith, lit<, append_assoc, append-nil, length-append}
+use Rattle.std.proofs.Common.{◌≡◌, ℕ, ◌+◌, ◌*◌, ◌/◌, ◌%◌, nat_lt, ◌<◌, ◌≤◌, Bool, true, false, cond, List, [], ◌∷◌}
+use Rattle.std.proofs.Common.{◌++◌, length, map, All, IfSome, Option, Some, None, Ok, codes, decimal, option_map}
+use Rattle.std.proofs.Common.{unwrap_or, refl, sym, ap, ap₂, ◌∙◌, subst, arith, lit<, append_assoc, append-nil}
+use Rattle.std.proofs.Common.{length-append}
 use Rattle.std.specs.Prelude.{filter}
 use Rattle.std.specs.List.{flat_map}
 use Rattle.std.proofs.lemmas.List.{map-append}
@@ -8,7 +11,8 @@ use Rattle.std.proofs.lemmas.List.Sums.{AllPass-from_list_all}
 use Rattle.std.proofs.lemmas.Bool.Decides.{nat_tests}
 use Rattle.std.proofs.lemmas.Fmt.{length-decimal-le}
 use Rattle.std.proofs.lemmas.Grind.{flat_map-append}
-use Rattle.httparse.specs.Grammar.{Field, IsField, IsToken, crlf, is_token_byte, is_uri_byte, print_field, print_request, trim_ows}
+use Rattle.httparse.specs.Grammar.{Field, IsField, IsToken, crlf, is_token_byte, is_uri_byte, print_field}
+use Rattle.httparse.specs.Grammar.{print_request, trim_ows}
 use Rattle.httparse.specs.Spans.{name_and_value}
 use Rattle.std.specs.Char.{digit_char}
 use Rattle.std.proofs.lemmas.Bool.{leb-true}
@@ -22,12 +26,14 @@ use Rattle.http_layer.specs.Printed.{CanBeSent, printed_head}
 use Rattle.api_client.specs.Asking.{IsOptionalField, IsPathText, IsSendable}
 use Rattle.api_client.specs.Commands.{is_field_text, is_short_text, is_visible}
 use Rattle.api_client.specs.Escaping.{escaped}
-use Rattle.api_client.specs.Requests.{body_of, field_line, head_lines, length_line, method_of, optional_line, path_of, request_line, unwrap_object}
+use Rattle.api_client.specs.Requests.{body_of, field_line, head_lines, length_line, method_of, optional_line, path_of}
+use Rattle.api_client.specs.Requests.{request_line, unwrap_object}
 use Rattle.api_client.specs.declared.command.Command.{Command}
 use Rattle.api_client.specs.declared.command.Request.{Request}
 use Rattle.api_client.specs.declared.command.Request.TheVariants as request
 use Rattle.api_client.proofs.PathLemmas.{escaped_visible, length-escaped, path_parts, target_of}
-use Rattle.api_client.proofs.TextLemmas.{AreVisible, decimal_visible, field_parts, field_raw, trim_visible, visible_text}
+use Rattle.api_client.proofs.TextLemmas.{AreVisible, decimal_visible, field_parts, field_raw, trim_visible}
+use Rattle.api_client.proofs.TextLemmas.{visible_text}
 
 -- ---- the fields
 
@@ -46,26 +52,30 @@ abbrev pub sent_fields : Command → Option ℕ → List Field
 sent_fields c len =
     field (codes "Host") c.address
     ∷ (optional_field (codes "X-Vault-Token") c.token
-    ++ (optional_field (codes "X-Vault-Wrap-TTL") c.wrap_ttl ++ (field (codes "Connection") (codes "close") ∷ length_field len)))
+    ++ (optional_field (codes "X-Vault-Wrap-TTL") c.wrap_ttl
+    ++ (field (codes "Connection") (codes "close") ∷ length_field len)))
 
 -- ---- the bytes of the head
 
 pub print_one : (name value : List ℕ) → print_field (field name value) ≡ field_line name value
 print_one name value = simp append_assoc
 
-print_optional : (name : List ℕ) (o : Option (List ℕ)) → flat_map print_field (optional_field name o) ≡ optional_line name o
+print_optional : (name : List ℕ) (o : Option (List ℕ))
+    → flat_map print_field (optional_field name o) ≡ optional_line name o
 print_optional name None = refl
 print_optional name (Some value) = append-nil (print_field (field name value)) ∙ print_one name value
 
 print_length : (o : Option ℕ) → flat_map print_field (length_field o) ≡ length_line o
 print_length None = refl
-print_length (Some len) = append-nil (print_field (field (codes "Content-Length") (decimal len))) ∙ print_one (codes "Content-Length") (decimal len)
+print_length (Some len) = append-nil (print_field (field (codes "Content-Length") (decimal len)))
+    ∙ print_one (codes "Content-Length") (decimal len)
 
 print_fields : (c : Command) (len : Option ℕ)
     → flat_map print_field (sent_fields c len)
     ≡ field_line (codes "Host") c.address
     ++ (optional_line (codes "X-Vault-Token") c.token
-    ++ (optional_line (codes "X-Vault-Wrap-TTL") c.wrap_ttl ++ (field_line (codes "Connection") (codes "close") ++ length_line len)))
+    ++ (optional_line (codes "X-Vault-Wrap-TTL") c.wrap_ttl
+    ++ (field_line (codes "Connection") (codes "close") ++ length_line len)))
 print_fields c len =
     let last : List Field = field (codes "Connection") (codes "close") ∷ length_field len in
     let ttl = optional_field (codes "X-Vault-Wrap-TTL") c.wrap_ttl in
@@ -77,17 +87,21 @@ print_fields c len =
     (ap₂ (λ (a b : List ℕ). a ++ b) (print_one (codes "Connection") (codes "close")) (print_length len))))
 
 regroup : (m e h t w k l : List ℕ)
-    → m ++ (32 ∷ 47 ∷ 118 ∷ 49 ∷ 47 ∷ e) ++ codes " HTTP/1.1" ++ (13 ∷ 10 ∷ []) ++ (h ++ (t ++ (w ++ (k ++ l))) ++ (13 ∷ 10 ∷ []))
+    → m ++ (32 ∷ 47 ∷ 118 ∷ 49 ∷ 47 ∷ e) ++ codes " HTTP/1.1" ++ (13 ∷ 10 ∷ [])
+    ++ (h ++ (t ++ (w ++ (k ++ l))) ++ (13 ∷ 10 ∷ []))
     ≡ m ++ codes " /v1/" ++ e ++ codes " HTTP/1.1" ++ (13 ∷ 10 ∷ []) ++ h ++ t ++ w ++ k ++ l ++ (13 ∷ 10 ∷ [])
 regroup m e h t w k l = simp append_assoc
 
-pub printed : (c : Command) (len : Option ℕ) → print_request (printed_head (method_of c.request) (target_of (path_of c.request)) (sent_fields c len)) ≡ head_lines c len
+pub printed : (c : Command) (len : Option ℕ) → print_request
+    (printed_head (method_of c.request) (target_of (path_of c.request)) (sent_fields c len)) ≡ head_lines c len
 unfolding print_request
 printed c len =
     let m = method_of c.request in
     let e = escaped (path_of c.request) in
-    ap (λ (fs : List ℕ). m ++ (32 ∷ 47 ∷ 118 ∷ 49 ∷ 47 ∷ e) ++ codes " HTTP/1.1" ++ (13 ∷ 10 ∷ []) ++ (fs ++ (13 ∷ 10 ∷ []))) (print_fields c len)
-    ∙ regroup m e (field_line (codes "Host") c.address) (optional_line (codes "X-Vault-Token") c.token) (optional_line (codes "X-Vault-Wrap-TTL") c.wrap_ttl)
+    ap (λ (fs : List ℕ). m ++ (32 ∷ 47 ∷ 118 ∷ 49 ∷ 47 ∷ e) ++ codes " HTTP/1.1" ++ (13 ∷ 10 ∷ [])
+    ++ (fs ++ (13 ∷ 10 ∷ []))) (print_fields c len)
+    ∙ regroup m e (field_line (codes "Host") c.address) (optional_line (codes "X-Vault-Token") c.token)
+    (optional_line (codes "X-Vault-Wrap-TTL") c.wrap_ttl)
     (field_line (codes "Connection") (codes "close")) (length_line len)
 
 -- ---- the values of the fields
@@ -95,11 +109,13 @@ printed c len =
 abbrev pub values_in : List ℕ → List Field → List (List ℕ)
 values_in name fields = values_named name (map name_and_value fields)
 
-pub values_in-append : (name : List ℕ) (fs gs : List Field) → values_in name (fs ++ gs) ≡ values_in name fs ++ values_in name gs
+pub values_in-append : (name : List ℕ) (fs gs : List Field)
+    → values_in name (fs ++ gs) ≡ values_in name fs ++ values_in name gs
 values_in-append name fs gs =
     ap (values_named name) (map-append name_and_value fs gs)
     ∙ ap (map (λ (f : HeadField). f.1)) (filter-append (is_named name) (map name_and_value fs) (map name_and_value gs))
-    ∙ map-append (λ (f : HeadField). f.1) (filter (is_named name) (map name_and_value fs)) (filter (is_named name) (map name_and_value gs))
+    ∙ map-append (λ (f : HeadField). f.1) (filter (is_named name) (map name_and_value fs))
+    (filter (is_named name) (map name_and_value gs))
 
 values_sent : (name : List ℕ) (c : Command) (len : Option ℕ)
     → values_in name (sent_fields c len)
@@ -121,18 +137,24 @@ values_sent name c len =
     ∙ ap (λ (vs : List (List ℕ)). values_in name ttl ++ vs) (values_in-append name connection last)))
 
 -- an option of another name has no value with this one
-other_optional : (name other : List ℕ) (o : Option (List ℕ)) → same_in_any_case other name ≡ false → values_in name (optional_field other o) ≡ []
+other_optional : (name other : List ℕ) (o : Option (List ℕ)) → same_in_any_case other name ≡ false
+    → values_in name (optional_field other o) ≡ []
 other_optional name other None e = refl
-other_optional name other (Some v) e = ap (λ (b : Bool). map (λ (f : HeadField). f.1) (cond b ((other, trim_ows (32 ∷ v)) ∷ []) [])) e
+other_optional name other (Some v) e =
+    ap (λ (b : Bool). map (λ (f : HeadField). f.1) (cond b ((other, trim_ows (32 ∷ v)) ∷ []) [])) e
 
-other_length : (name : List ℕ) (o : Option ℕ) → same_in_any_case (codes "Content-Length") name ≡ false → values_in name (length_field o) ≡ []
+other_length : (name : List ℕ) (o : Option ℕ) → same_in_any_case (codes "Content-Length") name ≡ false
+    → values_in name (length_field o) ≡ []
 other_length name None e = refl
-other_length name (Some n) e = ap (λ (b : Bool). map (λ (f : HeadField). f.1) (cond b ((codes "Content-Length", trim_ows (32 ∷ decimal n)) ∷ []) [])) e
+other_length name (Some n) e = ap (λ (b : Bool). map (λ (f : HeadField). f.1)
+    (cond b ((codes "Content-Length", trim_ows (32 ∷ decimal n)) ∷ []) [])) e
 
 -- the values, where the options and the length have another name
-values_other : (name : List ℕ) (c : Command) (len : Option ℕ) → same_in_any_case (codes "X-Vault-Token") name ≡ false → same_in_any_case (codes "X-Vault-Wrap-TTL") name ≡ false
+values_other : (name : List ℕ) (c : Command) (len : Option ℕ) → same_in_any_case (codes "X-Vault-Token") name ≡ false
+    → same_in_any_case (codes "X-Vault-Wrap-TTL") name ≡ false
     → same_in_any_case (codes "Content-Length") name ≡ false
-    → values_in name (sent_fields c len) ≡ values_in name (field (codes "Host") c.address ∷ []) ++ values_in name (field (codes "Connection") (codes "close") ∷ [])
+    → values_in name (sent_fields c len) ≡ values_in name (field (codes "Host") c.address ∷ [])
+    ++ values_in name (field (codes "Connection") (codes "close") ∷ [])
 values_other name c len vault ttl last =
     rw (
       values_sent name c len,
@@ -140,7 +162,8 @@ values_other name c len vault ttl last =
       other_optional name (codes "X-Vault-Wrap-TTL") c.wrap_ttl ttl,
       other_length name len last,
     )
-    (ap (λ (vs : List (List ℕ)). values_in name (field (codes "Host") c.address ∷ []) ++ vs) (append-nil (values_in name (field (codes "Connection") (codes "close") ∷ []))))
+    (ap (λ (vs : List (List ℕ)). values_in name (field (codes "Host") c.address ∷ []) ++ vs)
+    (append-nil (values_in name (field (codes "Connection") (codes "close") ∷ []))))
 
 pub host_once : (c : Command) (len : Option ℕ) → length (values_in (codes "host") (sent_fields c len)) ≡ 1
 host_once c len = ap length (values_other (codes "host") c len refl refl refl)
@@ -151,7 +174,8 @@ uncoded c len = values_other (codes "transfer-encoding") c len refl refl refl
 pub no_credentials : (c : Command) (len : Option ℕ) → values_in (codes "authorization") (sent_fields c len) ≡ []
 no_credentials c len = values_other (codes "authorization") c len refl refl refl
 
-pub client_token_sent : (c : Command) (len : Option ℕ) → values_in (codes "x-vault-token") (sent_fields c len) ≡ values_in (codes "x-vault-token") (optional_field (codes "X-Vault-Token") c.token)
+pub client_token_sent : (c : Command) (len : Option ℕ) → values_in (codes "x-vault-token") (sent_fields c len)
+    ≡ values_in (codes "x-vault-token") (optional_field (codes "X-Vault-Token") c.token)
 client_token_sent c len =
     rw (
       values_sent (codes "x-vault-token") c len,
@@ -160,7 +184,8 @@ client_token_sent c len =
     )
     (append-nil (values_in (codes "x-vault-token") (optional_field (codes "X-Vault-Token") c.token)))
 
-pub wrap_ttl_sent : (c : Command) (len : Option ℕ) → values_in (codes "x-vault-wrap-ttl") (sent_fields c len) ≡ values_in (codes "x-vault-wrap-ttl") (optional_field (codes "X-Vault-Wrap-TTL") c.wrap_ttl)
+pub wrap_ttl_sent : (c : Command) (len : Option ℕ) → values_in (codes "x-vault-wrap-ttl") (sent_fields c len)
+    ≡ values_in (codes "x-vault-wrap-ttl") (optional_field (codes "X-Vault-Wrap-TTL") c.wrap_ttl)
 wrap_ttl_sent c len =
     rw (
       values_sent (codes "x-vault-wrap-ttl") c len,
@@ -169,7 +194,8 @@ wrap_ttl_sent c len =
     )
     (append-nil (values_in (codes "x-vault-wrap-ttl") (optional_field (codes "X-Vault-Wrap-TTL") c.wrap_ttl)))
 
-pub length_sent : (c : Command) (len : Option ℕ) → values_in (codes "content-length") (sent_fields c len) ≡ values_in (codes "content-length") (length_field len)
+pub length_sent : (c : Command) (len : Option ℕ)
+    → values_in (codes "content-length") (sent_fields c len) ≡ values_in (codes "content-length") (length_field len)
 length_sent c len =
     rw (
       values_sent (codes "content-length") c len,
@@ -193,7 +219,8 @@ uri_byte b visible = grind (arith, nat_tests)
 
 target_visible : (path : List ℕ) → AreVisible (target_of path)
 target_visible path =
-    more 47 (118 ∷ 49 ∷ 47 ∷ escaped path) refl (more 118 (49 ∷ 47 ∷ escaped path) refl (more 49 (47 ∷ escaped path) refl (more 47 (escaped path) refl (escaped_visible path))))
+    more 47 (118 ∷ 49 ∷ 47 ∷ escaped path) refl (more 118 (49 ∷ 47 ∷ escaped path) refl
+    (more 49 (47 ∷ escaped path) refl (more 47 (escaped path) refl (escaped_visible path))))
   where
     more : (b : ℕ) (bs : List ℕ) → is_visible b ≡ true → AreVisible bs → AreVisible (b ∷ bs)
     more b bs is rest = All-cons (λ c. is_visible c ≡ true) b bs is rest
@@ -203,15 +230,18 @@ field_valid name value is visible = record { name = is; raw = field_raw value vi
 
 -- ---- what holds of each field
 
-All-optional : (P : Field → Type 0) (name : List ℕ) (o : Option (List ℕ)) → IfSome o (λ t. P (field name t)) → All P (optional_field name o)
+All-optional : (P : Field → Type 0) (name : List ℕ) (o : Option (List ℕ)) → IfSome o (λ t. P (field name t))
+    → All P (optional_field name o)
 All-optional P name None h = All-nil P
 All-optional P name (Some t) h = All-cons P (field name t) [] h (All-nil P)
 
-All-length : (P : Field → Type 0) (o : Option ℕ) → IfSome o (λ n. P (field (codes "Content-Length") (decimal n))) → All P (length_field o)
+All-length : (P : Field → Type 0) (o : Option ℕ) → IfSome o (λ n. P (field (codes "Content-Length") (decimal n)))
+    → All P (length_field o)
 All-length P None h = All-nil P
 All-length P (Some n) h = All-cons P (field (codes "Content-Length") (decimal n)) [] h (All-nil P)
 
-All-sent : (P : Field → Type 0) (c : Command) (len : Option ℕ) → P (field (codes "Host") c.address) → IfSome c.token (λ t. P (field (codes "X-Vault-Token") t))
+All-sent : (P : Field → Type 0) (c : Command) (len : Option ℕ) → P (field (codes "Host") c.address)
+    → IfSome c.token (λ t. P (field (codes "X-Vault-Token") t))
     → IfSome c.wrap_ttl (λ t. P (field (codes "X-Vault-Wrap-TTL") t)) → P (field (codes "Connection") (codes "close"))
     → IfSome len (λ n. P (field (codes "Content-Length") (decimal n))) → All P (sent_fields c len)
 All-sent P c len host vault ttl connection last =
@@ -223,25 +253,36 @@ All-sent P c len host vault ttl connection last =
     (All-append P b d (All-optional P (codes "X-Vault-Wrap-TTL") c.wrap_ttl ttl)
     (All-cons P (field (codes "Connection") (codes "close")) (length_field len) connection (All-length P len last))))
 
-optional_valid : (name : List ℕ) (o : Option (List ℕ)) → IsToken name → IsOptionalField o → IfSome o (λ t. IsField (field name t))
+optional_valid : (name : List ℕ) (o : Option (List ℕ)) → IsToken name → IsOptionalField o
+    → IfSome o (λ t. IsField (field name t))
 optional_valid name None is good = tt
 optional_valid name (Some t) is good = field_valid name t is (field_parts t good).2
 
-length_valid : (o : Option ℕ) → IfSome o (λ n. n ≤ longest_body) → IfSome o (λ n. IsField (field (codes "Content-Length") (decimal n)))
+length_valid : (o : Option ℕ) → IfSome o (λ n. n ≤ longest_body)
+    → IfSome o (λ n. IsField (field (codes "Content-Length") (decimal n)))
 unfolding is_token_byte
 length_valid None short = tt
 length_valid (Some n) short =
-    field_valid (codes "Content-Length") (decimal n) (lit< tt, AllPass-from_list_all is_token_byte (codes "Content-Length") refl) (decimal_visible n (omega arith))
+    field_valid (codes "Content-Length") (decimal n)
+    (lit< tt, AllPass-from_list_all is_token_byte (codes "Content-Length") refl) (decimal_visible n (omega arith))
 
-fields_valid : (c : Command) (len : Option ℕ) → is_field_text c.address ≡ true → IsOptionalField c.token → IsOptionalField c.wrap_ttl
+fields_valid : (c : Command) (len : Option ℕ) → is_field_text c.address ≡ true → IsOptionalField c.token
+    → IsOptionalField c.wrap_ttl
     → IfSome len (λ n. n ≤ longest_body) → All IsField (sent_fields c len)
 unfolding is_token_byte
 fields_valid c len address vault ttl short =
     All-sent IsField c len
-    (field_valid (codes "Host") c.address (lit< tt, AllPass-from_list_all is_token_byte (codes "Host") refl) (field_parts c.address address).2)
-    (optional_valid (codes "X-Vault-Token") c.token (lit< tt, AllPass-from_list_all is_token_byte (codes "X-Vault-Token") refl) vault)
-    (optional_valid (codes "X-Vault-Wrap-TTL") c.wrap_ttl (lit< tt, AllPass-from_list_all is_token_byte (codes "X-Vault-Wrap-TTL") refl) ttl)
-    (field_valid (codes "Connection") (codes "close") (lit< tt, AllPass-from_list_all is_token_byte (codes "Connection") refl) (AllPass-from_list_all is_visible (codes "close") refl))
+    (field_valid (codes "Host") c.address (lit< tt, AllPass-from_list_all is_token_byte (codes "Host") refl)
+    (field_parts c.address address).2)
+    (optional_valid (codes "X-Vault-Token") c.token
+    (lit< tt, AllPass-from_list_all is_token_byte (codes "X-Vault-Token") refl) vault)
+    (optional_valid (codes "X-Vault-Wrap-TTL") c.wrap_ttl
+    (lit< tt, AllPass-from_list_all is_token_byte (codes "X-Vault-Wrap-TTL") refl) ttl)
+    (field_valid (codes "Connection") (codes "close") (
+      lit< tt,
+      AllPass-from_list_all is_token_byte
+          (codes "Connection") refl,
+    ) (AllPass-from_list_all is_visible (codes "close") refl))
     (length_valid len short)
 
 always : (o : Option (List ℕ)) → IfSome o (λ t. crlf ≡ crlf)
@@ -282,13 +323,18 @@ few c len =
 pub length-field_line : (name value : List ℕ) → length (field_line name value) ≡ length name + 2 + length value + 2
 length-field_line name value = simp length-append
 
-optional_short : (name : List ℕ) (o : Option (List ℕ)) → IsOptionalField o → length (optional_line name o) ≤ length name + 1028
+optional_short : (name : List ℕ) (o : Option (List ℕ)) → IsOptionalField o
+    → length (optional_line name o) ≤ length name + 1028
 optional_short name None good = omega arith
 optional_short name (Some t) good = omega (arith, length-field_line name t, (field_parts t good).1)
 
 length_short : (o : Option ℕ) → IfSome o (λ n. n ≤ longest_body) → length (length_line o) ≤ 25
 length_short None short = omega arith
-length_short (Some n) short = omega (arith, length-field_line (codes "Content-Length") (decimal n), length-decimal-le 7 n (lit< tt) (omega arith) (omega arith))
+length_short (Some n) short = omega (
+  arith,
+  length-field_line (codes "Content-Length") (decimal n),
+  length-decimal-le 7 n (lit< tt) (omega arith) (omega arith),
+)
 
 method_short : (r : Request) → length (method_of r) ≤ 6
 method_short (request.Read path) = omega arith
@@ -297,23 +343,28 @@ method_short (request.List path) = omega arith
 method_short (request.Delete path) = omega arith
 method_short (request.Unwrap t) = omega arith
 
-line_length : (m e : List ℕ) → length (m ++ codes " /v1/" ++ e ++ codes " HTTP/1.1" ++ (13 ∷ 10 ∷ [])) ≡ length m + 5 + length e + 9 + 2
+line_length : (m e : List ℕ) → length (m ++ codes " /v1/" ++ e ++ codes " HTTP/1.1" ++ (13 ∷ 10 ∷ [])) ≡ length m + 5
+    + length e + 9 + 2
 line_length m e = simp length-append
 
 line_short : (r : Request) → length (path_of r) ≤ 512 → length (request_line r) ≤ 1600
-line_short r short = omega (arith, line_length (method_of r) (escaped (path_of r)), method_short r, length-escaped (path_of r))
+line_short r short =
+    omega (arith, line_length (method_of r) (escaped (path_of r)), method_short r, length-escaped (path_of r))
 
-lines_length : (a b d e f g : List ℕ) → length (a ++ b ++ d ++ e ++ f ++ g ++ (13 ∷ 10 ∷ [])) ≡ length a + length b + length d + length e + length f + length g + 2
+lines_length : (a b d e f g : List ℕ) → length (a ++ b ++ d ++ e ++ f ++ g ++ (13 ∷ 10 ∷ [])) ≡ length a + length b
+    + length d + length e + length f + length g + 2
 lines_length a b d e f g = simp length-append
 
-head_short : (c : Command) (len : Option ℕ) → is_field_text c.address ≡ true → IsOptionalField c.token → IsOptionalField c.wrap_ttl → IfSome len (λ n. n ≤ longest_body)
+head_short : (c : Command) (len : Option ℕ) → is_field_text c.address ≡ true → IsOptionalField c.token
+    → IsOptionalField c.wrap_ttl → IfSome len (λ n. n ≤ longest_body)
     → length (path_of c.request) ≤ 512 → length (head_lines c len) ≤ longest_head
 head_short c len address vault ttl short path =
     let token = optional_line (codes "X-Vault-Token") c.token in
     let wrap_ttl = optional_line (codes "X-Vault-Wrap-TTL") c.wrap_ttl in
     omega (
       arith,
-      lines_length (request_line c.request) (field_line (codes "Host") c.address) token wrap_ttl (field_line (codes "Connection") (codes "close")) (length_line len),
+      lines_length (request_line c.request) (field_line (codes "Host") c.address) token wrap_ttl
+          (field_line (codes "Connection") (codes "close")) (length_line len),
       line_short c.request path,
       length-field_line (codes "Host") c.address,
       (field_parts c.address address).1,
@@ -331,7 +382,8 @@ path_good (request.List path) good = good
 path_good (request.Delete path) good = good
 path_good (request.Unwrap t) good = record {
   good = refl;
-  text = visible_text (codes "sys/wrapping/unwrap") (AllPass-from_list_all is_visible (codes "sys/wrapping/unwrap") refl);
+  text = visible_text (codes "sys/wrapping/unwrap")
+      (AllPass-from_list_all is_visible (codes "sys/wrapping/unwrap") refl);
   bytes = All-weaker (λ b. is_visible b ≡ true) (λ b. b < 256) byte (codes "sys/wrapping/unwrap")
       (AllPass-from_list_all is_visible (codes "sys/wrapping/unwrap") refl);
 }
@@ -343,7 +395,8 @@ escape_short : (b : ℕ) → length (escape_byte b) ≤ 6
 unfolding escape_byte
 escape_short b = by (nat_lt 0 (escape_letter b)) (nat_lt b 32)
   where
-    by : (s t : Bool) → length (cond s (92 ∷ escape_letter b ∷ []) (cond t (92 ∷ 117 ∷ 48 ∷ 48 ∷ digit_char (b / 16) ∷ digit_char (b % 16) ∷ []) (b ∷ []))) ≤ 6
+    by : (s t : Bool) → length (cond s (92 ∷ escape_letter b ∷ [])
+        (cond t (92 ∷ 117 ∷ 48 ∷ 48 ∷ digit_char (b / 16) ∷ digit_char (b % 16) ∷ []) (b ∷ []))) ≤ 6
     by true t = omega arith
     by false true = omega arith
     by false false = omega arith
@@ -352,13 +405,15 @@ length-escape : (t : List ℕ) → length (escape t) ≤ 6 * length t
 length-escape [] = omega arith
 length-escape (b ∷ bs) = omega (arith, length-append (escape_byte b) (escape bs), escape_short b, length-escape bs)
 
-unwrap_short : (o : Option (List ℕ)) → IfSome o (λ t. is_short_text t ≡ true) → length (compact_text (unwrap_object o)) ≤ longest_body
+unwrap_short : (o : Option (List ℕ)) → IfSome o (λ t. is_short_text t ≡ true)
+    → length (compact_text (unwrap_object o)) ≤ longest_body
 unwrap_short None good = omega arith
 unwrap_short (Some t) good =
     let short : length t ≤ 1024 = leb-true (length t) 1024 good in
     omega (arith, length-escape (codes "token"), length-escape t, whole (escape (codes "token")) (escape t))
   where
-    whole : (k e : List ℕ) → length (123 ∷ ((34 ∷ (k ++ 34 ∷ [])) ++ 58 ∷ ((34 ∷ (e ++ 34 ∷ [])) ++ 125 ∷ []))) ≡ length k + length e + 7
+    whole : (k e : List ℕ) → length (123 ∷ ((34 ∷ (k ++ 34 ∷ [])) ++ 58 ∷ ((34 ∷ (e ++ 34 ∷ [])) ++ 125 ∷ [])))
+        ≡ length k + length e + 7
     whole k e = simp length-append (omega arith)
 
 pub body_short : (r : Request) → IsSendable r → IfSome (option_map length (body_of r)) (λ n. n ≤ longest_body)
@@ -372,14 +427,18 @@ body_short (request.Unwrap t) good = unwrap_short t good
 
 -- the length that is told is that of the body
 told : PrintedLengthIsRead → (o : Option (List ℕ)) → IfSome (option_map length o) (λ n. n ≤ longest_body)
-    → content_length (values_in (codes "content-length") (length_field (option_map length o))) ≡ Ok (length (unwrap_or o []))
+    → content_length (values_in (codes "content-length") (length_field (option_map length o)))
+    ≡ Ok (length (unwrap_or o []))
 told law None short = refl
 told law (Some body) short =
-    ap (λ (v : List ℕ). content_length (v ∷ [])) (trim_visible (decimal (length body)) (decimal_visible (length body) (omega arith)))
+    ap (λ (v : List ℕ). content_length (v ∷ []))
+    (trim_visible (decimal (length body)) (decimal_visible (length body) (omega arith)))
     ∙ law (length body) short
 
-pub can_be_sent : PrintedLengthIsRead → (c : Command) → is_field_text c.address ≡ true → IsOptionalField c.token → IsOptionalField c.wrap_ttl → IsSendable c.request
-    → CanBeSent (printed_head (method_of c.request) (target_of (path_of c.request)) (sent_fields c (option_map length (body_of c.request)))) (unwrap_or (body_of c.request) [])
+pub can_be_sent : PrintedLengthIsRead → (c : Command) → is_field_text c.address ≡ true → IsOptionalField c.token
+    → IsOptionalField c.wrap_ttl → IsSendable c.request
+    → CanBeSent (printed_head (method_of c.request) (target_of (path_of c.request))
+    (sent_fields c (option_map length (body_of c.request)))) (unwrap_or (body_of c.request) [])
 can_be_sent law c address vault ttl good =
     let len = option_map length (body_of c.request) in
     let path = path_of c.request in
@@ -388,7 +447,11 @@ can_be_sent law c address vault ttl good =
     record {
       valid = record {
         method = method_token c.request;
-        target = (omega arith, All-weaker (λ b. is_visible b ≡ true) (λ b. is_uri_byte b ≡ true) uri_byte (target_of path) visible);
+        target = (
+          omega arith,
+          All-weaker (λ b. is_visible b ≡ true) (λ b. is_uri_byte b ≡ true) uri_byte
+              (target_of path) visible,
+        );
         target_text = visible_text (target_of path) visible;
         minor = omega arith;
         fields = fields_valid c len address vault ttl short;

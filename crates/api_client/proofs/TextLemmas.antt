@@ -1,5 +1,6 @@
 -- Texts of visible characters, as values of fields.
-use Rattle.std.proofs.Common.{◌≡◌, ℕ, ◌^◌, ◌<◌, ◌≤◌, ◌&&◌, true, false, List, [], ◌∷◌, length, reverse, All, IsUtf8, decimal, refl, arith, nat_lt, nat_le}
+use Rattle.std.proofs.Common.{◌≡◌, ℕ, ◌^◌, ◌<◌, ◌≤◌, ◌&&◌, true, false, List, [], ◌∷◌, length, reverse, All, IsUtf8}
+use Rattle.std.proofs.Common.{decimal, refl, arith, nat_lt, nat_le}
 use Rattle.std.specs.List.{list_all}
 use Rattle.std.specs.Char.{digit_value}
 use Rattle.std.specs.Str.Parse.{AllDigits}
@@ -28,7 +29,8 @@ skip_visible (b ∷ bs) visible =
 
 -- the value of a field is what stands behind the colon and a space
 pub trim_visible : (t : List ℕ) → AreVisible t → trim_ows (32 ∷ t) ≡ t
-trim_visible t visible = trim_ows_space t (skip_visible t visible) (skip_visible (reverse t) (AllPass-reverse is_visible t visible))
+trim_visible t visible = trim_ows_space t (skip_visible t visible)
+    (skip_visible (reverse t) (AllPass-reverse is_visible t visible))
 
 value_byte : (b : ℕ) → is_visible b ≡ true → is_value_byte b ≡ true
 value_byte b visible = grind (arith, nat_tests)
@@ -36,13 +38,15 @@ value_byte b visible = grind (arith, nat_tests)
 -- it can stand in a field
 pub field_raw : (t : List ℕ) → AreVisible t → All (λ b. is_value_byte b ≡ true) (32 ∷ t)
 field_raw t visible =
-    All-cons (λ b. is_value_byte b ≡ true) 32 t refl (All-weaker (λ b. is_visible b ≡ true) (λ b. is_value_byte b ≡ true) value_byte t visible)
+    All-cons (λ b. is_value_byte b ≡ true) 32 t refl
+    (All-weaker (λ b. is_visible b ≡ true) (λ b. is_value_byte b ≡ true) value_byte t visible)
 
 ascii : (b : ℕ) → is_visible b ≡ true → b < 128
 ascii b visible = grind (arith, nat_tests)
 
 pub visible_text : (t : List ℕ) → AreVisible t → IsUtf8 t
-visible_text t visible = IsUtf8-from_ascii t (IsAscii-from_all t (All-weaker (λ b. is_visible b ≡ true) (λ b. b < 128) ascii t visible))
+visible_text t visible = IsUtf8-from_ascii t
+    (IsAscii-from_all t (All-weaker (λ b. is_visible b ≡ true) (λ b. b < 128) ascii t visible))
 
 -- what a value of a field is
 pub field_parts : (t : List ℕ) → is_field_text t ≡ true → (0 < length t) × (length t ≤ longest_argument) × AreVisible t

@@ -1,5 +1,8 @@
 -- The bytes that a server writes for a response, as the client reads them.
-use Rattle.std.proofs.Common.{◌≡◌, ℕ, zero, suc, ◌+◌, ◌-◌, ◌/◌, ◌%◌, ◌^◌, ◌<◌, ◌≤◌, ◌==◌, ◌&&◌, ◌||◌, nat_le, nat_lt, Bool, true, false, cond, List, [], ◌∷◌, ◌++◌, length, take, map, All, Some, None, codes, decimal, refl, sym, ap, ap₂, ◌∙◌, subst, arith, lit<, append_assoc, append-nil, length-append}
+use Rattle.std.proofs.Common.{◌≡◌, ℕ, zero, suc, ◌+◌, ◌-◌, ◌/◌, ◌%◌, ◌^◌, ◌<◌, ◌≤◌, ◌==◌, ◌&&◌, ◌||◌, nat_le, nat_lt}
+use Rattle.std.proofs.Common.{Bool, true, false, cond, List, [], ◌∷◌, ◌++◌, length, take, map, All, Some, None, codes}
+use Rattle.std.proofs.Common.{decimal, refl, sym, ap, ap₂, ◌∙◌, subst, arith, lit<, append_assoc, append-nil}
+use Rattle.std.proofs.Common.{length-append}
 use Rattle.std.specs.List.{flat_map, list_all, slice_index_or}
 use Rattle.std.specs.Char.{digit_value, is_ascii_digit}
 use Rattle.std.specs.Str.Parse.{AllDigits, digits_value}
@@ -19,16 +22,19 @@ use Rattle.httpdate.specs.Calendar.{days_in_month, is_leap_year}
 use Rattle.httpdate.specs.Date.{date_text}
 use Rattle.httpdate.specs.Text.{day_name, four_digits, month_name, time_of_day, two_digits}
 use Rattle.httpdate.specs.declared.date.HttpDate.{HttpDate}
-use Rattle.httparse.specs.Grammar.{Field, IsField, IsResponseHead, ResponseHead, crlf, is_token_byte, is_value_byte, print_field, print_response, status_code as head_code}
+use Rattle.httparse.specs.Grammar.{Field, IsField, IsResponseHead, ResponseHead, crlf, is_token_byte, is_value_byte}
+use Rattle.httparse.specs.Grammar.{print_field, print_response, status_code as head_code}
 use Rattle.httparse.specs.Spans.{name_and_value}
 use Rattle.broker_types.specs.Answer.{Response}
 use Rattle.broker_types.specs.Status.{status_code}
 use Rattle.broker_types.specs.declared.status.Methods.{Methods}
 use Rattle.broker_types.specs.declared.status.Status.{Status}
 use Rattle.broker_types.specs.declared.status.Status.TheVariants as status
-use Rattle.http_layer.specs.Reply.{allow_line, body_lines, cache_line, comma_joined, connection_line, date_line, method_names, phrase_of, reply_body, reply_head, status_line}
+use Rattle.http_layer.specs.Reply.{allow_line, body_lines, cache_line, comma_joined, connection_line, date_line}
+use Rattle.http_layer.specs.Reply.{method_names, phrase_of, reply_body, reply_head, status_line}
 use Rattle.api_client.specs.Laws.{ReplyIsUnique, WrittenReplyIsRead}
-use Rattle.api_client.specs.Replies.{first_length, length_told, longest_reply_body, longest_reply_head, most_fields, reply_length}
+use Rattle.api_client.specs.Replies.{first_length, length_told, longest_reply_body, longest_reply_head, most_fields}
+use Rattle.api_client.specs.Replies.{reply_length}
 use Rattle.api_client.specs.declared.reply.Reply.{Reply}
 use Rattle.api_client.proofs.SentLemmas.{field, values_in, values_in-append}
 use Rattle.api_client.proofs.TextLemmas.{AreVisible, decimal_visible, field_raw, trim_visible}
@@ -45,7 +51,8 @@ digit_value_byte n small = grind (arith, nat_tests)
 two_values : (n : ℕ) → n < 100 → AreValues (two_digits n)
 two_values n small =
     All-cons (λ b. is_value_byte b ≡ true) (48 + n / 10) ((48 + n % 10) ∷ []) (digit_value_byte (n / 10) (omega arith))
-    (All-cons (λ b. is_value_byte b ≡ true) (48 + n % 10) [] (digit_value_byte (n % 10) (omega arith)) (All-nil (λ b. is_value_byte b ≡ true)))
+    (All-cons (λ b. is_value_byte b ≡ true) (48 + n % 10) [] (digit_value_byte (n % 10) (omega arith))
+    (All-nil (λ b. is_value_byte b ≡ true)))
 
 -- each name in the list, or none
 named : (names : List (List ℕ)) (k : ℕ) → All AreValues names → AreValues (slice_index_or names k [])
@@ -60,7 +67,8 @@ literal : (t : List ℕ) → list_all is_value_byte t ≡ true → AreValues t
 literal t h = AllPass-from_list_all is_value_byte t h
 
 literals : (ts : List (List ℕ)) → list_all (list_all is_value_byte) ts ≡ true → All AreValues ts
-literals ts h = All-weaker (λ t. list_all is_value_byte t ≡ true) AreValues literal ts (AllPass-from_list_all (list_all is_value_byte) ts h)
+literals ts h = All-weaker (λ t. list_all is_value_byte t ≡ true) AreValues literal ts
+    (AllPass-from_list_all (list_all is_value_byte) ts h)
 
 month_days : (y m : ℕ) → days_in_month y m < 100
 month_days y m = by (m == 2) (is_leap_year y) ((m == 4) || (m == 6) || (m == 9) || (m == 11))
@@ -76,10 +84,12 @@ days = codes "Mon" ∷ codes "Tue" ∷ codes "Wed" ∷ codes "Thu" ∷ codes "Fr
 
 abbrev months : List (List ℕ)
 months =
-    codes "Jan" ∷ codes "Feb" ∷ codes "Mar" ∷ codes "Apr" ∷ codes "May" ∷ codes "Jun" ∷ codes "Jul" ∷ codes "Aug" ∷ codes "Sep" ∷ codes "Oct"
+    codes "Jan" ∷ codes "Feb" ∷ codes "Mar" ∷ codes "Apr" ∷ codes "May" ∷ codes "Jun" ∷ codes "Jul" ∷ codes
+    "Aug" ∷ codes "Sep" ∷ codes "Oct"
     ∷ codes "Nov" ∷ codes "Dec" ∷ []
 
-three_values : (a b d s t : List ℕ) → AreValues a → AreValues b → AreValues d → AreValues s → AreValues t → AreValues (a ++ s ++ b ++ t ++ d)
+three_values : (a b d s t : List ℕ) → AreValues a → AreValues b → AreValues d → AreValues s → AreValues t
+    → AreValues (a ++ s ++ b ++ t ++ d)
 three_values a b d s t one two three first second =
     joined (a ++ s ++ b ++ t) d (joined (a ++ s ++ b) t (joined (a ++ s) b (joined a s one first) two) second) three
 
@@ -89,14 +99,18 @@ date_values d =
     let day : p.day < 100 = omega (arith, d.civil.2.1, month_days p.year p.mon) in
     let blank = literal (codes " ") refl in
     let colon = literal (codes ":") refl in
-    let begun = three_values (day_name p.wday) (two_digits p.day) (month_name p.mon) (codes ", ") (codes " ") (named days (p.wday - 1) (literals days refl))
+    let begun = three_values (day_name p.wday) (two_digits p.day) (month_name p.mon) (codes ", ") (codes " ")
+    (named days (p.wday - 1) (literals days refl))
     (two_values p.day day) (named months (p.mon - 1) (literals months refl)) (literal (codes ", ") refl) blank in
-    let year = joined (two_digits (p.year / 100)) (two_digits (p.year % 100)) (two_values (p.year / 100) (omega (arith, d.civil.0.1))) (two_values (p.year % 100) (omega arith)) in
-    let time = three_values (two_digits p.hour) (two_digits p.min) (two_digits p.sec) (codes ":") (codes ":") (two_values p.hour (omega (arith, d.time.0)))
+    let year = joined (two_digits (p.year / 100)) (two_digits (p.year % 100))
+    (two_values (p.year / 100) (omega (arith, d.civil.0.1))) (two_values (p.year % 100) (omega arith)) in
+    let time = three_values (two_digits p.hour) (two_digits p.min) (two_digits p.sec) (codes ":") (codes ":")
+    (two_values p.hour (omega (arith, d.time.0)))
     (two_values p.min (omega (arith, d.time.1))) (two_values p.sec (omega (arith, d.time.2))) colon colon in
     let dated = day_name p.wday ++ codes ", " ++ two_digits p.day ++ codes " " ++ month_name p.mon in
     joined (dated ++ codes " " ++ four_digits p.year ++ codes " " ++ time_of_day p) (codes " GMT")
-    (three_values dated (four_digits p.year) (time_of_day p) (codes " ") (codes " ") begun year time blank blank) (literal (codes " GMT") refl)
+    (three_values dated (four_digits p.year) (time_of_day p) (codes " ") (codes " ") begun year time blank blank)
+    (literal (codes " GMT") refl)
 
 name_short : (names : List (List ℕ)) (k : ℕ) → All (λ n. length n ≤ 3) names → length (slice_index_or names k []) ≤ 3
 name_short [] k all = omega arith
@@ -105,15 +119,22 @@ name_short (n ∷ ns) (suc k) all = name_short ns k (All-tail (λ m. length m �
 
 names_short : (names : List (List ℕ)) → list_all (λ n. nat_le (length n) 3) names ≡ true → All (λ n. length n ≤ 3) names
 names_short names h =
-    All-weaker (λ n. nat_le (length n) 3 ≡ true) (λ n. length n ≤ 3) (λ n test. leb-true (length n) 3 test) names (AllPass-from_list_all (λ n. nat_le (length n) 3) names h)
+    All-weaker (λ n. nat_le (length n) 3 ≡ true) (λ n. length n ≤ 3) (λ n test. leb-true (length n) 3 test) names
+    (AllPass-from_list_all (λ n. nat_le (length n) 3) names h)
 
 date_short : (d : HttpDate) → length (date_text d) ≤ 40
 date_short d =
     let p = d.parts in
-    omega (arith, whole (day_name p.wday) (month_name p.mon), name_short days (p.wday - 1) (names_short days refl), name_short months (p.mon - 1) (names_short months refl))
+    omega (
+      arith,
+      whole (day_name p.wday) (month_name p.mon),
+      name_short days (p.wday - 1) (names_short days refl),
+      name_short months (p.mon - 1) (names_short months refl),
+    )
   where
     whole : (day month : List ℕ)
-        → length (day ++ codes ", " ++ two_digits d.parts.day ++ codes " " ++ month ++ codes " " ++ four_digits d.parts.year ++ codes " " ++ time_of_day d.parts ++ codes " GMT")
+        → length (day ++ codes ", " ++ two_digits d.parts.day ++ codes " " ++ month ++ codes " "
+        ++ four_digits d.parts.year ++ codes " " ++ time_of_day d.parts ++ codes " GMT")
         ≡ length day + length month + 23
     whole day month = simp length-append (omega arith)
 
@@ -130,13 +151,15 @@ connection_fields false = []
 abbrev body_fields : Status → ℕ → List Field
 body_fields status.NoContent len = []
 body_fields status.NotImplemented len = field (codes "Content-Length") (codes "0") ∷ []
-body_fields _ len = field (codes "Content-Type") (codes "application/json") ∷ field (codes "Content-Length") (decimal len) ∷ []
+body_fields _ len = field (codes "Content-Type") (codes "application/json") ∷ field (codes "Content-Length")
+    (decimal len) ∷ []
 
 abbrev reply_fields : Response → List ℕ → Bool → List Field
 reply_fields r date close =
     field (codes "Date") date
     ∷ (allow_fields r.status r.methods
-    ++ (field (codes "Cache-Control") (codes "no-store") ∷ (connection_fields close ++ body_fields r.status (length r.text))))
+    ++ (field (codes "Cache-Control") (codes "no-store") ∷
+    (connection_fields close ++ body_fields r.status (length r.text))))
 
 abbrev written_head : Response → List ℕ → Bool → ResponseHead
 written_head r date close = record {
@@ -165,11 +188,13 @@ print_connection : (close : Bool) → flat_map print_field (connection_fields cl
 print_connection true = refl
 print_connection false = refl
 
-print_length_alone : (len : List ℕ) → print_field (field (codes "Content-Length") len) ++ [] ≡ codes "Content-Length: " ++ len ++ (13 ∷ 10 ∷ [])
+print_length_alone : (len : List ℕ) → print_field (field (codes "Content-Length") len) ++ [] ≡ codes "Content-Length: "
+    ++ len ++ (13 ∷ 10 ∷ [])
 print_length_alone len = append-nil (print_field (field (codes "Content-Length") len))
 
 print_typed : (len : List ℕ)
-    → print_field (field (codes "Content-Type") (codes "application/json")) ++ (print_field (field (codes "Content-Length") len) ++ [])
+    → print_field (field (codes "Content-Type") (codes "application/json"))
+    ++ (print_field (field (codes "Content-Length") len) ++ [])
     ≡ codes "Content-Type: application/json" ++ (13 ∷ 10 ∷ []) ++ codes "Content-Length: " ++ len ++ (13 ∷ 10 ∷ [])
 print_typed len = simp (append_assoc, append-nil)
 
@@ -187,7 +212,8 @@ print_body status.NotImplemented len = refl
 
 print_fields : (r : Response) (date : List ℕ) (close : Bool)
     → flat_map print_field (reply_fields r date close)
-    ≡ date_line date ++ (allow_line r.status r.methods ++ (cache_line ++ (connection_line close ++ body_lines r.status (length r.text))))
+    ≡ date_line date ++ (allow_line r.status r.methods
+    ++ (cache_line ++ (connection_line close ++ body_lines r.status (length r.text))))
 print_fields r date close =
     let allow = allow_fields r.status r.methods in
     let cache : Field = field (codes "Cache-Control") (codes "no-store") in
@@ -201,17 +227,21 @@ print_fields r date close =
     ∙ ap₂ (λ (a b : List ℕ). a ++ b) (print_connection close) (print_body r.status (length r.text)))))
 
 regroup : (h d s p n a b e f g : List ℕ)
-    → h ++ d ++ (s ++ p) ++ n ++ (a ++ (b ++ (e ++ (f ++ g))) ++ n) ≡ (h ++ d ++ s ++ p ++ n) ++ a ++ b ++ e ++ f ++ g ++ n
+    → h ++ d ++ (s ++ p) ++ n ++ (a ++ (b ++ (e ++ (f ++ g))) ++ n) ≡ (h ++ d ++ s ++ p ++ n) ++ a ++ b ++ e ++ f ++ g
+    ++ n
 regroup h d s p n a b e f g = simp append_assoc
 
 -- the head is printed as the reply has it
-printed : (r : Response) (date : List ℕ) (close : Bool) → print_response (written_head r date close) ≡ reply_head r date close
+printed : (r : Response) (date : List ℕ) (close : Bool)
+    → print_response (written_head r date close) ≡ reply_head r date close
 unfolding print_response
 printed r date close =
     let d = code_digits (status_code r.status) in
     let p = phrase_of r.status in
-    ap (λ (l : List ℕ). codes "HTTP/1.1" ++ (32 ∷ d) ++ (32 ∷ p) ++ (13 ∷ 10 ∷ []) ++ (l ++ (13 ∷ 10 ∷ []))) (print_fields r date close)
-    ∙ regroup (codes "HTTP/1.1 ") d (codes " ") p (13 ∷ 10 ∷ []) (date_line date) (allow_line r.status r.methods) cache_line (connection_line close) (body_lines r.status (length r.text))
+    ap (λ (l : List ℕ). codes "HTTP/1.1" ++ (32 ∷ d) ++ (32 ∷ p) ++ (13 ∷ 10 ∷ []) ++ (l ++ (13 ∷ 10 ∷ [])))
+    (print_fields r date close)
+    ∙ regroup (codes "HTTP/1.1 ") d (codes " ") p (13 ∷ 10 ∷ []) (date_line date)
+    (allow_line r.status r.methods) cache_line (connection_line close) (body_lines r.status (length r.text))
 
 -- ---- statuses and methods
 
@@ -235,9 +265,11 @@ printable status.InternalServerError = (refl, refl, refl)
 printable status.NotImplemented = (refl, refl, refl)
 
 abbrev joined_names : Bool → Bool → Bool → Bool → List ℕ
-joined_names get list write delete = comma_joined (method_names (record { get = get; list = list; write = write; delete = delete }))
+joined_names get list write delete =
+    comma_joined (method_names (record { get = get; list = list; write = write; delete = delete }))
 
-names : (a b d e : Bool) → (list_all is_value_byte (joined_names a b d e) && nat_le (length (joined_names a b d e)) 40) ≡ true
+names : (a b d e : Bool) → (list_all is_value_byte (joined_names a b d e) && nat_le (length (joined_names a b d e)) 40)
+    ≡ true
 names true true true true = refl
 names true true true false = refl
 names true true false true = refl
@@ -257,20 +289,24 @@ names false false false false = refl
 
 -- ---- the fields
 
-field_valid : (name value : List ℕ) → list_all is_token_byte name ≡ true → 0 < length name → AreValues value → IsField (field name value)
+field_valid : (name value : List ℕ) → list_all is_token_byte name ≡ true → 0 < length name → AreValues value
+    → IsField (field name value)
 field_valid name value is some values = record {
   name = (some, AllPass-from_list_all is_token_byte name is);
   raw = All-cons (λ b. is_value_byte b ≡ true) 32 value refl values;
 }
 
-one_field : (name value : List ℕ) → list_all is_token_byte name ≡ true → 0 < length name → AreValues value → All IsField (field name value ∷ [])
-one_field name value is some values = All-cons IsField (field name value) [] (field_valid name value is some values) (All-nil IsField)
+one_field : (name value : List ℕ) → list_all is_token_byte name ≡ true → 0 < length name → AreValues value
+    → All IsField (field name value ∷ [])
+one_field name value is some values = All-cons IsField (field name value) [] (field_valid name value is some values)
+    (All-nil IsField)
 
 allow_valid : (s : Status) (m : Methods) → All IsField (allow_fields s m)
 unfolding is_token_byte
 allow_valid status.MethodNotAllowed m =
     one_field (codes "Allow") (comma_joined (method_names m)) refl (lit< tt)
-    (literal (comma_joined (method_names m)) (and_parts (list_all is_value_byte (comma_joined (method_names m))) (nat_le (length (comma_joined (method_names m))) 40) (names m.get m.list m.write m.delete)).0)
+    (literal (comma_joined (method_names m)) (and_parts (list_all is_value_byte (comma_joined (method_names m)))
+    (nat_le (length (comma_joined (method_names m))) 40) (names m.get m.list m.write m.delete)).0)
 allow_valid status.Success m = All-nil IsField
 allow_valid status.NoContent m = All-nil IsField
 allow_valid status.BadRequest m = All-nil IsField
@@ -289,17 +325,22 @@ connection_valid false = All-nil IsField
 visible_values : (t : List ℕ) → AreVisible t → AreValues t
 visible_values t visible = All-tail (λ b. is_value_byte b ≡ true) 32 t (field_raw t visible)
 
-typed_valid : (len : ℕ) → len < 2 ^ 64 → All IsField (field (codes "Content-Type") (codes "application/json") ∷ field (codes "Content-Length") (decimal len) ∷ [])
+typed_valid : (len : ℕ) → len < 2 ^ 64 → All IsField
+    (field (codes "Content-Type") (codes "application/json") ∷ field (codes "Content-Length") (decimal len) ∷ [])
 unfolding is_token_byte
 typed_valid len small =
-    All-cons IsField (field (codes "Content-Type") (codes "application/json")) (field (codes "Content-Length") (decimal len) ∷ [])
-    (field_valid (codes "Content-Type") (codes "application/json") refl (lit< tt) (literal (codes "application/json") refl))
-    (one_field (codes "Content-Length") (decimal len) refl (lit< tt) (visible_values (decimal len) (decimal_visible len small)))
+    All-cons IsField (field (codes "Content-Type") (codes "application/json"))
+    (field (codes "Content-Length") (decimal len) ∷ [])
+    (field_valid (codes "Content-Type") (codes "application/json") refl (lit< tt)
+    (literal (codes "application/json") refl))
+    (one_field (codes "Content-Length") (decimal len) refl (lit< tt)
+    (visible_values (decimal len) (decimal_visible len small)))
 
 body_valid : (s : Status) (len : ℕ) → len < 2 ^ 64 → All IsField (body_fields s len)
 unfolding is_token_byte
 body_valid status.NoContent len small = All-nil IsField
-body_valid status.NotImplemented len small = one_field (codes "Content-Length") (codes "0") refl (lit< tt) (literal (codes "0") refl)
+body_valid status.NotImplemented len small =
+    one_field (codes "Content-Length") (codes "0") refl (lit< tt) (literal (codes "0") refl)
 body_valid status.Success len small = typed_valid len small
 body_valid status.BadRequest len small = typed_valid len small
 body_valid status.Forbidden len small = typed_valid len small
@@ -309,7 +350,8 @@ body_valid status.PayloadTooLarge len small = typed_valid len small
 body_valid status.HeaderFieldsTooLarge len small = typed_valid len small
 body_valid status.InternalServerError len small = typed_valid len small
 
-fields_valid : (r : Response) (d : HttpDate) (close : Bool) → length r.text < 2 ^ 64 → All IsField (reply_fields r (date_text d) close)
+fields_valid : (r : Response) (d : HttpDate) (close : Bool) → length r.text < 2 ^ 64
+    → All IsField (reply_fields r (date_text d) close)
 unfolding is_token_byte
 fields_valid r d close small =
     let allow = allow_fields r.status r.methods in
@@ -319,16 +361,19 @@ fields_valid r d close small =
     All-cons IsField (field (codes "Date") (date_text d)) (allow ++ (cache ∷ (connection ++ body)))
     (field_valid (codes "Date") (date_text d) refl (lit< tt) (date_values d))
     (All-append IsField allow (cache ∷ (connection ++ body)) (allow_valid r.status r.methods)
-    (All-cons IsField cache (connection ++ body) (field_valid (codes "Cache-Control") (codes "no-store") refl (lit< tt) (literal (codes "no-store") refl))
+    (All-cons IsField cache (connection ++ body)
+    (field_valid (codes "Cache-Control") (codes "no-store") refl (lit< tt) (literal (codes "no-store") refl))
     (All-append IsField connection body (connection_valid close) (body_valid r.status (length r.text) small))))
 
-head_valid : (r : Response) (d : HttpDate) (close : Bool) → length r.text < 2 ^ 64 → IsResponseHead (written_head r (date_text d) close)
+head_valid : (r : Response) (d : HttpDate) (close : Bool) → length r.text < 2 ^ 64
+    → IsResponseHead (written_head r (date_text d) close)
 head_valid r d close small =
     let p = printable r.status in
     record {
       minor = omega arith;
       digits = (refl, AllPass-from_list_all is_ascii_digit (code_digits (status_code r.status)) p.0);
-      reason = literal (phrase_of r.status) (and_parts (list_all is_value_byte (phrase_of r.status)) (nat_le (length (phrase_of r.status)) 40) p.1).0;
+      reason = literal (phrase_of r.status)
+          (and_parts (list_all is_value_byte (phrase_of r.status)) (nat_le (length (phrase_of r.status)) 40) p.1).0;
       fields = fields_valid r d close small;
     }
 
@@ -337,7 +382,8 @@ head_valid r d close small =
 allow_short : (s : Status) (m : Methods) → length (allow_line s m) ≤ 60
 allow_short status.MethodNotAllowed m =
     let joined_length = leb-true (length (comma_joined (method_names m))) 40
-    (and_parts (list_all is_value_byte (comma_joined (method_names m))) (nat_le (length (comma_joined (method_names m))) 40) (names m.get m.list m.write m.delete)).1 in
+    (and_parts (list_all is_value_byte (comma_joined (method_names m)))
+    (nat_le (length (comma_joined (method_names m))) 40) (names m.get m.list m.write m.delete)).1 in
     omega (arith, line (comma_joined (method_names m)), joined_length)
   where
     line : (t : List ℕ) → length (codes "Allow: " ++ t ++ (13 ∷ 10 ∷ [])) ≡ length t + 9
@@ -357,10 +403,12 @@ connection_short true = omega arith
 connection_short false = omega arith
 
 typed_short : (len : ℕ) → len ≤ longest_reply_body
-    → length (codes "Content-Type: application/json" ++ (13 ∷ 10 ∷ []) ++ codes "Content-Length: " ++ decimal len ++ (13 ∷ 10 ∷ [])) ≤ 100
+    → length (codes "Content-Type: application/json" ++ (13 ∷ 10 ∷ []) ++ codes "Content-Length: " ++ decimal len
+    ++ (13 ∷ 10 ∷ [])) ≤ 100
 typed_short len small = omega (arith, line (decimal len), length-decimal-le 8 len (lit< tt) (omega arith) (omega arith))
   where
-    line : (t : List ℕ) → length (codes "Content-Type: application/json" ++ (13 ∷ 10 ∷ []) ++ codes "Content-Length: " ++ t ++ (13 ∷ 10 ∷ [])) ≡ length t + 50
+    line : (t : List ℕ) → length (codes "Content-Type: application/json" ++ (13 ∷ 10 ∷ []) ++ codes "Content-Length: "
+        ++ t ++ (13 ∷ 10 ∷ [])) ≡ length t + 50
     line t = simp length-append (omega arith)
 
 body_lines_short : (s : Status) (len : ℕ) → len ≤ longest_reply_body → length (body_lines s len) ≤ 100
@@ -375,22 +423,27 @@ body_lines_short status.PayloadTooLarge len small = typed_short len small
 body_lines_short status.HeaderFieldsTooLarge len small = typed_short len small
 body_lines_short status.InternalServerError len small = typed_short len small
 
-status_short : (d p : List ℕ) → length (codes "HTTP/1.1 " ++ d ++ codes " " ++ p ++ (13 ∷ 10 ∷ [])) ≡ length d + length p + 12
+status_short : (d p : List ℕ) → length (codes "HTTP/1.1 " ++ d ++ codes " " ++ p ++ (13 ∷ 10 ∷ [])) ≡ length d
+    + length p + 12
 status_short d p = simp length-append (omega arith)
 
 date_line_short : (t : List ℕ) → length (date_line t) ≡ length t + 8
 date_line_short t = simp length-append (omega arith)
 
-lines_length : (a b d e f g : List ℕ) → length (a ++ b ++ d ++ e ++ f ++ g ++ (13 ∷ 10 ∷ [])) ≡ length a + length b + length d + length e + length f + length g + 2
+lines_length : (a b d e f g : List ℕ) → length (a ++ b ++ d ++ e ++ f ++ g ++ (13 ∷ 10 ∷ [])) ≡ length a + length b
+    + length d + length e + length f + length g + 2
 lines_length a b d e f g = simp length-append
 
-head_short : (r : Response) (d : HttpDate) (close : Bool) → length r.text ≤ longest_reply_body → length (reply_head r (date_text d) close) ≤ longest_reply_head
+head_short : (r : Response) (d : HttpDate) (close : Bool) → length r.text ≤ longest_reply_body
+    → length (reply_head r (date_text d) close) ≤ longest_reply_head
 head_short r d close small =
     let p = printable r.status in
-    let phrase = leb-true (length (phrase_of r.status)) 40 (and_parts (list_all is_value_byte (phrase_of r.status)) (nat_le (length (phrase_of r.status)) 40) p.1).1 in
+    let phrase = leb-true (length (phrase_of r.status)) 40
+    (and_parts (list_all is_value_byte (phrase_of r.status)) (nat_le (length (phrase_of r.status)) 40) p.1).1 in
     omega (
       arith,
-      lines_length (status_line r.status) (date_line (date_text d)) (allow_line r.status r.methods) cache_line (connection_line close) (body_lines r.status (length r.text)),
+      lines_length (status_line r.status) (date_line (date_text d)) (allow_line r.status r.methods) cache_line
+          (connection_line close) (body_lines r.status (length r.text)),
       status_short (code_digits (status_code r.status)) (phrase_of r.status),
       phrase,
       date_line_short (date_text d),
@@ -456,8 +509,10 @@ digits_are (c ∷ cs) h = ap (λ (b : Bool). b && list_all is_ascii_digit cs) (d
 length_told-decimal : (n : ℕ) → n ≤ longest_reply_body → length_told (decimal n) ≡ Some n
 length_told-decimal n small =
     let is = decimal_is_IsNumeral n (omega arith) in
-    let number : is_number (decimal n) ≡ true = and_from (nat_lt 0 (length (decimal n))) (list_all is_ascii_digit (decimal n)) (some (length (decimal n)) is.0.0) (digits_are (decimal n) is.0.1) in
-    ap (λ (b : Bool). cond (b && nat_le (digits_value 10 (decimal n)) longest_reply_body) (Some (digits_value 10 (decimal n))) None) number
+    let number : is_number (decimal n) ≡ true = and_from (nat_lt 0 (length (decimal n)))
+    (list_all is_ascii_digit (decimal n)) (some (length (decimal n)) is.0.0) (digits_are (decimal n) is.0.1) in
+    ap (λ (b : Bool). cond (b && nat_le (digits_value 10 (decimal n)) longest_reply_body)
+    (Some (digits_value 10 (decimal n))) None) number
     ∙ ap (λ (k : ℕ). cond (nat_le k longest_reply_body) (Some k) None) is.1
     ∙ ap (λ (b : Bool). cond b (Some n) None) (le-leb n longest_reply_body small)
   where
@@ -465,12 +520,16 @@ length_told-decimal n small =
     some m less = grind (arith, nat_tests)
 
 told_typed : (n : ℕ) → n ≤ longest_reply_body
-    → first_length (values_in (codes "content-length") (field (codes "Content-Type") (codes "application/json") ∷ field (codes "Content-Length") (decimal n) ∷ [])) ≡ Some n
-told_typed n small = ap length_told (trim_visible (decimal n) (decimal_visible n (omega arith))) ∙ length_told-decimal n small
+    → first_length (values_in (codes "content-length") (field (codes "Content-Type") (codes "application/json") ∷ field
+    (codes "Content-Length") (decimal n) ∷ [])) ≡ Some n
+told_typed n small = ap length_told (trim_visible (decimal n) (decimal_visible n (omega arith)))
+    ∙ length_told-decimal n small
 
-body_told : (s : Status) (t : List ℕ) → length t ≤ longest_reply_body → first_length (values_in (codes "content-length") (body_fields s (length t))) ≡ Some (length (reply_body s t))
+body_told : (s : Status) (t : List ℕ) → length t ≤ longest_reply_body
+    → first_length (values_in (codes "content-length") (body_fields s (length t))) ≡ Some (length (reply_body s t))
 body_told status.NoContent t small = refl
-body_told status.NotImplemented t small = ap length_told (trim_visible (codes "0") (AllPass-from_list_all is_visible (codes "0") refl))
+body_told status.NotImplemented t small =
+    ap length_told (trim_visible (codes "0") (AllPass-from_list_all is_visible (codes "0") refl))
 body_told status.Success t small = told_typed (length t) small
 body_told status.BadRequest t small = told_typed (length t) small
 body_told status.Forbidden t small = told_typed (length t) small
@@ -498,7 +557,8 @@ connection_other false = refl
 
 -- only the fields of the body tell a length
 values_written : (r : Response) (date : List ℕ) (close : Bool)
-    → values_in (codes "content-length") (reply_fields r date close) ≡ values_in (codes "content-length") (body_fields r.status (length r.text))
+    → values_in (codes "content-length") (reply_fields r date close)
+    ≡ values_in (codes "content-length") (body_fields r.status (length r.text))
 values_written r date close =
     let name = codes "content-length" in
     let allow = allow_fields r.status r.methods in
@@ -525,7 +585,8 @@ written r moment close bytes after is small =
         ap (λ (l : List ℕ). l ++ after) is.bytes_are ∙ append_assoc (reply_head r date close) body after
             ∙ ap (λ (l : List ℕ). l ++ (body ++ after)) (sym (printed r date close)),
       );
-      short = subst (λ (l : List ℕ). length l ≤ longest_reply_head) (sym (printed r date close)) (head_short r is.date close small);
+      short = subst (λ (l : List ℕ). length l ≤ longest_reply_head) (sym (printed r date close))
+          (head_short r is.date close small);
       few = few r date close;
       status = sym (printable r.status).2;
       told = ap first_length (values_written r date close) ∙ body_told r.status r.text small;
@@ -535,9 +596,11 @@ pub unique : ReplyIsUnique
 unique bytes a b x y =
     let same = response_unique bytes x.head y.head (a.body ++ x.after) (b.body ++ y.after) x.reads y.reads in
     let len : length a.body ≡ length b.body =
-    same_Some _ _ (sym x.told ∙ ap (λ (h : ResponseHead). reply_length (map name_and_value h.fields)) same.0 ∙ y.told) in
+    same_Some _ _ (sym x.told ∙ ap (λ (h : ResponseHead). reply_length (map name_and_value h.fields)) same.0
+    ∙ y.told) in
     let body : a.body ≡ b.body =
-    sym (take-append_seam a.body x.after) ∙ ap (take (length a.body)) same.1 ∙ ap (λ (n : ℕ). take n (b.body ++ y.after)) len ∙ take-append_seam b.body y.after in
+    sym (take-append_seam a.body x.after) ∙ ap (take (length a.body)) same.1
+    ∙ ap (λ (n : ℕ). take n (b.body ++ y.after)) len ∙ take-append_seam b.body y.after in
     let code : a.status ≡ b.status = x.status ∙ ap head_code same.0 ∙ sym y.status in
     same_reply a b code body
   where

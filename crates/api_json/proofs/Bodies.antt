@@ -17,12 +17,14 @@ refused_value bytes h =
       | false ↦ λ _. refl
     ] refl
 
-if_utf8 : (b : Bool) (o : Option Data) (d : Data) → option_and_then without_floats (if b then o else None) ≡ Some d → (o ≡ Some d) × (has_float d ≡ false)
+if_utf8 : (b : Bool) (o : Option Data) (d : Data) → option_and_then without_floats (if b then o else None) ≡ Some d
+    → (o ≡ Some d) × (has_float d ≡ false)
 if_utf8 false o d e = cc
 if_utf8 true None d e = cc
 if_utf8 true (Some x) d e = by (has_float x) refl e
   where
-    by : (v : Bool) → has_float x ≡ v → (if v then None else Some x) ≡ Some d → (Some x ≡ Some d) × (has_float d ≡ false)
+    by : (v : Bool) → has_float x ≡ v → (if v then None else Some x) ≡ Some d → (Some x ≡ Some d)
+        × (has_float d ≡ false)
     by true is f = cc
     by false is f = (f, subst (λ y. has_float y ≡ false) (same_Some _ _ f) is)
 

@@ -13,7 +13,8 @@ use Rattle.std.proofs.lemmas.List.Sums.{length-filter, count_by-le-length}
 use Rattle.std.proofs.lemmas.Cmp.{nat_list_cmp_total}
 use Rattle.std.proofs.lemmas.Option.{same_Some}
 use Rattle.json.specs.Print.{escape_byte, escape, quoted}
-use Rattle.serde_json.specs.Data.{Data, null, boolean, number, string, array, object, Items, no_items, item, Members, no_members, member}
+use Rattle.serde_json.specs.Data.{Data, null, boolean, number, string, array, object, Items, no_items, item, Members}
+use Rattle.serde_json.specs.Data.{no_members, member}
 use Rattle.serde_json.specs.Find.{get_member}
 use Rattle.serde_json.specs.Written.{compact_text, items_text, members_text}
 use Rattle.broker_types.specs.Limits.{longest_body}
@@ -78,7 +79,8 @@ quoted_longer s = omega (arith, length-append (escape s) (34 ∷ []), escape_lon
 
 -- ---- names in order
 
-above_last : (l k : Text) (d : Data) (before : Members) → IsAfter l (with_last before k d) → slice_cmp nat_cmp l k ≡ Greater
+above_last : (l k : Text) (d : Data) (before : Members) → IsAfter l (with_last before k d)
+    → slice_cmp nat_cmp l k ≡ Greater
 above_last l k d no_members h = h.0
 above_last l k d (member m x before) h = above_last l k d before h.1
 
@@ -88,7 +90,8 @@ less l k h = ap is_lt (nat_list_cmp_total.antisymm k l ∙ ap ordering_reverse h
 Ordered : List (Text × Text) → Type 0
 Ordered es = is_ascending (map (λ e. e.0) es) ≡ true
 
-front : (e f : Text × Text) (es : List (Text × Text)) → is_lt (text_cmp e.0 f.0) ≡ true → Ordered (f ∷ es) → Ordered (e ∷ f ∷ es)
+front : (e f : Text × Text) (es : List (Text × Text)) → is_lt (text_cmp e.0 f.0) ≡ true → Ordered (f ∷ es)
+    → Ordered (e ∷ f ∷ es)
 unfolding Ordered
 front e f es first rest = rw (first, rest) refl
 
@@ -104,7 +107,8 @@ ascends before (member k d (member l x rest)) es e h =
     let u = via_then (kind.as_text x) (λ t. option_map (λ es. (l, t) ∷ es) (each_text rest)) more.0 more.1 in
     let last = via_map (each_text rest) (λ es. (l, u.0) ∷ es) more.0 u.2 in
     let ih = ascends (with_last before k d) (member l x rest) more.0 more.1 h.1 in
-    let whole = front (k, t.0) (l, u.0) last.0 (less l k (above_last l k d before h.1.0)) (subst Ordered (sym last.2) ih) in
+    let whole = front (k, t.0) (l, u.0) last.0 (less l k (above_last l k d before h.1.0))
+    (subst Ordered (sym last.2) ih) in
     subst Ordered more.2 (subst (λ (xs : List (Text × Text)). Ordered ((k, t.0) ∷ xs)) last.2 whole)
 
 -- ---- how many, and how long
@@ -127,9 +131,11 @@ text_of (string s) t e = subst (λ (x : Text). length x ≤ length (quoted s)) (
 text_of (array ds) t e = cc
 text_of (object ms) t e = cc
 
-fits : (later : Bool) (ms : Members) (es : List (Text × Text)) → each_text ms ≡ Some es → Fits (length (members_text later ms)) es
+fits : (later : Bool) (ms : Members) (es : List (Text × Text)) → each_text ms ≡ Some es
+    → Fits (length (members_text later ms)) es
 unfolding Fits Both
-fits later no_members es e = subst (λ (xs : List (Text × Text)). Fits 1 xs) (same_Some _ _ e) (omega arith, All-nil (Both 1))
+fits later no_members es e = subst (λ (xs : List (Text × Text)). Fits 1 xs) (same_Some _ _ e)
+    (omega arith, All-nil (Both 1))
 fits later (member k d ms) es e =
     let t = via_then (kind.as_text d) (λ t. option_map (λ es. (k, t) ∷ es) (each_text ms)) es e in
     let rest = via_map (each_text ms) (λ es. (k, t.0) ∷ es) es t.2 in
@@ -142,13 +148,15 @@ fits later (member k d ms) es e =
           (more n (length (members_text true ms)) rest.0 ih.1 (omega (arith, whole))),
     )
 
-few_items : (ds : Items) (ts : List Text) → each_item kind.as_text ds ≡ Some ts → length ts ≤ length (items_text true ds)
+few_items : (ds : Items) (ts : List Text) → each_item kind.as_text ds ≡ Some ts
+    → length ts ≤ length (items_text true ds)
 few_items no_items ts e = subst (λ (xs : List Text). length xs ≤ 1) (same_Some _ _ e) (omega arith)
 few_items (item d ds) ts e =
     let t = via_then (kind.as_text d) (λ t. option_map (λ es. t ∷ es) (each_item kind.as_text ds)) ts e in
     let rest = via_map (each_item kind.as_text ds) (λ es. t.0 ∷ es) ts t.2 in
     let n = length (items_text true (item d ds)) in
-    subst (λ (xs : List Text). length xs ≤ n) rest.2 (omega (arith, few_items ds rest.0 rest.1, length-append (compact_text d) (items_text true ds)))
+    subst (λ (xs : List Text). length xs ≤ n) rest.2
+    (omega (arith, few_items ds rest.0 rest.1, length-append (compact_text d) (items_text true ds)))
 
 first_item : (ds : Items) → length (items_text true ds) ≤ length (items_text false ds) + 1
 first_item no_items = omega arith
@@ -171,13 +179,15 @@ few_texts : (d : Data) (ts : List Text) → kind.as_texts d ≡ Some ts → leng
 few_texts null ts e = cc
 few_texts (boolean b) ts e = cc
 few_texts (number n) ts e = cc
-few_texts (string s) ts e = subst (λ (xs : List Text). length xs ≤ length (quoted s) + 1) (same_Some _ _ e) (omega (arith, few_parts s, quoted_longer s))
+few_texts (string s) ts e = subst (λ (xs : List Text). length xs ≤ length (quoted s) + 1) (same_Some _ _ e)
+    (omega (arith, few_parts s, quoted_longer s))
 few_texts (array ds) ts e = omega (arith, few_items ds ts e, first_item ds)
 few_texts (object ms) ts e = cc
 
 -- ---- what a body brings
 
-pub few_policies : (body : List ℕ) (ms : Members) (f : Field) (o : Option (List Text)) → length body ≤ longest_body → read_body body ≡ Some ms
+pub few_policies : (body : List ℕ) (ms : Members) (f : Field) (o : Option (List Text)) → length body ≤ longest_body
+    → read_body body ≡ Some ms
     → optional kind.as_texts f ms ≡ Ok o → length (unwrap_or o []) + 1 < 2 ^ 32
 unfolding optional Taken
 few_policies body ms f o fit e h = by (of_member kind.as_texts f (get_member (field_name f) ms) o h)
@@ -207,7 +217,8 @@ object_kept n (object ms) es e c h s =
       ascend = ascends no_members ms es e c.1;
     }
 
-pub meta_kept : (body : List ℕ) (ms : Members) (f : Field) (o : Option (List (Text × Text))) → length body ≤ longest_body → read_body body ≡ Some ms
+pub meta_kept : (body : List ℕ) (ms : Members) (f : Field) (o : Option (List (Text × Text)))
+    → length body ≤ longest_body → read_body body ≡ Some ms
     → optional kind.as_pairs f ms ≡ Ok o → IsKeptMeta (unwrap_or o [])
 unfolding optional Taken
 meta_kept body ms f o fit e h = by (of_member kind.as_pairs f (get_member (field_name f) ms) o h)
@@ -216,14 +227,16 @@ meta_kept body ms f o fit e h = by (of_member kind.as_pairs f (get_member (field
     by (inl none) = subst (λ (x : Option (List (Text × Text))). IsKeptMeta (unwrap_or x [])) (sym none) none_kept
     by (inr t) =
         subst (λ (x : Option (List (Text × Text))). IsKeptMeta (unwrap_or x [])) (sym t.4)
-        (object_kept (length (compact_text (object ms))) t.0 t.1 t.3 (member_canonical (field_name f) ms t.0 (body_stays body ms e).canonical.0 t.2)
+        (object_kept (length (compact_text (object ms))) t.0 t.1 t.3
+        (member_canonical (field_name f) ms t.0 (body_stays body ms e).canonical.0 t.2)
         (member_length (field_name f) ms t.0 t.2) (short_object body ms e fit))
 
 asked : (o : Option Text) (f : Field) (t : Text) → some_or (missing f) o ≡ Ok t → o ≡ Some t
 asked None f t e = cc
 asked (Some u) f t e = cc
 
-pub short_text : (body : List ℕ) (ms : Members) (f : Field) (r : Result Text RequestError) → length body ≤ longest_body → read_body body ≡ Some ms
+pub short_text : (body : List ℕ) (ms : Members) (f : Field) (r : Result Text RequestError) → length body ≤ longest_body
+    → read_body body ≡ Some ms
     → IsRead (required kind.as_text f ms) r → IfOk r (λ t. length t < 2 ^ 32)
 unfolding optional Taken
 short_text body ms f (Err x) fit e h = tt
@@ -236,6 +249,7 @@ short_text body ms f (Ok t) fit e h = by (optional kind.as_text f ms) refl h
         subst (λ (x : Text). length x < 2 ^ 32) same
         (omega (arith, text_of g.0 g.1 g.3, member_length (field_name f) ms g.0 g.2, short_object body ms e fit))
 
-    by : (m : Result (Option Text) Refusal) → optional kind.as_text f ms ≡ m → (m >>= (λ x. some_or (missing f) x)) ≡ Ok t → length t < 2 ^ 32
+    by : (m : Result (Option Text) Refusal) → optional kind.as_text f ms ≡ m
+        → (m >>= (λ x. some_or (missing f) x)) ≡ Ok t → length t < 2 ^ 32
     by (Err x) is k = absurd (cc)
     by (Ok o) is k = of_taken o (asked o f t k) (of_member kind.as_text f (get_member (field_name f) ms) o is)

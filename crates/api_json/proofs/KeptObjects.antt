@@ -1,5 +1,6 @@
 -- The objects of bodies are kept as compact texts, which are read again as what they were.
-use Rattle.std.specs.Prelude.{◌≡◌, ◌≤◌, ℕ, List, [], ◌∷◌, length, false, if◌then◌else◌, Option, Some, None, Ok, option_and_then, codes}
+use Rattle.std.specs.Prelude.{◌≡◌, ◌≤◌, ℕ, List, [], ◌∷◌, length, false, if◌then◌else◌, Option, Some, None, Ok}
+use Rattle.std.specs.Prelude.{option_and_then, codes}
 use Rattle.std.specs.Option.{option_map_or}
 use Rattle.std.proofs.Common.{refl, ◌∙◌, ap, subst, lit≤, arith, true}
 use Rattle.std.proofs.lemmas.Option.{same_Some}
@@ -43,7 +44,8 @@ pub record Stays (ms : Members) : Type 0 where
 none_stays : Stays no_members
 none_stays = record { canonical = (tt, tt); shallow = lit≤ tt; whole = refl }
 
-in_value : (d : Data) (ms : Members) → members_in d ≡ Some ms → IsCanonical d → depth d ≤ max_depth → has_float d ≡ false → Stays ms
+in_value : (d : Data) (ms : Members) → members_in d ≡ Some ms → IsCanonical d → depth d ≤ max_depth
+    → has_float d ≡ false → Stays ms
 in_value null ms e c s w = subst Stays (same_Some _ _ e) none_stays
 in_value (boolean b) ms e c s w = cc
 in_value (number n) ms e c s w = cc
@@ -77,7 +79,8 @@ pub bodies_kept : BodiesAreKept
 bodies_kept body ms fits e = record { object = passes ms (body_stays body ms e); short = short_object body ms e fits }
 
 -- a member that is an object
-member_kept : (body : List ℕ) (ms : Members) (k : List ℕ) (d : Data) (t : Text) → length body ≤ longest_body → read_body body ≡ Some ms
+member_kept : (body : List ℕ) (ms : Members) (k : List ℕ) (d : Data) (t : Text) → length body ≤ longest_body
+    → read_body body ≡ Some ms
     → get_member k ms ≡ Some d → as_object_text d ≡ Some t → IsKept t
 member_kept body ms k null t fits e g o = cc
 member_kept body ms k (boolean b) t fits e g o = cc

@@ -22,8 +22,10 @@ whole j k (t ∷ ts) e = cc
 
 pub length-read : (text : List ℕ) (d : Data) → read text ≡ Some d → length (compact_text d) ≤ length text
 length-read text d e =
-    let j = via_then (option_and_then (λ (p : json.Json × List Token). json.if_last p.0 p.1) (json.value max_depth (tokens text))) of_json d e in
-    let p = via_then (json.value max_depth (tokens text)) (λ (p : json.Json × List Token). json.if_last p.0 p.1) j.0 j.1 in
+    let j = via_then (option_and_then (λ (p : json.Json × List Token). json.if_last p.0 p.1)
+    (json.value max_depth (tokens text))) of_json d e in
+    let p = via_then (json.value max_depth (tokens text))
+    (λ (p : json.Json × List Token). json.if_last p.0 p.1) j.0 j.1 in
     let same = whole p.0.0 j.0 p.0.1 p.2 in
     let spelled = value-json_tokens_back max_depth (tokens text) p.0.1 p.0.0 p.1 in
     omega (
@@ -35,14 +37,16 @@ length-read text d e =
     )
 
 -- `null` is an empty object, whose text is shorter
-object_length : (d : Data) (ms : Members) → members_in d ≡ Some ms → length (compact_text (object ms)) ≤ length (compact_text d)
+object_length : (d : Data) (ms : Members) → members_in d ≡ Some ms
+    → length (compact_text (object ms)) ≤ length (compact_text d)
 object_length null ms e = subst (λ (x : Members). length (compact_text (object x)) ≤ 4) (same_Some _ _ e) (omega arith)
 object_length (boolean b) ms e = cc
 object_length (number n) ms e = cc
 object_length (string s) ms e = cc
 object_length (array ds) ms e = cc
 object_length (object ns) ms e =
-    subst (λ (x : Members). length (compact_text (object x)) ≤ length (compact_text (object ns))) (same_Some _ _ e) (omega arith)
+    subst (λ (x : Members). length (compact_text (object x)) ≤ length (compact_text (object ns))) (same_Some _ _ e)
+    (omega arith)
 
 pub no_longer : CompactIsNoLonger
 no_longer [] ms some e = omega arith
@@ -51,9 +55,11 @@ no_longer (x ∷ xs) ms some e =
     omega (arith, object_length d.0 ms d.2, length-read (x ∷ xs) d.0 (tree_read (x ∷ xs) d.0 d.1).0)
 
 -- no bytes are an empty object, whose text has two
-pub length-body : (body : List ℕ) (ms : Members) → read_body body ≡ Some ms → length (compact_text (object ms)) ≤ length body + 2
+pub length-body : (body : List ℕ) (ms : Members) → read_body body ≡ Some ms
+    → length (compact_text (object ms)) ≤ length body + 2
 length-body [] ms e = subst (λ (x : Members). length (compact_text (object x)) ≤ 2) (same_Some _ _ e) (omega arith)
 length-body (x ∷ xs) ms e = omega (arith, no_longer (x ∷ xs) ms (omega arith) e)
 
-pub short_object : (body : List ℕ) (ms : Members) → read_body body ≡ Some ms → length body ≤ longest_body → length (compact_text (object ms)) < 2 ^ 32
+pub short_object : (body : List ℕ) (ms : Members) → read_body body ≡ Some ms → length body ≤ longest_body
+    → length (compact_text (object ms)) < 2 ^ 32
 short_object body ms e h = omega (arith, length-body body ms e)

@@ -1,5 +1,6 @@
 -- What is written for a number is no longer than the text that it was read from.
-use Rattle.std.proofs.Common.{◌≡◌, ℕ, zero, suc, ◌+◌, ◌-◌, ◌<◌, ◌≤◌, ◌^◌, ◌&&◌, ◌==◌, nat_lt, nat_le, Bool, true, false, cond, List, [], ◌∷◌, ◌++◌, length}
+use Rattle.std.proofs.Common.{◌≡◌, ℕ, zero, suc, ◌+◌, ◌-◌, ◌<◌, ◌≤◌, ◌^◌, ◌&&◌, ◌==◌, nat_lt, nat_le, Bool, true, false}
+use Rattle.std.proofs.Common.{cond, List, [], ◌∷◌, ◌++◌, length}
 use Rattle.std.proofs.Common.{drop, slice_index, Option, Some, None, refl, subst, arith, length-take, length-drop}
 use Rattle.std.proofs.lemmas.Bool.{and_parts}
 use Rattle.std.proofs.lemmas.Bool.Decides.{nat_tests}
@@ -21,7 +22,8 @@ use Rattle.serde_json.specs.Written.{number_text}
 
 -- ---- the digits of a numeral
 
-fraction_fits : (point : Bool) (bs : List ℕ) (a e : ℕ) → length (cond point (slice_range bs (a + 1) e) []) ≤ length bs - a
+fraction_fits : (point : Bool) (bs : List ℕ) (a e : ℕ)
+    → length (cond point (slice_range bs (a + 1) e) []) ≤ length bs - a
 fraction_fits true bs a e = omega (arith, length-take (e - (a + 1)) (drop (a + 1) bs), length-drop (a + 1) bs)
 fraction_fits false bs a e = omega arith
 
@@ -41,13 +43,18 @@ digits_together : (xs ys : List ℕ) → AllDigits 10 xs → AllDigits 10 ys →
 digits_together [] ys p q = q
 digits_together (x ∷ xs) ys p q = (p.0, digits_together xs ys p.1 q)
 
-decimal_fits : (bs : List ℕ) → 0 < length (scan bs).whole → digits_of (scan bs) < 2 ^ 64 → length (decimal (digits_of (scan bs))) ≤ length bs
+decimal_fits : (bs : List ℕ) → 0 < length (scan bs).whole → digits_of (scan bs) < 2 ^ 64
+    → length (decimal (digits_of (scan bs))) ≤ length bs
 decimal_fits bs some small =
     let p = scan bs in
     let are = scan_numeral-AllDigits bs in
     let below = digits_value-lt 10 (p.whole ++ p.fraction) (digits_together p.whole p.fraction are.0 are.1) in
     let count = length-append p.whole p.fraction in
-    omega (arith, length-decimal-le (length (p.whole ++ p.fraction)) (digits_of p) (omega arith) below small, scan_fits bs)
+    omega (
+      arith,
+      length-decimal-le (length (p.whole ++ p.fraction)) (digits_of p) (omega arith) below small,
+      scan_fits bs,
+    )
 
 -- ---- numbers
 
@@ -62,7 +69,8 @@ float_within : (m : ℕ) (t : Bool) (x : _) (n : Num) → cond t (Some (float x)
 float_within m true x n e = subst (IsWithin m) (same_Some _ _ e) (omega arith)
 float_within m false x n e = cc
 
-either_within : (m : ℕ) (t : Bool) (w n : Num) (other : Option Num) → (t ≡ true → IsWithin m w) → (other ≡ Some n → IsWithin m n)
+either_within : (m : ℕ) (t : Bool) (w n : Num) (other : Option Num) → (t ≡ true → IsWithin m w)
+    → (other ≡ Some n → IsWithin m n)
     → cond t (Some w) other ≡ Some n → IsWithin m n
 either_within m true w n other whole floats e = subst (IsWithin m) (same_Some _ _ e) (whole refl)
 either_within m false w n other whole floats e = floats e
@@ -74,7 +82,8 @@ unsigned_within : (bs : List ℕ) (n : Num) → number_from false (scan bs) ≡ 
 unsigned_within bs n e =
     let p = scan bs in
     let x = nearest binary64 false p in
-    either_within (length bs) (is_integer p && nat_lt (digits_of p) (2 ^ 64)) (unsigned (digits_of p)) n (float_of false p)
+    either_within (length bs) (is_integer p && nat_lt (digits_of p) (2 ^ 64)) (unsigned (digits_of p)) n
+    (float_of false p)
     (λ t. let h = and_parts (is_integer p) (nat_lt (digits_of p) (2 ^ 64)) t in
     let small : digits_of p < 2 ^ 64 = grind (arith, nat_tests) in decimal_fits bs (integer_digits p h.0) small)
     (float_within (length bs) (float_is_finite x) x n) e
@@ -96,6 +105,7 @@ unfolding number_of
 length-number_read [] n e = unsigned_within [] n e
 length-number_read (x ∷ xs) n e = by (x == minus) e
   where
-    by : (t : Bool) → cond t (number_from true (scan xs)) (number_from false (scan (x ∷ xs))) ≡ Some n → length (number_text n) ≤ length (x ∷ xs)
+    by : (t : Bool) → cond t (number_from true (scan xs)) (number_from false (scan (x ∷ xs))) ≡ Some n
+        → length (number_text n) ≤ length (x ∷ xs)
     by true e = omega (arith, negative_is_within xs n e)
     by false e = unsigned_within (x ∷ xs) n e

@@ -37,8 +37,8 @@ pub struct TokenCreation {
 
 /// Reads what a body asks of a new token. The first bad member is refused with 400 `invalid field: NAME`, in the order
 /// `policies`, `meta`, `ttl`, `explicit_max_ttl`, `num_uses`, `no_parent`, `no_default_policy`, `period`, `renewable`,
-/// `id`, `type`; so are a token that cannot be renewed, an id, and a type other than `service`. The only fault is running
-/// out of memory.
+/// `id`, `type`; so are a token that cannot be renewed, an id, and a type other than `service`. The only fault is
+/// running out of memory.
 #[tactic(auto, unfolding(crate::specs::Readers::token_creation))]
 pub fn token_creation(alloc: Global, body: &Body) -> Result<TokenCreation, RequestError>
     ensures reads { IsRead (reader.token_creation (members_of body.now)) result }

@@ -15,12 +15,14 @@ begins_represented None x rows b begins = begins.represents
 begins_represented (Some a) x rows b begins = begins.1.begins.represents
 
 -- and its clock is that of the request
-pub begins_clock : (asker : Option Asker) (x : Context) (rows : Rows) (b : Broker) → BeginsFor asker x rows b → b.clock ≡ x.clock
+pub begins_clock : (asker : Option Asker) (x : Context) (rows : Rows) (b : Broker) → BeginsFor asker x rows b
+    → b.clock ≡ x.clock
 begins_clock None x rows b begins = begins.clock
 begins_clock (Some a) x rows b begins = begins.1.begins.clock
 
 -- a command starts from rows as long as they stay
-pub begins_still : (asker : Option Asker) (x : Context) (old new : Rows) (b : Broker) → new ≡ old → BeginsFor asker x old b
+pub begins_still : (asker : Option Asker) (x : Context) (old new : Rows) (b : Broker) → new ≡ old
+    → BeginsFor asker x old b
     → BeginsFor asker x new b
 begins_still asker x old new b same begins = subst (λ (rows : Rows). BeginsFor asker x rows b) (sym same) begins
 

@@ -29,7 +29,8 @@ is_engine _ = false
 
 -- only such mounts have operations of engines
 elsewhere : (type : MountType) (r : Route) → is_of_engine r.operation ≡ true
-    → ((q : Operation → Bool) → list_all (λ (x : RouteRow). q x.operation) (route_rows type) ≡ true → q r.operation ≡ true)
+    → ((q : Operation → Bool) → list_all (λ (x : RouteRow). q x.operation) (route_rows type) ≡ true
+    → q r.operation ≡ true)
     → is_engine type ≡ true
 unfolding is_engine
 elsewhere mount.Kv r is passes = refl
@@ -40,7 +41,8 @@ elsewhere mount.Cubbyhole r is passes = absurd (false≢true (sym (ap not is) �
 
 -- and none of them is always there
 not_fixed : (a b c : Bool) (type : MountType) → is_engine type ≡ true
-    → (if a then Some mount.Token else (if b then Some mount.System else (if c then Some mount.Cubbyhole else None))) ≡ Some type → ⊥
+    → (if a then Some mount.Token else (if b then Some mount.System else (if c then Some mount.Cubbyhole else None)))
+    ≡ Some type → ⊥
 unfolding is_engine
 not_fixed true b c type engine h = false≢true (ap is_engine (same_Some _ _ h) ∙ engine)
 not_fixed false true c type engine h = false≢true (ap is_engine (same_Some _ _ h) ∙ engine)
@@ -59,7 +61,8 @@ mount_there None name type engine h =
     bare (Some t) h = h
 
 -- so their mounts have names of mounts
-pub mount_named : (b : Broker) (v : Verb) (path : Text) (r : Route) → SoundMounts b.mounts → route_of b.mounts v path ≡ Ok r
+pub mount_named : (b : Broker) (v : Verb) (path : Text) (r : Route) → SoundMounts b.mounts
+    → route_of b.mounts v path ≡ Ok r
     → is_of_engine r.operation ≡ true → is_mount_name r.mount ≡ true
 mount_named b v path r sound h is =
     let by = routed_by (get b.mounts (cut path).0) v path r h in

@@ -15,7 +15,8 @@ use Rattle.broker_rows.specs.declared.answered.Answered.{Answered}
 use Rattle.broker.specs.Stages.{HasServed}
 
 -- whether the caller was served or refused, the rows represent a broker
-pub represents_some : (c : Text) (rows : Rows) (b : Broker) (served : Result Answered Refusal) (m : Result Wrapped Refusal) → HasServed (Some c) rows b served m
+pub represents_some : (c : Text) (rows : Rows) (b : Broker) (served : Result Answered Refusal)
+    (m : Result Wrapped Refusal) → HasServed (Some c) rows b served m
     → (next : Broker) × Represents (Some c) rows next
 represents_some c rows b (Ok x) (Ok w) h = (counted w.done, h.1)
 represents_some c rows b (Ok x) (Err e) h = absurd h

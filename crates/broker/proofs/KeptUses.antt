@@ -30,7 +30,8 @@ uses_answered old new (Err (Given f)) keeps same = tt
 
 -- the same where what it leaves depends on the answer
 pub uses_on_answer : {A : Type 0} {P : A → Type 0} (old new : Rows) (result : Result A RequestError)
-    → ((x : A) → P x → KeepsUses old new) → IfOk result P → OnRefused result (new ≡ old) → OnAnswer result (KeepsUses old new)
+    → ((x : A) → P x → KeepsUses old new) → IfOk result P → OnRefused result (new ≡ old)
+    → OnAnswer result (KeepsUses old new)
 uses_on_answer old new (Ok x) keeps p same = keeps x p
 uses_on_answer old new (Err (Refused r)) keeps p same = uses_same old new same
 uses_on_answer old new (Err (Given f)) keeps p same = tt

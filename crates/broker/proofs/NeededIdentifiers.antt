@@ -1,5 +1,6 @@
 -- What a command reads, by the identifiers that it needs.
-use Rattle.std.specs.Prelude.{◌≡◌, ◌||◌, ◌&&◌, not, nat_lt, if◌then◌else◌, List, [], ◌∷◌, drop, All, true, false, is_none}
+use Rattle.std.specs.Prelude.{◌≡◌, ◌||◌, ◌&&◌, not, nat_lt, if◌then◌else◌, List, [], ◌∷◌, drop, All, true, false}
+use Rattle.std.specs.Prelude.{is_none}
 use Rattle.std.specs.Prelude.{Option, Some, None, ⊤}
 use Rattle.std.specs.List.{list_any}
 use Rattle.std.proofs.Common.{refl, sym, ◌∙◌, ap, subst}
@@ -64,14 +65,17 @@ rest_new used i rest new =
     (and_parts (not (list_any (same i) rest)) (are_new used rest) (and_parts (is_none (get used i)) _ new).1).1
 
 -- and so without those of the wrapping token and of its accessor
-pub own_new : (used : Map ⊤) (i j : Text) (own : List Text) → are_new used (i ∷ j ∷ own) ≡ true → are_new used own ≡ true
+pub own_new : (used : Map ⊤) (i j : Text) (own : List Text) → are_new used (i ∷ j ∷ own) ≡ true
+    → are_new used own ≡ true
 own_new used i j own new = rest_new used j own (rest_new used i (j ∷ own) new)
 
 module _ (a : Ask) (names : Names) (command : Command) (wraps : is_wrapped a command ≡ true) where
   -- those of the wrapping token and of its accessor come first
-  pub needed_is : needed_by a names command ≡ names.wrapping_token ∷ names.wrapping_accessor ∷ (traits command).own names
+  pub needed_is : needed_by a names command ≡ names.wrapping_token ∷ names.wrapping_accessor ∷
+      (traits command).own names
   needed_is =
-      ap (λ v. if v then names.wrapping_token ∷ names.wrapping_accessor ∷ (traits command).own names else (traits command).own names) wraps
+      ap (λ v. if v then names.wrapping_token ∷ names.wrapping_accessor ∷ (traits command).own names else
+      (traits command).own names) wraps
 
   module _ (needed : List Text) (printed : ArePrinted needed (needed_by a names command)) where
     pub printed_is : needed ≡ names.wrapping_token ∷ names.wrapping_accessor ∷ (traits command).own names
@@ -81,7 +85,8 @@ module _ (a : Ask) (names : Names) (command : Command) (wraps : is_wrapped a com
     all_good = subst (All IsIdentifier) printed_is printed.good
 
     pub token_good : IsIdentifier names.wrapping_token
-    token_good = All-head IsIdentifier names.wrapping_token (names.wrapping_accessor ∷ (traits command).own names) all_good
+    token_good = All-head IsIdentifier names.wrapping_token
+        (names.wrapping_accessor ∷ (traits command).own names) all_good
 
     pub accessor_good : IsIdentifier names.wrapping_accessor
     accessor_good =
@@ -98,7 +103,8 @@ module _ (a : Ask) (names : Names) (command : Command) (wraps : is_wrapped a com
 
 -- the identifiers of the words are printed in this order
 pub needed_printed : (a : Ask) (names : Names) (command : Command) → is_wrapped a command ≡ true → (own : List Text)
-    → ArePrinted own ((traits command).own names) → IsIdentifier names.wrapping_token → IsIdentifier names.wrapping_accessor
+    → ArePrinted own ((traits command).own names) → IsIdentifier names.wrapping_token
+    → IsIdentifier names.wrapping_accessor
     → ArePrinted (names.wrapping_token ∷ names.wrapping_accessor ∷ own) (needed_by a names command)
 needed_printed a names command wraps own printed token accessor = record {
   are = (λ i. names.wrapping_token ∷ names.wrapping_accessor ∷ printed.are i) ∙ sym (needed_is a names command wraps);

@@ -40,7 +40,8 @@ unread_before old new names own same_rows same_names any =
     (subst (λ (ns : List Text). Any (IsUnreadable (table_of new)) ns) same_names any)
 
 -- what they allow, the rows allow
-pub allowed_by : (rows : Rows) (names : List Text) (verb : Verb) (path : Text) (asked : Capability) (rules : Rules) (v : Bool)
+pub allowed_by : (rows : Rows) (names : List Text) (verb : Verb) (path : Text) (asked : Capability) (rules : Rules)
+    (v : Bool)
     → AreRulesAt rows names verb rules → v ≡ may rules path asked → IsAllowedAt rows names verb path asked v
 allowed_by rows names verb path asked rules v are is =
     let policies = readable_policies (table_of rows) names are.readable in
@@ -54,15 +55,18 @@ allowed_by rows names verb path asked rules v are is =
 -- ---- the caller
 
 -- a token may ask what the policies of its entry allow
-pub entry_told : (P : List Text → Bool) (o : Option Token) (found : Option TokenEntry) (entry : TokenEntry) → found ≡ option_map token_entry o
+pub entry_told : (P : List Text → Bool) (o : Option Token) (found : Option TokenEntry) (entry : TokenEntry)
+    → found ≡ option_map token_entry o
     → found ≡ Some entry → P entry.policies ≡ option_map_or (λ (x : Token). P x.policies) o false
 entry_told P None found entry e some = absurd (none-some _ (sym e ∙ some))
 entry_told P (Some x) found entry e some = ap (λ (z : TokenEntry). P z.policies) (sym (same_Some _ _ (sym e ∙ some)))
 
 -- so it may ask what the rules allow
-pub permitted_told : (b : Broker) (c : Caller) (verb : Verb) (path : Text) (found : Result Route Refusal) (asked : Capability) (rules : Rules) (v : Bool)
+pub permitted_told : (b : Broker) (c : Caller) (verb : Verb) (path : Text) (found : Result Route Refusal)
+    (asked : Capability) (rules : Rules) (v : Bool)
     → IsCallerOf b c → found ≡ route_of b.mounts verb path → asked ≡ asked_by (has_stored b c.token) verb found
-    → rules ≡ rules_of b.policies c.known.policies verb → v ≡ may rules path asked → v ≡ permits b (Some c.token) verb path
+    → rules ≡ rules_of b.policies c.known.policies verb → v ≡ may rules path asked
+    → v ≡ permits b (Some c.token) verb path
 permitted_told b c verb path found asked rules v here routed asks said is =
     let allowed : List Text → Bool =
     λ (ns : List Text). may (rules_of b.policies ns verb) path (capabilities.asked b c.token verb path) in

@@ -22,7 +22,8 @@ use Rattle.mounts.specs.declared.mount_type.MountType.{MountType}
 use Rattle.mounts.specs.declared.operation.Operation.{Operation}
 
 -- what passes in all elements passes in the one that is found
-found_passes : (p q : RouteRow → Bool) (rows : List RouteRow) (r : RouteRow) → list_all q rows ≡ true → find p rows ≡ Some r → q r ≡ true
+found_passes : (p q : RouteRow → Bool) (rows : List RouteRow) (r : RouteRow) → list_all q rows ≡ true
+    → find p rows ≡ Some r → q r ≡ true
 found_passes p q [] r all e = absurd (none-some _ e)
 found_passes p q (s ∷ rows) r all e =
     let parts = and_parts (q s) (list_all q rows) all in
@@ -41,7 +42,8 @@ pub record IsRoutedBy (o : Option Mount) (path : Text) (r : Route) : Type 0 wher
   pub type : MountType
   pub there : type_at o (cut path).0 ≡ Some type
   pub mount : r.mount ≡ (cut path).0
-  pub passes : (q : Operation → Bool) → list_all (λ (x : RouteRow). q x.operation) (route_rows type) ≡ true → q r.operation ≡ true
+  pub passes : (q : Operation → Bool) → list_all (λ (x : RouteRow). q x.operation) (route_rows type) ≡ true
+      → q r.operation ≡ true
 
 pub routed_by : (o : Option Mount) (v : Verb) (path : Text) (r : Route) → route_at o v path ≡ Ok r → IsRoutedBy o path r
 unfolding route_at
@@ -49,8 +51,10 @@ routed_by o v path r h =
     let type = ok_step (some_or refusal.NotFound (type_at o (cut path).0)) _ r h in
     let rows = route_rows type.0 in
     let pattern = ok_step (some_or refusal.NotFound (pattern_found rows (cut path).1)) _ r type.2 in
-    let operation = ok_step (some_or (refusal.MethodNotAllowed (methods_of rows pattern.0)) (operation_for rows pattern.0 v)) _ r pattern.2 in
-    let row = mapped (λ (x : RouteRow). x.operation) (find (is_row pattern.0 v) rows) operation.0 (some_there _ _ operation.0 operation.1) in
+    let operation = ok_step (some_or (refusal.MethodNotAllowed (methods_of rows pattern.0))
+    (operation_for rows pattern.0 v)) _ r pattern.2 in
+    let row = mapped (λ (x : RouteRow). x.operation) (find (is_row pattern.0 v) rows) operation.0
+    (some_there _ _ operation.0 operation.1) in
     let is = ok_inj operation.2 in
     record {
       type = type.0;

@@ -31,7 +31,16 @@ module _ (b : Broker) (c : Text) (names : Names) (path : Text) where
     waiting = refl;
     stays = stay_cubbyhole (Some of_cubbyholes) (Some c) b c edit refl refl;
     versions = λ given. secrets_same b.secrets b.secrets refl;
-    keeps = record { clock = refl; used = refl; tokens = tt; secrets = refl; waiting = refl; mounts = refl; roles = refl; policies = refl };
+    keeps = record {
+      clock = refl;
+      used = refl;
+      tokens = tt;
+      secrets = refl;
+      waiting = refl;
+      mounts = refl;
+      roles = refl;
+      policies = refl;
+    };
   }
 
   pub acts : (command : CubbyholeCommand) (d : Done) → act_on_cubbyhole b c names path command ≡ Ok d → DoesIt command d

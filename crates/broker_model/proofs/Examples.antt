@@ -29,11 +29,19 @@ broker = first_broker 100 1 2
 
 -- a response that waits from 100 for 5 seconds
 abbrev response : Waiting
-response = record { accessor = codes "a"; created = 100; ttl = 5; path = codes "p"; origin = codes "o"; reply = codes "{}" }
+response = record {
+  accessor = codes "a";
+  created = 100;
+  ttl = 5;
+  path = codes "p";
+  origin = codes "o";
+  reply = codes "{}";
+}
 
 told : wrap_info (codes "hvs.t") response (Some (codes "m"))
     ≡ codes "{\"accessor\":\"a\",\"creation_path\":\"p\",\"creation_time\":\"1970-01-01T00:01:40Z\",\"token\":\"hvs.t\",\"ttl\":5,\"wrapped_accessor\":\"m\"}"
-unfolding wrap_object name_text digits escape_byte civil day_from_year day_from_month printing.with_member printing.with_item printing.quoted
+unfolding wrap_object name_text digits escape_byte civil day_from_year day_from_month printing.with_member
+    printing.with_item printing.quoted
     printing.whole_number printing.time
 told = refl
 
@@ -51,16 +59,25 @@ wrapped_in names r = wrap_200 broker (codes "p") 5 names (plainly (reply r None)
 
 waits_under_it : (names : Names) (r : Reply) → names.wrapping_token ≡ codes "w" → names.wrapping_accessor ≡ codes "x"
     → get (wrapped_in names r).done.next.waiting (codes "hvs.w")
-    ≡ Some (record { accessor = codes "x"; created = 100; ttl = 5; path = codes "p"; origin = codes "w"; reply = reply_text r })
+    ≡ Some (record {
+      accessor = codes "x";
+      created = 100;
+      ttl = 5;
+      path = codes "p";
+      origin = codes "w";
+      reply = reply_text r;
+    })
 unfolding wrapped_in same
 waits_under_it names r w x = rw w (rw x (get-put broker.waiting (codes "hvs.w") _ (codes "hvs.w")))
 
-takes_both : (names : Names) (r : Reply) → (wrapped_in names r).done.taken ≡ names.wrapping_token ∷ names.wrapping_accessor ∷ []
+takes_both : (names : Names) (r : Reply) → (wrapped_in names r).done.taken
+    ≡ names.wrapping_token ∷ names.wrapping_accessor ∷ []
 unfolding wrapped_in
 takes_both names r = refl
 
 -- a 204 is not wrapped
-nothing_to_wrap : (names : Names) → wrap_200 broker (codes "p") 5 names (plainly nothing broker) nothing ≡ unwrapped (plainly nothing broker)
+nothing_to_wrap : (names : Names) → wrap_200 broker (codes "p") 5 names (plainly nothing broker) nothing
+    ≡ unwrapped (plainly nothing broker)
 nothing_to_wrap names = refl
 
 -- ---- paths that ask for `sudo`, by their form

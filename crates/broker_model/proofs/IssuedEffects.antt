@@ -74,7 +74,8 @@ module _ (b : Broker) (c : Text) (names : Names) (p : Place) where
 
     by_lease : (q : Text) (x : Token) (v : Bool) → same q c ≡ v → (k : Text) (l : Lease)
         → get (if v then put x.leases id lease else x.leases) k ≡ Some l
-        → ((m : Lease) × (get x.leases k ≡ Some m) × (m.credential ≡ l.credential)) ⊎ IsNewTo (Some c) (lease_names names) q k l
+        → ((m : Lease) × (get x.leases k ≡ Some m) × (m.credential ≡ l.credential))
+        ⊎ IsNewTo (Some c) (lease_names names) q k l
     by_lease q x true at k l e =
         put_is x.leases id lease k l _ e (λ here is. inr (is_new q at k l here is)) (λ there. inl (l, there, refl))
     by_lease q x false at k l e = inl (l, e, refl)
@@ -98,18 +99,33 @@ module _ (b : Broker) (c : Text) (names : Names) (p : Place) where
       waiting = λ t w e. inl e;
       fated = issued_stays;
       versions = λ given_. secrets_same b.secrets b.secrets refl;
-      keeps = record { clock = refl; used = refl; tokens = tt; secrets = refl; waiting = refl; mounts = refl; roles = refl; policies = refl };
+      keeps = record {
+        clock = refl;
+        used = refl;
+        tokens = tt;
+        secrets = refl;
+        waiting = refl;
+        mounts = refl;
+        roles = refl;
+        policies = refl;
+      };
     }
 
   -- a credential that is not refused is that of a role
-  issue_does : (i : Issued) → length names.lease ≡ 36 → roles.creds b c p.mount p.path names.lease names.credential ≡ Ok i
+  issue_does : (i : Issued) → length names.lease ≡ 36
+      → roles.creds b c p.mount p.path names.lease names.credential ≡ Ok i
       → DoesIt command.Issue (given names i)
   issue_does i long e =
-      let x = ok_step (roles.issued (roles.role b p.mount p.path) (is_last_use b c) b.clock p.mount p.path names.lease names.credential) _ i e in
+      let x = ok_step (roles.issued (roles.role b p.mount p.path)
+      (is_last_use b c) b.clock p.mount p.path names.lease names.credential) _ i e in
       let r = ok_step (some_or refusal.NotFound (roles.role b p.mount p.path)) _ x.0 x.1 in
       let lasts = ok_step (unless (not (is_last_use b c)) (refusal.BadRequest reason.LastUseTakesLease)) _ x.0 r.2 in
       subst (λ i. DoesIt command.Issue (given names i))
-      (ap (λ (x : roles.IssuedLease). record { lease_id = x.lease_id; lease = x.lease; next = leases.issue b c x.lease_id x.lease }) (ok_inj lasts.2)
+      (ap (λ (x : roles.IssuedLease). record {
+        lease_id = x.lease_id;
+        lease = x.lease;
+        next = leases.issue b c x.lease_id x.lease;
+      }) (ok_inj lasts.2)
       ∙ ok_inj x.2)
       (given_does r.0 long)
 
@@ -117,7 +133,8 @@ module _ (b : Broker) (c : Text) (names : Names) (p : Place) where
 
   set_does : (asked : RoleSettings) (d : Done) → set_role b p asked ≡ Ok d → DoesIt (command.SetRole asked) d
   set_does asked d e =
-      let next = ok_step (roles.set_role b p.mount p.path (record { ttl = asked.ttl; max_ttl = asked.max_ttl })) _ d e in
+      let next = ok_step (roles.set_role b p.mount p.path (record { ttl = asked.ttl; max_ttl = asked.max_ttl })) _ d
+      e in
       let named = ok_step (unless (is_name p.path) (refusal.BadRequest reason.InvalidName)) _ next.0 next.1 in
       subst (DoesIt (command.SetRole asked)) (ok_inj next.2)
       (subst (λ n. DoesIt (command.SetRole asked) (plainly nothing n)) (ok_inj named.2)
@@ -138,4 +155,5 @@ module _ (b : Broker) (c : Text) (names : Names) (p : Place) where
   acts command.Issue d long e =
       let i = ok_step (roles.creds b c p.mount p.path names.lease names.credential) _ d e in
       subst (DoesIt command.Issue) (ok_inj i.2) (issue_does i.0 long i.1)
-  acts (command.Verify credential) d long e = subst (DoesIt (command.Verify credential)) (ok_inj e) (shown_does b (Some c) names _ refl _)
+  acts (command.Verify credential) d long e =
+      subst (DoesIt (command.Verify credential)) (ok_inj e) (shown_does b (Some c) names _ refl _)

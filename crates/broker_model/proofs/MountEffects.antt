@@ -27,13 +27,23 @@ module _ (b : Broker) (c : Text) (names : Names) (name : Text) where
   DoesIt command = Does b (Some c) names (on_mount name command)
 
   -- what is kept under the name goes with the mount
-  leaves_bare : (next : Map Mount) → Leaves (Some of_mounts_and_kept) b (Some c) (without_kept (record b { mounts = next }) name)
+  leaves_bare : (next : Map Mount)
+      → Leaves (Some of_mounts_and_kept) b (Some c) (without_kept (record b { mounts = next }) name)
   leaves_bare next = record {
     waiting = refl;
     stays = stay_leases (Some of_mounts_and_kept) (Some c) b (without_kept (record b { mounts = next }) name)
         (λ t m. keep (λ q. not (leases.is_under name q)) m) refl refl (under_out name);
     versions = λ given. all_fewer b.secrets (λ q. not (starts_with nat_eq q (secret_name name [])));
-    keeps = record { clock = refl; used = refl; tokens = tt; secrets = tt; waiting = refl; mounts = tt; roles = tt; policies = refl };
+    keeps = record {
+      clock = refl;
+      used = refl;
+      tokens = tt;
+      secrets = tt;
+      waiting = refl;
+      mounts = tt;
+      roles = tt;
+      policies = refl;
+    };
   }
 
   -- whether there was a mount or not

@@ -44,7 +44,16 @@ module _ (b : Broker) (who : Option Text) where
     waiting = refl;
     stays = stay_same (Some of_policies) who [] b (record b { policies = next }) refl;
     versions = λ given. secrets_same b.secrets b.secrets refl;
-    keeps = record { clock = refl; used = refl; tokens = refl; secrets = refl; waiting = refl; mounts = refl; roles = refl; policies = tt };
+    keeps = record {
+      clock = refl;
+      used = refl;
+      tokens = refl;
+      secrets = refl;
+      waiting = refl;
+      mounts = refl;
+      roles = refl;
+      policies = tt;
+    };
   }
 
   pub leaves_mounts : (next : Map Mount) → Leaves (Some of_mounts) b who (record b { mounts = next })
@@ -52,7 +61,16 @@ module _ (b : Broker) (who : Option Text) where
     waiting = refl;
     stays = stay_same (Some of_mounts) who [] b (record b { mounts = next }) refl;
     versions = λ given. secrets_same b.secrets b.secrets refl;
-    keeps = record { clock = refl; used = refl; tokens = refl; secrets = refl; waiting = refl; mounts = tt; roles = refl; policies = refl };
+    keeps = record {
+      clock = refl;
+      used = refl;
+      tokens = refl;
+      secrets = refl;
+      waiting = refl;
+      mounts = tt;
+      roles = refl;
+      policies = refl;
+    };
   }
 
   pub leaves_roles : (next : Map Role) → Leaves (Some of_roles) b who (record b { roles = next })
@@ -60,7 +78,16 @@ module _ (b : Broker) (who : Option Text) where
     waiting = refl;
     stays = stay_same (Some of_roles) who [] b (record b { roles = next }) refl;
     versions = λ given. secrets_same b.secrets b.secrets refl;
-    keeps = record { clock = refl; used = refl; tokens = refl; secrets = refl; waiting = refl; mounts = refl; roles = tt; policies = refl };
+    keeps = record {
+      clock = refl;
+      used = refl;
+      tokens = refl;
+      secrets = refl;
+      waiting = refl;
+      mounts = refl;
+      roles = tt;
+      policies = refl;
+    };
   }
 
   pub leaves_secrets : (next : Map Key) → (AllGiven b → SecretsStay b.secrets next)
@@ -69,12 +96,22 @@ module _ (b : Broker) (who : Option Text) where
     waiting = refl;
     stays = stay_same (Some of_secrets) who [] b (record b { secrets = next }) refl;
     versions = versions;
-    keeps = record { clock = refl; used = refl; tokens = refl; secrets = tt; waiting = refl; mounts = refl; roles = refl; policies = refl };
+    keeps = record {
+      clock = refl;
+      used = refl;
+      tokens = refl;
+      secrets = tt;
+      waiting = refl;
+      mounts = refl;
+      roles = refl;
+      policies = refl;
+    };
   }
 
 -- ---- what is done
 
-module _ (b : Broker) (who : Option Text) (names : Names) (command : Command) (fate : (traits command).fate ≡ stay) where
+module _ (b : Broker) (who : Option Text) (names : Names) (command : Command)
+    (fate : (traits command).fate ≡ stay) where
   fated : (d : Done) → Stay (traits command).changes who d.taken b d.next
       → IsFated (traits command).fate (traits command).changes b who names d
   fated d stays = subst (λ (f : Fate). IsFated f (traits command).changes b who names d) (sym fate) stays

@@ -22,9 +22,11 @@ use Rattle.broker_model.specs.declared.commands.SecretCommand.TheVariants as com
 use Rattle.broker_model.specs.parts.Place.{Place}
 use Rattle.broker_model.specs.parts.SecretReplies.{object_left, version_reply, version_answered, written_reply}
 use Rattle.broker_model.specs.parts.Secrets.{act_on_secrets, given}
-use Rattle.broker_model.proofs.Operations.{Leaves, leaves_mounts, leaves_secrets, listed_does, missing_does, shown_does, silent_does}
+use Rattle.broker_model.proofs.Operations.{Leaves, leaves_mounts, leaves_secrets, listed_does, missing_does, shown_does}
+use Rattle.broker_model.proofs.Operations.{silent_does}
 use Rattle.broker_model.proofs.Operations.{told_does}
-use Rattle.broker_model.proofs.VersionsStay.{all_but, changed_stay, destroyed_holds, metadata_stays, one_changed, restored_holds}
+use Rattle.broker_model.proofs.VersionsStay.{all_but, changed_stay, destroyed_holds, metadata_stays, one_changed}
+use Rattle.broker_model.proofs.VersionsStay.{restored_holds}
 use Rattle.broker_model.proofs.VersionsStay.{soft_holds, write_stays}
 
 module _ (b : Broker) (c : Text) (names : Names) (p : Place) where
@@ -49,7 +51,8 @@ module _ (b : Broker) (c : Text) (names : Names) (p : Place) where
       let x = write_is b p.mount p.path asked.cas asked.object w e in
       let stays : AllGiven b → SecretsStay b.secrets w.next.secrets =
       λ given_. write_stays b given_ p.mount p.path asked.cas asked.object w e in
-      subst (λ (z : Written). (AllGiven b → SecretsStay b.secrets z.next.secrets) → Leaves (Some of_secrets) b (Some c) z.next)
+      subst (λ (z : Written). (AllGiven b → SecretsStay b.secrets z.next.secrets)
+      → Leaves (Some of_secrets) b (Some c) z.next)
       (sym x.3) (leaves_secrets b (Some c) _) stays
 
   pub acts : (command : SecretCommand) (d : Done) → act_on_secrets b names p command ≡ Ok d → DoesIt command d

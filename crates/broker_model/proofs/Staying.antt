@@ -1,5 +1,6 @@
 -- Maps and tokens that stay as they are, or change by an edit.
-use Rattle.std.specs.Prelude.{◌≡◌, ◌⊎◌, ◌||◌, List, [], Bool, true, false, Option, Some, None, option_map, option_and_then}
+use Rattle.std.specs.Prelude.{◌≡◌, ◌⊎◌, ◌||◌, List, [], Bool, true, false, Option, Some, None, option_map}
+use Rattle.std.specs.Prelude.{option_and_then}
 use Rattle.std.specs.Prelude.{if◌then◌else◌}
 use Rattle.std.proofs.Common.{refl, sym, ◌∙◌, ap, subst, inl, inr}
 use Rattle.broker_types.specs.Text.{Text, same}
@@ -27,7 +28,8 @@ pub keeps_self : (changes : Option Part) (b : Broker) → KeepsMaps changes b b
 keeps_self changes b = record {
   clock = refl;
   used = refl;
-  tokens = same_unless (may_change changes kind.Token || may_change changes kind.Cubby || may_change changes kind.Lease) b.tokens;
+  tokens = same_unless (may_change changes kind.Token || may_change changes kind.Cubby || may_change changes kind.Lease)
+      b.tokens;
   secrets = same_unless (may_change changes kind.KvKey) b.secrets;
   waiting = same_unless (may_change changes kind.Waiting) b.waiting;
   mounts = same_unless (may_change changes kind.Mount) b.mounts;
@@ -49,14 +51,20 @@ module _ (changes : Option Part) (who : Option Text) where
   -- tokens stay where none changes
   pub stay_same : (taken : List Text) (b next : Broker) → next.tokens ≡ b.tokens → Stay changes who taken b next
   stay_same taken b next is = record {
-    tokens = λ q. subst (λ (m : Tokens). Both (StaysAt changes who q) (get b.tokens q) (get m q)) (sym is) (both_same q (get b.tokens q));
+    tokens = λ q. subst (λ (m : Tokens). Both (StaysAt changes who q) (get b.tokens q) (get m q)) (sym is)
+        (both_same q (get b.tokens q));
     leases = λ q lease_id l e.
-        inl (l, ap (λ (m : Tokens). option_and_then (λ (x : Token). get x.leases lease_id) (get m q)) (sym is) ∙ e, refl);
+        inl (
+          l,
+          ap (λ (m : Tokens). option_and_then (λ (x : Token). get x.leases lease_id) (get m q)) (sym is) ∙ e,
+          refl,
+        );
   }
 
   -- ---- edits
 
-  module _ (taken : List Text) (b next : Broker) (f : Text → Token → Token) (is : next.tokens ≡ map_values f b.tokens) where
+  module _ (taken : List Text) (b next : Broker) (f : Text → Token → Token)
+      (is : next.tokens ≡ map_values f b.tokens) where
     both_edited : (q : Text) → ((x : Token) → StaysAt changes who q x (f q x)) → (o : Option Token)
         → Both (StaysAt changes who q) o (option_map (f q) o)
     both_edited q stays None = tt
@@ -79,7 +87,8 @@ module _ (changes : Option Part) (who : Option Text) where
 
     -- tokens stay where each is edited so that its leases were there, or are the caller's and were given out
     pub stay_edited : ((q : Text) (x : Token) → StaysAt changes who q x (f q x))
-        → ((q : Text) (x : Token) → get b.tokens q ≡ Some x → (lease_id : Text) (l : Lease) → get (f q x).leases lease_id ≡ Some l
+        → ((q : Text) (x : Token) → get b.tokens q ≡ Some x → (lease_id : Text) (l : Lease)
+        → get (f q x).leases lease_id ≡ Some l
         → ((k : Lease) × (get x.leases lease_id ≡ Some k) × (k.credential ≡ l.credential))
         ⊎ IsNewTo who taken q lease_id l)
         → Stay changes who taken b next
@@ -103,16 +112,19 @@ module _ (changes : Option Part) (who : Option Text) where
     where
       by_text : (q : Text) (x : Token) (v : Bool) → same q c ≡ v
           → StaysAt changes who q x (if v then cubbyhole.with_cubbyhole edit x else x)
-      by_text q x true at = record { rest = refl; cubbyhole = inr (may, is_c ∙ ap Some (sym (same_true q c at))); leases = inl refl }
+      by_text q x true at =
+          record { rest = refl; cubbyhole = inr (may, is_c ∙ ap Some (sym (same_true q c at))); leases = inl refl }
       by_text q x false at = as_it_is q x
 
       by_lease : (q : Text) (x : Token) (v : Bool) (lease_id : Text) (l : Lease)
-          → get (if v then cubbyhole.with_cubbyhole edit x else x).leases lease_id ≡ Some l → get x.leases lease_id ≡ Some l
+          → get (if v then cubbyhole.with_cubbyhole edit x else x).leases lease_id ≡ Some l
+          → get x.leases lease_id ≡ Some l
       by_lease q x true lease_id l e = e
       by_lease q x false lease_id l e = e
 
   -- where leases are edited so that each was there, with the same credential
-  pub stay_leases : (b next : Broker) (edit : Text → Map Lease → Map Lease) → next.tokens ≡ (leases.edited b edit).tokens
+  pub stay_leases : (b next : Broker) (edit : Text → Map Lease → Map Lease)
+      → next.tokens ≡ (leases.edited b edit).tokens
       → may_change changes kind.Lease ≡ true
       → ((t lease_id : Text) (m : Map Lease) (l : Lease) → get (edit t m) lease_id ≡ Some l
       → (k : Lease) × (get m lease_id ≡ Some k) × (k.credential ≡ l.credential))

@@ -27,11 +27,13 @@ use Rattle.broker_model.specs.declared.commands.TokenCommand.TheVariants as comm
 use Rattle.broker_model.specs.declared.making.Making.{Making}
 use Rattle.broker_model.specs.parts.TokenCommands.{of_ended, token_changes, token_fate}
 use Rattle.broker_model.specs.parts.TokenCreation.{is_privileged, making_path, may_make, new_policies}
-use Rattle.broker_model.specs.parts.Tokens.{act_on_tokens, create, holder, known, look_up, named, new_end, renew, revoke, revoke_alone}
+use Rattle.broker_model.specs.parts.Tokens.{act_on_tokens, create, holder, known, look_up, named, new_end, renew}
+use Rattle.broker_model.specs.parts.Tokens.{revoke, revoke_alone}
 use Rattle.broker_model.proofs.Operations.{shown_does}
 
 -- the text that an accessor names, if it names one
-named_is : (b : Broker) (c accessor t : Text) → holder b accessor ≡ Ok t → text_named b c (by_accessor accessor) ≡ Some t
+named_is : (b : Broker) (c accessor t : Text) → holder b accessor ≡ Ok t
+    → text_named b c (by_accessor accessor) ≡ Some t
 named_is b c accessor t e = by (text_named b c (by_accessor accessor)) e
   where
     by : (o : Option Text) → some_or (refusal.BadRequest reason.InvalidAccessor) o ≡ Ok t → o ≡ Some t
@@ -60,10 +62,20 @@ module _ (b : Broker) (c : Text) (names : Names) where
         waiting = λ t w e. inl e;
         fated = (c, refl, is);
         versions = λ given. secrets_same b.secrets b.secrets refl;
-        keeps = record { clock = refl; used = refl; tokens = tt; secrets = refl; waiting = refl; mounts = refl; roles = refl; policies = refl };
+        keeps = record {
+          clock = refl;
+          used = refl;
+          tokens = tt;
+          secrets = refl;
+          waiting = refl;
+          mounts = refl;
+          roles = refl;
+          policies = refl;
+        };
       }) e
 
-  look_up_does : (command : TokenCommand) (t id : Text) (d : Done) → token_fate command ≡ stay → look_up b names t id ≡ Ok d
+  look_up_does : (command : TokenCommand) (t id : Text) (d : Done) → token_fate command ≡ stay
+      → look_up b names t id ≡ Ok d
       → DoesIt command d
   look_up_does command t id d fate e =
       let x = ok_step (known b t) _ d e in
@@ -71,11 +83,13 @@ module _ (b : Broker) (c : Text) (names : Names) where
 
   module _ (command : TokenCommand) (t : Text) where
     renew_does : (increment : ℕ) (d : Done) → token_changes command ≡ Some of_tokens
-        → IsFated (token_fate command) (token_changes command) b (Some c) names d → renew b names t increment ≡ Ok d → DoesIt command d
+        → IsFated (token_fate command) (token_changes command) b (Some c) names d → renew b names t increment ≡ Ok d
+        → DoesIt command d
     renew_does increment d changes fated e =
         let x = ok_step (known b t) _ d e in
         let ending = ok_step (unless (is_some x.0.ends) (refusal.BadRequest reason.TokenNotRenewable)) _ d x.2 in
-        subst (λ (z : Done). IsFated (token_fate command) (token_changes command) b (Some c) names z → DoesIt command z) (ok_inj ending.2)
+        subst (λ (z : Done). IsFated (token_fate command) (token_changes command) b (Some c) names z → DoesIt command z)
+        (ok_inj ending.2)
         (λ is. record {
           gives_own = inl refl;
           none_at_204 = λ e. absurd (cc);
@@ -87,8 +101,18 @@ module _ (b : Broker) (c : Text) (names : Names) where
           waiting = λ t w e. inl e;
           fated = is;
           versions = λ given. secrets_same b.secrets b.secrets refl;
-          keeps = subst (λ (o : Option Part). KeepsMaps o b (tree.renew b t (new_end b.clock (token_entry x.0) increment))) (sym changes)
-              (record { clock = refl; used = refl; tokens = tt; secrets = refl; waiting = refl; mounts = refl; roles = refl; policies = refl });
+          keeps = subst (λ (o : Option Part). KeepsMaps o b
+              (tree.renew b t (new_end b.clock (token_entry x.0) increment))) (sym changes)
+              (record {
+                clock = refl;
+                used = refl;
+                tokens = tt;
+                secrets = refl;
+                waiting = refl;
+                mounts = refl;
+                roles = refl;
+                policies = refl;
+              });
         }) fated
 
     -- tokens end, and the response of t is dropped
@@ -111,15 +135,34 @@ module _ (b : Broker) (c : Text) (names : Names) where
     }
 
     revoke_does : token_changes command ≡ Some of_ended
-        → IsFated (token_fate command) (token_changes command) b (Some c) names (revoke b t) → DoesIt command (revoke b t)
+        → IsFated (token_fate command) (token_changes command) b (Some c) names (revoke b t)
+        → DoesIt command (revoke b t)
     revoke_does changes fated = ends_does (broker.revoke b t) refl refl
         (subst (λ (o : Option Part). KeepsMaps o b (drop_waiting (broker.revoke b t) t)) (sym changes)
-        (record { clock = refl; used = refl; tokens = tt; secrets = refl; waiting = tt; mounts = refl; roles = refl; policies = refl }))
+        (record {
+          clock = refl;
+          used = refl;
+          tokens = tt;
+          secrets = refl;
+          waiting = tt;
+          mounts = refl;
+          roles = refl;
+          policies = refl;
+        }))
         fated
 
   orphan_does : (t : Text) → DoesIt (command.RevokeOrphan t) (revoke_alone b t)
   orphan_does t = ends_does (command.RevokeOrphan t) t (broker.revoke_orphan b t) refl refl
-      (record { clock = refl; used = refl; tokens = tt; secrets = refl; waiting = tt; mounts = refl; roles = refl; policies = refl })
+      (record {
+        clock = refl;
+        used = refl;
+        tokens = tt;
+        secrets = refl;
+        waiting = tt;
+        mounts = refl;
+        roles = refl;
+        policies = refl;
+      })
       (c, refl, refl)
 
   pub acts : (command : TokenCommand) (d : Done) → act_on_tokens b c names command ≡ Ok d → DoesIt command d
@@ -131,7 +174,8 @@ module _ (b : Broker) (c : Text) (names : Names) where
   acts command.LookUpSelf d e = look_up_does command.LookUpSelf c c d refl e
   acts (command.Renew asked) d e =
       renew_does (command.Renew asked) asked.token asked.increment d refl (c, asked.token, refl, refl, e) e
-  acts (command.RenewSelf increment) d e = renew_does (command.RenewSelf increment) c increment d refl (c, c, refl, refl, e) e
+  acts (command.RenewSelf increment) d e = renew_does (command.RenewSelf increment) c increment d refl
+      (c, c, refl, refl, e) e
   acts (command.Revoke t) d e =
       subst (DoesIt (command.Revoke t)) (ok_inj e) (revoke_does (command.Revoke t) t refl (c, t, refl, refl, refl))
   acts (command.RevokeOrphan t) d e = subst (DoesIt (command.RevokeOrphan t)) (ok_inj e) (orphan_does t)
@@ -141,4 +185,5 @@ module _ (b : Broker) (c : Text) (names : Names) where
       (revoke_does (command.RevokeAccessor accessor) t.0 refl (c, t.0, refl, named_is b c accessor t.0 t.1, refl))
   acts command.RevokeSelf d e =
       subst (DoesIt command.RevokeSelf) (ok_inj e) (revoke_does command.RevokeSelf c refl (c, c, refl, refl, refl))
-  acts command.ListAccessors d e = subst (DoesIt command.ListAccessors) (ok_inj e) (shown_does b (Some c) names _ refl _)
+  acts command.ListAccessors d e = subst (DoesIt command.ListAccessors) (ok_inj e)
+      (shown_does b (Some c) names _ refl _)

@@ -1,5 +1,6 @@
 -- The part of tokens, computed.
-use Rattle.std.specs.Prelude.{◌≡◌, ◌++◌, ℕ, List, [], ◌∷◌, Bool, true, false, Option, Some, None, Ok, Err, codes, map, ⊤}
+use Rattle.std.specs.Prelude.{◌≡◌, ◌++◌, ℕ, List, [], ◌∷◌, Bool, true, false, Option, Some, None, Ok, Err, codes, map}
+use Rattle.std.specs.Prelude.{⊤}
 use Rattle.std.specs.Cmp.Lexicographic.{nat_list_cmp_total}
 use Rattle.std.specs.Fmt.{digits}
 use Rattle.std.specs.FinMap as fin
@@ -156,27 +157,33 @@ no_name : refused false OfCaller (caller default_and_n None (Some 2765800)) [] a
 unfolding all_at_once asked caller same
 no_name = refl
 
-no_root : refused false OfCaller (caller default_and_n None (Some 2765800)) [] (asked (codes "root" ∷ codes "x" ∷ []) 0 0 true false) reason.RootByRootAlone
+no_root : refused false OfCaller (caller default_and_n None (Some 2765800)) []
+    (asked (codes "root" ∷ codes "x" ∷ []) 0 0 true false) reason.RootByRootAlone
 unfolding asked caller same
 no_root = refl
 
-beyond : refused false OfCaller (caller default_and_n None (Some 2765800)) [] (asked (codes "x" ∷ []) 0 0 true false) reason.PoliciesBeyondParent
+beyond : refused false OfCaller (caller default_and_n None (Some 2765800)) []
+    (asked (codes "x" ∷ []) 0 0 true false) reason.PoliciesBeyondParent
 unfolding asked caller same
 beyond = refl
 
-no_orphan : refused false OfCaller (caller default_and_n None (Some 2765800)) [] (asked (n ∷ []) 0 0 true false) reason.OrphanNeedsSudo
+no_orphan : refused false OfCaller (caller default_and_n None (Some 2765800)) []
+    (asked (n ∷ []) 0 0 true false) reason.OrphanNeedsSudo
 unfolding asked caller same
 no_orphan = refl
 
-by_its_own_route : may_make false WithoutParent (caller default_and_n None (Some 2765800)) default_and_n (asked (n ∷ []) 0 0 true false) ≡ Ok tt
+by_its_own_route : may_make false WithoutParent (caller default_and_n None (Some 2765800)) default_and_n
+    (asked (n ∷ []) 0 0 true false) ≡ Ok tt
 unfolding asked caller same
 by_its_own_route = refl
 
-expiring : refused true OfCaller (caller (codes "root" ∷ []) None (Some 1100)) (codes "root" ∷ []) (asked [] 0 0 false false) reason.ExpiringRoot
+expiring : refused true OfCaller (caller (codes "root" ∷ []) None (Some 1100)) (codes "root" ∷ [])
+    (asked [] 0 0 false false) reason.ExpiringRoot
 unfolding asked caller same
 expiring = refl
 
-no_period : refused false OfCaller (caller default_and_n None (Some 2765800)) default_and_n (periodic 60 0 0) reason.PeriodNeedsSudo
+no_period : refused false OfCaller (caller default_and_n None (Some 2765800)) default_and_n
+    (periodic 60 0 0) reason.PeriodNeedsSudo
 unfolding periodic asked caller same
 no_period = refl
 
@@ -200,7 +207,8 @@ added : new_policies true (root_token 1000 (codes "r")) (asked (n ∷ []) 0 0 fa
 unfolding asked same listed
 added = names_of (codes "default" ∷ n ∷ [])
 
-once : new_policies true (root_token 1000 (codes "r")) (asked (n ∷ codes "default" ∷ []) 0 0 false false) ≡ default_and_n
+once : new_policies true (root_token 1000 (codes "r")) (asked (n ∷ codes "default" ∷ []) 0 0 false false)
+    ≡ default_and_n
 unfolding asked same listed
 once = names_of (codes "default" ∷ n ∷ codes "default" ∷ [])
 
@@ -219,32 +227,38 @@ unfolding asked caller same listed
 none_left = names_of []
 
 -- `root` is alone
-root_alone : new_policies true (root_token 1000 (codes "r")) (asked (n ∷ codes "root" ∷ []) 0 0 false true) ≡ codes "root" ∷ []
+root_alone : new_policies true (root_token 1000 (codes "r")) (asked (n ∷ codes "root" ∷ []) 0 0 false true)
+    ≡ codes "root" ∷ []
 unfolding asked same
 root_alone = refl
 
 -- ---- texts
 
 -- the reply to the creation of `child`
-auth_text : reply_text (auth_reply (codes "00000000-0000-0000-0000-000000000010") 1000 child_text (token_entry (record child { meta = empty })))
+auth_text : reply_text (auth_reply (codes "00000000-0000-0000-0000-000000000010") 1000 child_text
+    (token_entry (record child { meta = empty })))
     ≡ codes "{\"auth\":{\"accessor\":\"00000000-0000-0000-0000-000000000012\","
     ++ codes "\"client_token\":\"hvs.00000000-0000-0000-0000-000000000011\",\"entity_id\":\"\",\"lease_duration\":100,"
     ++ codes "\"metadata\":null,\"num_uses\":0,\"orphan\":false,\"policies\":[\"root\"],\"renewable\":true,"
     ++ codes "\"token_policies\":[\"root\"],\"token_type\":\"service\"},\"data\":null,\"lease_duration\":0,"
     ++ codes "\"lease_id\":\"\",\"renewable\":false,\"request_id\":\"00000000-0000-0000-0000-000000000010\","
     ++ codes "\"warnings\":null,\"wrap_info\":null}\n"
-unfolding child asked same reply_text object.auth_object name_text digits escape_byte printing.with_member printing.with_item printing.quoted
+unfolding child asked same reply_text object.auth_object name_text digits escape_byte printing.with_member
+    printing.with_item printing.quoted
     printing.null_text printing.whole_number printing.bool_text printing.or_null printing.texts printing.pairs
 auth_text = rw entries-empty refl
 
 -- its look-up, when it has been renewed at 1040
-token_text_at_1040 : object.token_object (looked_up 1040 child_text (token_entry (record child { ends = Some 1140; meta = empty })))
+token_text_at_1040 : object.token_object
+    (looked_up 1040 child_text (token_entry (record child { ends = Some 1140; meta = empty })))
     ≡ codes "{\"accessor\":\"00000000-0000-0000-0000-000000000012\",\"creation_time\":1000,\"creation_ttl\":100,"
     ++ codes "\"expire_time\":\"1970-01-01T00:19:00Z\",\"explicit_max_ttl\":150,"
     ++ codes "\"id\":\"hvs.00000000-0000-0000-0000-000000000011\",\"issue_time\":\"1970-01-01T00:16:40Z\",\"meta\":null,"
     ++ codes "\"num_uses\":0,\"orphan\":false,\"policies\":[\"root\"],\"renewable\":true,\"ttl\":100,\"type\":\"service\"}"
-unfolding child asked same object.token_object name_text digits escape_byte printing.with_member printing.with_item printing.quoted
-    printing.null_text printing.whole_number printing.bool_text printing.texts printing.pairs printing.time printing.time_or
+unfolding child asked same object.token_object name_text digits escape_byte printing.with_member printing.with_item
+    printing.quoted
+    printing.null_text printing.whole_number printing.bool_text printing.texts printing.pairs printing.time
+    printing.time_or
     civil day_from_year day_from_month
 token_text_at_1040 = rw entries-empty refl
 
@@ -270,18 +284,21 @@ abbrev root_text : Text
 root_text = token_text (id 1)
 
 -- it has no end
-not_renewable : (names : Names) → act_on_tokens first root_text names (command.RenewSelf 0) ≡ Err (refusal.BadRequest reason.TokenNotRenewable)
+not_renewable : (names : Names) → act_on_tokens first root_text names (command.RenewSelf 0)
+    ≡ Err (refusal.BadRequest reason.TokenNotRenewable)
 not_renewable names = rw (get-put_self empty root_text (root_token 1000 (id 2))) refl
 
 -- it makes a token without policies of its own
 makes : (names : Names) → act_on_tokens first root_text names (command.Create OfCaller (asked [] 100 150 false false))
-    ≡ Ok (made first names (new_token 1000 (Some root_text) names.accessor (codes "root" ∷ []) (asked [] 100 150 false false)))
+    ≡ Ok (made first names
+    (new_token 1000 (Some root_text) names.accessor (codes "root" ∷ []) (asked [] 100 150 false false)))
 unfolding asked same allows rules_of
 makes names = rw (get-put_self empty root_text (root_token 1000 (id 2))) refl
 
 -- ---- what is unknown
 
-unknown : (b : Broker) (names : Names) (t id : Text) → get b.tokens t ≡ None → look_up b names t id ≡ Err (refusal.Forbidden denial.BadToken)
+unknown : (b : Broker) (names : Names) (t id : Text) → get b.tokens t ≡ None
+    → look_up b names t id ≡ Err (refusal.Forbidden denial.BadToken)
 unknown b names t id none = rw none refl
 
 -- a text that is neither a token nor a wrapping token, as the empty one, ends nothing
@@ -298,4 +315,5 @@ ends_none_alone b t parents none bare =
 
 -- and a wrapping token ends alone
 ends_wrapping : (b : Broker) (t : Text) → get b.tokens t ≡ None → revoke b t ≡ plainly nothing (drop_waiting b t)
-ends_wrapping b t none = ap (λ ts. plainly nothing (drop_waiting (record b { tokens = ts }) t)) (revoke_unknown b.tokens t none)
+ends_wrapping b t none = ap (λ ts. plainly nothing (drop_waiting (record b { tokens = ts }) t))
+    (revoke_unknown b.tokens t none)

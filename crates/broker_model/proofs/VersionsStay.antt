@@ -17,7 +17,8 @@ use Rattle.kv2.specs.Secrets as secrets
 use Rattle.kv2.specs.Secrets.{Written, secret_name}
 use Rattle.kv2.specs.SoundLaws.{write_is}
 use Rattle.kv2.specs.VersionLaws.{get-change_versions, next_versions}
-use Rattle.kv2.specs.Versions.{Settings, described, destroyed, is_among, key_or_new, new_version, restored, soft_deleted, versions_kept, with_changed}
+use Rattle.kv2.specs.Versions.{Settings, described, destroyed, is_among, key_or_new, new_version, restored}
+use Rattle.kv2.specs.Versions.{soft_deleted, versions_kept, with_changed}
 use Rattle.kv2.specs.Versions.{with_version}
 use Rattle.broker_model.specs.EffectLaws.{it_stays, versions_self}
 use Rattle.broker_model.specs.Effects.{AllGiven, AreGiven, SecretsStay, VersionsStay}
@@ -48,7 +49,8 @@ changed_stay f holds ns k = record {
 pub soft_holds : (now : ℕ) → Holds (soft_deleted now)
 soft_holds now v =
     elim (is_none v.deleted) as
-    (λ b. ((if b then record v { deleted = Some now } else v).secret ≡ v.secret) ⊎ ((if b then record v { deleted = Some now } else v).secret ≡ None)) [
+    (λ b. ((if b then record v { deleted = Some now } else v).secret ≡ v.secret)
+    ⊎ ((if b then record v { deleted = Some now } else v).secret ≡ None)) [
       | true ↦ inl refl
       | false ↦ inl refl
     ]
@@ -56,7 +58,8 @@ soft_holds now v =
 pub restored_holds : Holds restored
 restored_holds v =
     elim (is_none v.secret) as
-    (λ b. ((if b then v else record v { deleted = None }).secret ≡ v.secret) ⊎ ((if b then v else record v { deleted = None }).secret ≡ None)) [
+    (λ b. ((if b then v else record v { deleted = None }).secret ≡ v.secret)
+    ⊎ ((if b then v else record v { deleted = None }).secret ≡ None)) [
       | true ↦ inl refl
       | false ↦ inl refl
     ]
@@ -76,9 +79,11 @@ module _ (now limit : ℕ) (object : Text) (k : Key) (given_ : AreGiven k) where
       → (fin.get after.versions n ≡ None → P) → P
   by_number n P first old gone =
       elim (nat_lt (number - limit) n) as
-      (λ kept. fin.get after.versions n ≡ cond kept (cond (n == number) (Some (new_version now object)) (fin.get k.versions n)) None → P) [
+      (λ kept. fin.get after.versions n ≡ cond kept
+      (cond (n == number) (Some (new_version now object)) (fin.get k.versions n)) None → P) [
         | true ↦ λ e. elim (n == number) as
-            (λ here. (n == number) ≡ here → fin.get after.versions n ≡ cond here (Some (new_version now object)) (fin.get k.versions n) → P) [
+            (λ here. (n == number) ≡ here → fin.get after.versions n
+            ≡ cond here (Some (new_version now object)) (fin.get k.versions n) → P) [
               | true ↦ λ here _. first (eqb-true n number here)
               | false ↦ λ _ f. old f
             ] refl e
@@ -114,11 +119,15 @@ all_fewer ks passes q k m one other = it_stays k m (same_Some _ _ (sym (kept_get
 pub all_but : (ks : Map Key) (name : Text) → SecretsStay ks (without ks name)
 all_but ks name q k m one other = it_stays k m (same_Some _ _ (sym (without_is ks name q m other).1 ∙ one))
 
-pub one_changed : (ks : Map Key) (name : Text) (f : Key → Key) → ((k : Key) → VersionsStay k (f k)) → SecretsStay ks (change ks name f)
+pub one_changed : (ks : Map Key) (name : Text) (f : Key → Key) → ((k : Key) → VersionsStay k (f k))
+    → SecretsStay ks (change ks name f)
 one_changed ks name f stays q k m one other =
     let x = valued_is (λ u (z : Key). if same u name then f z else z) ks q m other in
     subst (λ z. VersionsStay z m) (same_Some _ _ (sym x.1 ∙ one)) (subst (VersionsStay x.0) (sym x.2)
-    (elim (same q name) as (λ v. VersionsStay x.0 (if v then f x.0 else x.0)) [ true ↦ stays x.0 | false ↦ versions_self x.0 ]))
+    (elim (same q name) as (λ v. VersionsStay x.0 (if v then f x.0 else x.0)) [
+      | true ↦ stays x.0
+      | false ↦ versions_self x.0
+    ]))
 
 pub write_stays : (b : Broker) → AllGiven b → (mount path : Text) (cas : Option ℕ) (object : Text) (w : Written)
     → secrets.write b mount path cas object ≡ Ok w → SecretsStay b.secrets w.next.secrets
@@ -141,8 +150,11 @@ pub metadata_stays : (b : Broker) (mount path : Text) (settings : Settings)
     → SecretsStay b.secrets (secrets.set_metadata b mount path settings).secrets
 metadata_stays b mount path settings q k m one other =
     let name = secret_name mount path in
-    put_is b.secrets name (described b.clock settings (key_or_new b.clock (get b.secrets name))) q m (VersionsStay k m) other
+    put_is b.secrets name (described b.clock settings (key_or_new b.clock (get b.secrets name))) q m
+    (VersionsStay k m) other
     (λ at here.
-    let is : key_or_new b.clock (get b.secrets name) ≡ k = ap (key_or_new b.clock) (ap (get b.secrets) (sym at) ∙ one) in
-    subst (VersionsStay k) (sym here) (subst (λ z. VersionsStay k (described b.clock settings z)) (sym is) (described_stay b.clock settings k)))
+    let is : key_or_new b.clock (get b.secrets name) ≡ k =
+    ap (key_or_new b.clock) (ap (get b.secrets) (sym at) ∙ one) in
+    subst (VersionsStay k) (sym here)
+    (subst (λ z. VersionsStay k (described b.clock settings z)) (sym is) (described_stay b.clock settings k)))
     (λ was. it_stays k m (same_Some _ _ (sym was ∙ one)))

@@ -29,7 +29,8 @@ use Rattle.broker_model.specs.Traits.{wrapping_names}
 use Rattle.broker_model.specs.declared.commands.WrappingCommand.{WrappingCommand}
 use Rattle.broker_model.specs.declared.commands.WrappingCommand.TheVariants as command
 use Rattle.broker_model.specs.parts.WrappingCommands.{of_moved}
-use Rattle.broker_model.specs.parts.Wrappings.{FoundResponse, found_under, found, rewrapped, handed_out, act_on_wrappings}
+use Rattle.broker_model.specs.parts.Wrappings.{FoundResponse, found_under, found, rewrapped, handed_out}
+use Rattle.broker_model.specs.parts.Wrappings.{act_on_wrappings}
 use Rattle.broker_model.proofs.Operations.{shown_does}
 use Rattle.broker_model.proofs.Staying.{stay_same}
 
@@ -55,7 +56,8 @@ module _ (b : Broker) (who : Option Text) (names : Names) where
   abbrev Waited : Text → Waiting → Type 0
   Waited q v =
       (get b.waiting q ≡ Some v)
-      ⊎ (IsGiven (wrapping_names names) (token_identifier q) × IsGiven (wrapping_names names) v.accessor × WaitedBefore b v)
+      ⊎ (IsGiven (wrapping_names names) (token_identifier q) × IsGiven (wrapping_names names) v.accessor
+      × WaitedBefore b v)
 
   module _ (f : FoundResponse) (is : get b.waiting f.token ≡ Some f.response) where
     abbrev u : Text
@@ -75,13 +77,15 @@ module _ (b : Broker) (who : Option Text) (names : Names) where
           ap (λ t. list_any (same (token_identifier t)) (wrapping_names names)) at
               ∙ first_in names.wrapping_token (names.wrapping_accessor ∷ []),
           ap (λ (z : Waiting). list_any (same z.accessor) (wrapping_names names)) here
-              ∙ later_in names.wrapping_accessor names.wrapping_token (names.wrapping_accessor ∷ []) (first_in names.wrapping_accessor []),
+              ∙ later_in names.wrapping_accessor names.wrapping_token (names.wrapping_accessor ∷ [])
+              (first_in names.wrapping_accessor []),
           (f.token, f.response, is, ap (λ (z : Waiting). z.origin) here, ap (λ (z : Waiting). z.reply) here),
         ))
         (λ there. inl (without_is b.waiting f.token q v there).1)
 
     rewrap_is : (rewrapped b names f).next ≡ after
-    rewrap_is = ap (λ (o : Option Waiting). option_map_or (λ w. with_waiting (drop_waiting b f.token) u (moved names.wrapping_accessor b.clock w)) o b) is
+    rewrap_is = ap (λ (o : Option Waiting). option_map_or
+        (λ w. with_waiting (drop_waiting b f.token) u (moved names.wrapping_accessor b.clock w)) o b) is
 
     rewrapped_does : (meant : Option Text) → DoesIt (command.Rewrap meant) (rewrapped b names f)
     rewrapped_does meant =
@@ -99,7 +103,16 @@ module _ (b : Broker) (who : Option Text) (names : Names) where
               (stay_same (Some of_moved) who (wrapping_names names) b after refl);
           versions = λ given. secrets_same b.secrets d.next.secrets (ap (λ (z : Broker). z.secrets) rewrap_is);
           keeps = subst (KeepsMaps (Some of_moved) b) (sym rewrap_is)
-              (record { clock = refl; used = refl; tokens = refl; secrets = refl; waiting = tt; mounts = refl; roles = refl; policies = refl });
+              (record {
+                clock = refl;
+                used = refl;
+                tokens = refl;
+                secrets = refl;
+                waiting = tt;
+                mounts = refl;
+                roles = refl;
+                policies = refl;
+              });
         }
 
     handed_out_does : (meant : Option Text) → DoesIt (command.Unwrap meant) (handed_out b f)
@@ -121,7 +134,16 @@ module _ (b : Broker) (who : Option Text) (names : Names) where
       waiting = λ q w e. inl (without_is b.waiting f.token q w e).1;
       fated = stay_same _ who [] b (drop_waiting b f.token) refl;
       versions = λ given. secrets_same b.secrets b.secrets refl;
-      keeps = record { clock = refl; used = refl; tokens = refl; secrets = refl; waiting = tt; mounts = refl; roles = refl; policies = refl };
+      keeps = record {
+        clock = refl;
+        used = refl;
+        tokens = refl;
+        secrets = refl;
+        waiting = tt;
+        mounts = refl;
+        roles = refl;
+        policies = refl;
+      };
     }
 
   pub acts : (command : WrappingCommand) (d : Done) → act_on_wrappings b names command ≡ Ok d → DoesIt command d

@@ -37,7 +37,8 @@ use Rattle.broker_model.specs.Traits.{wrapping_names}
 use Rattle.broker_model.specs.declared.commands.WrappingCommand.{WrappingCommand}
 use Rattle.broker_model.specs.declared.commands.WrappingCommand.TheVariants as command
 use Rattle.broker_model.specs.parts.WrappingCommands.{token_meant, is_own, wrapping_traits}
-use Rattle.broker_model.specs.parts.Wrappings.{FoundResponse, found_under, found, rewrapped, handed_out, act_on_wrappings}
+use Rattle.broker_model.specs.parts.Wrappings.{FoundResponse, found_under, found, rewrapped, handed_out}
+use Rattle.broker_model.specs.parts.Wrappings.{act_on_wrappings}
 use Rattle.broker_model.proofs.WrappingEffects as effects
 use Rattle.broker_model.proofs.WrappingEffects.{found_is}
 
@@ -47,7 +48,8 @@ use Rattle.broker_model.proofs.WrappingEffects.{found_is}
 pub acts : (b : Broker) (names : Names) (command : WrappingCommand) (d : Done)
     → are_new b.used ((wrapping_traits command).own names) ≡ true → act_on_wrappings b names command ≡ Ok d
     → IsProper b ((wrapping_traits command).own names) d
-acts b names command d new e = proper_of b None names (on_wrapping command) d (effects.acts b None names command d e) new
+acts b names command d new e = proper_of b None names (on_wrapping command) d
+    (effects.acts b None names command d e) new
 
 -- ---- what is sound stays so
 
@@ -59,10 +61,13 @@ module _ (forms : Forms) (who : Option Text) (b : Broker) (sound : Sound forms w
       let u = token_text names.wrapping_token in
       let a = names.wrapping_accessor in
       let two = two_of b.used names.wrapping_token a [] new in
-      let after = λ (o : Option Waiting). option_map_or (λ w. with_waiting (drop_waiting b f.token) u (moved a b.clock w)) o b in
-      subst (λ (o : Option Waiting). Sound forms who (record (after o) { used = use_up (after o).used (wrapping_names names) }))
+      let after = λ (o : Option Waiting). option_map_or
+      (λ w. with_waiting (drop_waiting b f.token) u (moved a b.clock w)) o b in
+      subst (λ (o : Option Waiting). Sound forms who
+      (record (after o) { used = use_up (after o).used (wrapping_names names) }))
       (sym is)
-      (rewrap_sound forms who b sound f.token u a b.clock f.response is sound.clock (names.wrapping_token, good.token, refl)
+      (rewrap_sound forms who b sound f.token u a b.clock f.response is sound.clock
+      (names.wrapping_token, good.token, refl)
       good.accessor two.one two.two two.differ)
 
   -- a command leaves a sound broker sound
@@ -86,7 +91,8 @@ module _ (b : Broker) (names : Names) where
   found_there : (t : Text) (w : Waiting) (f : FoundResponse) → get b.waiting t ≡ Some w → found b (Some t) ≡ Ok f
       → found_under t w ≡ f
   found_there t w f is e =
-      ok_inj (sym (ap (λ o. some_or (refusal.BadRequest reason.InvalidWrappingToken) (option_map (found_under t) o)) is) ∙ e)
+      ok_inj (sym (ap (λ o. some_or (refusal.BadRequest reason.InvalidWrappingToken) (option_map (found_under t) o)) is)
+      ∙ e)
 
   -- a wrapping token that waits was given out, so a new one is another
   other_token : (t : Text) (w : Waiting) → SoundIdentifiers b → IsNew b names.wrapping_token → get b.waiting t ≡ Some w
@@ -165,7 +171,8 @@ module _ (b : Broker) (path : Text) (ttl : ℕ) (names : Names) (d : Done) (r : 
       → Evolves b (wrap b path ttl names d r made).done.next
   wrap_evolves new used evolves =
       evolves_trans b d.next (with_waiting d.next (token_text names.wrapping_token) entry) evolves
-      (store_evolves d.next (token_text names.wrapping_token) entry (ap (λ (m : Map ⊤). get m names.wrapping_token) used ∙ new) refl)
+      (store_evolves d.next (token_text names.wrapping_token) entry
+      (ap (λ (m : Map ⊤). get m names.wrapping_token) used ∙ new) refl)
 
   pub wrap_adds_one : (t : Text) (w : Waiting) → AddsNone b d.next
       → get (wrap b path ttl names d r made).done.next.waiting t ≡ Some w

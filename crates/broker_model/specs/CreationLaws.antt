@@ -31,7 +31,8 @@ passed true u r e = refl
 passed false u r e = absurd (cc)
 
 -- each test of the creation, in its order
-pub record IsAllowed (privileged : Bool) (making : Making) (x : Token) (ps : List Text) (asked : TokenCreation) : Type 0 where
+pub record IsAllowed (privileged : Bool) (making : Making) (x : Token) (ps : List Text)
+    (asked : TokenCreation) : Type 0 where
   pub unlimited : x.uses_left ≡ None
   pub named : list_all is_name asked.policies ≡ true
   pub root : (have_root x.policies || not (have_root asked.policies)) ≡ true
@@ -47,11 +48,15 @@ module _ (privileged : Bool) (making : Making) (x : Token) (ps : List Text) (ask
       let one = ok_step (unless (is_none x.uses_left) (refusal.BadRequest reason.RestrictedToken)) _ u e in
       let two = ok_step (unless (list_all is_name asked.policies) (refusal.BadRequest reason.InvalidName)) _ u one.2 in
       let three =
-      ok_step (unless (have_root x.policies || not (have_root asked.policies)) (refusal.BadRequest reason.RootByRootAlone)) _ u two.2 in
+      ok_step (unless (have_root x.policies || not (have_root asked.policies))
+      (refusal.BadRequest reason.RootByRootAlone)) _ u two.2 in
       let four =
-      ok_step (unless (privileged || list_all (has x.policies) asked.policies) (refusal.BadRequest reason.PoliciesBeyondParent)) _ u three.2 in
-      let five = ok_step (unless (privileged || (makes_orphans making || not asked.no_parent)) (refusal.BadRequest reason.OrphanNeedsSudo)) _ u four.2 in
-      let six = ok_step (unless (is_none x.ends || not (has_no_end ps asked)) (refusal.BadRequest reason.ExpiringRoot)) _ u five.2 in
+      ok_step (unless (privileged || list_all (has x.policies) asked.policies)
+      (refusal.BadRequest reason.PoliciesBeyondParent)) _ u three.2 in
+      let five = ok_step (unless (privileged || (makes_orphans making || not asked.no_parent))
+      (refusal.BadRequest reason.OrphanNeedsSudo)) _ u four.2 in
+      let six = ok_step (unless (is_none x.ends || not (has_no_end ps asked)) (refusal.BadRequest reason.ExpiringRoot))
+      _ u five.2 in
       record {
         unlimited = is_nothing x.uses_left (passed _ one.0 _ one.1);
         named = passed _ two.0 _ two.1;
@@ -80,7 +85,8 @@ set_has ts q = get-from_entries nat_list_cmp_total (map member ts) q ∙ find_ha
 -- a set has the texts that it was made of
 pub has_set : (ts : List Text) (q : Text) → has (keys (set_of ts)) q ≡ has ts q
 has_set ts q =
-    (λ i. list_any (λ t. same-text_cmp q t i) (keys (set_of ts))) ∙ sym (contains_key-keys (set_of ts) q) ∙ ap is_some (set_has ts q) ∙ by (has ts q)
+    (λ i. list_any (λ t. same-text_cmp q t i) (keys (set_of ts))) ∙ sym (contains_key-keys (set_of ts) q)
+    ∙ ap is_some (set_has ts q) ∙ by (has ts q)
   where
     by : (v : Bool) → is_some (cond v (Some (tt {0})) None) ≡ v
     by true = refl
@@ -96,12 +102,14 @@ in_all own (t ∷ ts) q all h =
     ]
 
 -- the policies given by a caller that adds `default` only if it has it are its own
-given_within : (own asked : List Text) (q : Text) → list_all (has own) asked ≡ true → has (policies_given (has own default_name) own asked) q ≡ true
+given_within : (own asked : List Text) (q : Text) → list_all (has own) asked ≡ true
+    → has (policies_given (has own default_name) own asked) q ≡ true
     → has own q ≡ true
 given_within own [] q all h = h
 given_within own (p ∷ ps) q all h = by (has own default_name) refl h
   where
-    by : (v : Bool) → has own default_name ≡ v → has (if v then default_name ∷ p ∷ ps else p ∷ ps) q ≡ true → has own q ≡ true
+    by : (v : Bool) → has own default_name ≡ v → has (if v then default_name ∷ p ∷ ps else p ∷ ps) q ≡ true
+        → has own q ≡ true
     by true adds g = elim (or_cases (same q default_name) (has (p ∷ ps) q) g) [
       | inl here ↦ ap (has own) (same_true q default_name here) ∙ adds
       | inr later ↦ in_all own (p ∷ ps) q all later
@@ -112,7 +120,8 @@ kept : (p : Text → Bool) (ts : List Text) (q : Text) → has (filter p ts) q �
 kept p [] q h = h
 kept p (t ∷ ts) q h = by (p t) (kept p ts q) h
   where
-    by : (v : Bool) → (has (filter p ts) q ≡ true → has ts q ≡ true) → has (if v then t ∷ filter p ts else filter p ts) q ≡ true
+    by : (v : Bool) → (has (filter p ts) q ≡ true → has ts q ≡ true)
+        → has (if v then t ∷ filter p ts else filter p ts) q ≡ true
         → (same q t || has ts q) ≡ true
     by true rest g = elim (or_cases (same q t) (has (filter p ts) q) g) [
       | inl here ↦ ap (λ v. v || has ts q) here
@@ -127,7 +136,8 @@ module _ (privileged : Bool) (x : Token) (asked : TokenCreation) where
   abbrev given : List Text
   given = policies_given (privileged || has x.policies default_name) x.policies asked.policies
 
-  chosen : (v : Bool) (q : Text) → has (keys (set_of (if v then without_default given else given))) q ≡ true → has given q ≡ true
+  chosen : (v : Bool) (q : Text) → has (keys (set_of (if v then without_default given else given))) q ≡ true
+      → has given q ≡ true
   chosen true q h = kept (λ p. not (same p default_name)) given q (sym (has_set (without_default given) q) ∙ h)
   chosen false q h = sym (has_set given q) ∙ h
 
@@ -135,7 +145,8 @@ module _ (privileged : Bool) (x : Token) (asked : TokenCreation) where
   are_given q h = by (have_root given) refl h
     where
       by : (v : Bool) → have_root given ≡ v
-          → has (if v then codes "root" ∷ [] else keys (set_of (if asked.no_default_policy then without_default given else given))) q ≡ true
+          → has (if v then codes "root" ∷ [] else keys
+          (set_of (if asked.no_default_policy then without_default given else given))) q ≡ true
           → has given q ≡ true
       by true root g = elim (or_cases (same q (codes "root")) false g) [
         | inl here ↦ ap (has given) (same_true q (codes "root") here) ∙ root
@@ -144,7 +155,8 @@ module _ (privileged : Bool) (x : Token) (asked : TokenCreation) where
       by false root g = chosen asked.no_default_policy q g
 
 -- without privileges, they are the caller's
-pub no_more_policies : (x : Token) (asked : TokenCreation) → list_all (has x.policies) asked.policies ≡ true → (q : Text)
+pub no_more_policies : (x : Token) (asked : TokenCreation) → list_all (has x.policies) asked.policies ≡ true
+    → (q : Text)
     → has (new_policies false x asked) q ≡ true → has x.policies q ≡ true
 no_more_policies x asked all q h = given_within x.policies asked.policies q all (are_given false x asked q h)
 
@@ -154,9 +166,11 @@ unfolding same
 root_apart = refl
 
 -- `root` is given by a caller that has it
-pub root_is_own : (privileged : Bool) (x : Token) (asked : TokenCreation) → (have_root x.policies || not (have_root asked.policies)) ≡ true
+pub root_is_own : (privileged : Bool) (x : Token) (asked : TokenCreation)
+    → (have_root x.policies || not (have_root asked.policies)) ≡ true
     → has (new_policies privileged x asked) (codes "root") ≡ true → has x.policies (codes "root") ≡ true
-root_is_own privileged x asked may h = by asked.policies may (privileged || has x.policies default_name) (are_given privileged x asked (codes "root") h)
+root_is_own privileged x asked may h = by asked.policies may (privileged || has x.policies default_name)
+    (are_given privileged x asked (codes "root") h)
   where
     asked_for : (ps : List Text) → (have_root x.policies || not (have_root ps)) ≡ true → has ps (codes "root") ≡ true
         → has x.policies (codes "root") ≡ true

@@ -32,4 +32,5 @@ pub it_stays : (k m : Key) → m ≡ k → VersionsStay k m
 it_stays k m is = subst (VersionsStay k) (sym is) (versions_self k)
 
 pub secrets_same : (ks ms : Map Key) → ms ≡ ks → SecretsStay ks ms
-secrets_same ks ms is q k m one other = it_stays k m (same_Some _ _ (sym other ∙ ap (λ (z : Map Key). get z q) is ∙ one))
+secrets_same ks ms is q k m one other =
+    it_stays k m (same_Some _ _ (sym other ∙ ap (λ (z : Map Key). get z q) is ∙ one))

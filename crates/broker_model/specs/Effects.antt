@@ -43,7 +43,8 @@ pub record KeepsMaps (changes : Option Part) (b next : Broker) : Type 0 where
   pub clock : next.clock ≡ b.clock
   pub used : next.used ≡ b.used
   pub tokens : SameUnless
-      (may_change changes kind.Token || may_change changes kind.Cubby || may_change changes kind.Lease) b.tokens next.tokens
+      (may_change changes kind.Token || may_change changes kind.Cubby || may_change changes kind.Lease) b.tokens
+      next.tokens
   pub secrets : SameUnless (may_change changes kind.KvKey) b.secrets next.secrets
   pub waiting : SameUnless (may_change changes kind.Waiting) b.waiting next.waiting
   pub mounts : SameUnless (may_change changes kind.Mount) b.mounts next.mounts
@@ -85,7 +86,8 @@ IsFated stay changes b who names d = Stay changes who d.taken b d.next
 IsFated (make making asked) changes b who names d =
     (c : Text) × (who ≡ Some c) × (tokens.create b c names making asked ≡ Ok d)
 IsFated (renew named increment) changes b who names d =
-    (c : Text) × (t : Text) × (who ≡ Some c) × (text_named b c named ≡ Some t) × (tokens.renew b names t increment ≡ Ok d)
+    (c : Text) × (t : Text) × (who ≡ Some c) × (text_named b c named ≡ Some t)
+    × (tokens.renew b names t increment ≡ Ok d)
 IsFated (revoke named) changes b who names d =
     (c : Text) × (t : Text) × (who ≡ Some c) × (text_named b c named ≡ Some t) × (d ≡ tokens.revoke b t)
 IsFated (orphan t) changes b who names d = (c : Text) × (who ≡ Some c) × (d ≡ tokens.revoke_alone b t)
@@ -115,7 +117,8 @@ AllGiven b = (q : Text) (k : Key) → get b.secrets q ≡ Some k → AreGiven k
 
 -- ---- the whole
 
--- What an operation leaves. It gives out its own identifiers or none: none with a 204 or a 404. After a 404 with a reply
+-- What an operation leaves. It gives out its own identifiers or none: none with a 204 or a 404. After a 404 with a
+-- reply
 -- nothing has changed. What it hands out waited until then, and a text that waited is answered only so, and not if the
 -- reply may be wrapped. The only token that it tells is one of its own accessor. What waits did so, or moved to a
 -- wrapping token that was given out.

@@ -67,7 +67,8 @@ pub later_in : (i j : Text) (is : List Text) → list_any (same i) is ≡ true �
 later_in i j is h = elim (same i j) as (λ v. (v || list_any (same i) is) ≡ true) [ true ↦ refl | false ↦ h ]
 
 -- one of new identifiers is new
-pub member_new : (m : Map ⊤) (is : List Text) (i : Text) → are_new m is ≡ true → list_any (same i) is ≡ true → get m i ≡ None
+pub member_new : (m : Map ⊤) (is : List Text) (i : Text) → are_new m is ≡ true → list_any (same i) is ≡ true
+    → get m i ≡ None
 member_new m [] i new among = absurd (false≢true among)
 member_new m (j ∷ js) i new among =
     let p = and_parts (is_none (get m j)) (not (list_any (same j) js) && are_new m js) new in

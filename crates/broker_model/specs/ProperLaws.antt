@@ -35,44 +35,57 @@ use Rattle.broker_model.specs.Order.{IsProper}
 use Rattle.broker_model.specs.Step.{traits}
 use Rattle.broker_model.specs.Traits.{Fate, make, orphan, renew, revoke, stay}
 use Rattle.broker_model.specs.declared.making.Making.{Making}
-use Rattle.broker_model.specs.parts.TokenCreation.{is_privileged, making_path, may_make, new_parent, new_policies, new_token}
+use Rattle.broker_model.specs.parts.TokenCreation.{is_privileged, making_path, may_make, new_parent, new_policies}
+use Rattle.broker_model.specs.parts.TokenCreation.{new_token}
 use Rattle.broker_model.specs.parts.Tokens as tokens
 use Rattle.broker_model.specs.parts.Tokens.{known, new_end}
 
-module _ (b : Broker) (who : Option Text) (names : Names) (d : Done) (new : (i : Text) → IsGiven d.taken i → IsNew b i) where
+module _ (b : Broker) (who : Option Text) (names : Names) (d : Done)
+    (new : (i : Text) → IsGiven d.taken i → IsNew b i) where
   -- each token and each lease was there, or is new
   abbrev AreOld : Type 0
   AreOld =
       ((t : Text) (x : Token) → get d.next.tokens t ≡ Some x → (get b.tokens t ≢ None) ⊎ IsNew b (token_identifier t))
-      × ((t lease_id : Text) (l : Lease) → lease_of d.next t lease_id ≡ Some l → WasBefore b t lease_id l ⊎ IsNewLease b lease_id l)
+      × ((t lease_id : Text) (l : Lease) → lease_of d.next t lease_id ≡ Some l → WasBefore b t lease_id l
+      ⊎ IsNewLease b lease_id l)
 
   by_evolves : Evolves b d.next → AreOld
   by_evolves e = (e.tokens, e.leases)
 
-  make_evolves : (c : Text) (making : Making) (asked : TokenCreation) → tokens.create b c names making asked ≡ Ok d → Evolves b d.next
+  make_evolves : (c : Text) (making : Making) (asked : TokenCreation) → tokens.create b c names making asked ≡ Ok d
+      → Evolves b d.next
   make_evolves c making asked e =
       let x = ok_step (known b c) _ d e in
       let privileged = is_privileged b (making_path making) x.0 in
       let policies = new_policies privileged x.0 asked in
       let may = ok_step (may_make privileged making x.0 policies asked) _ d x.2 in
       let token_is_new : IsNew b names.token =
-      new names.token (subst (λ (z : Done). IsGiven z.taken names.token) (ok_inj may.2) (first_in names.token (names.accessor ∷ []))) in
+      new names.token (subst (λ (z : Done). IsGiven z.taken names.token) (ok_inj may.2)
+      (first_in names.token (names.accessor ∷ []))) in
       let made = create_evolves b (token_text names.token)
       (new_token b.clock (new_parent c making asked) names.accessor policies asked) refl token_is_new in
       subst (λ (z : Done). Evolves b z.next) (ok_inj may.2)
-      (record { used = λ i u. u; tokens = made.tokens; leases = made.leases; wrapping_tokens = made.wrapping_tokens; waiting = made.waiting })
+      (record {
+        used = λ i u. u;
+        tokens = made.tokens;
+        leases = made.leases;
+        wrapping_tokens = made.wrapping_tokens;
+        waiting = made.waiting;
+      })
 
   renewed_evolves : (t : Text) (increment : ℕ) → tokens.renew b names t increment ≡ Ok d → Evolves b d.next
   renewed_evolves t increment e =
       let x = ok_step (known b t) _ d e in
       let ending = ok_step (unless (is_some x.0.ends) (refusal.BadRequest reason.TokenNotRenewable)) _ d x.2 in
-      subst (λ (z : Done). Evolves b z.next) (ok_inj ending.2) (renew_evolves b t (new_end b.clock (token_entry x.0) increment))
+      subst (λ (z : Done). Evolves b z.next) (ok_inj ending.2)
+      (renew_evolves b t (new_end b.clock (token_entry x.0) increment))
 
   -- whatever becomes of tokens
   are_old : (changes : Option Part) (fate : Fate) → IsFated fate changes b who names d → AreOld
   are_old changes stay stays = (
     λ t x e.
-        let was = both_there (StaysAt changes who t) (get b.tokens t) x (subst (Both (StaysAt changes who t) (get b.tokens t)) e (stays.tokens t)) in
+        let was = both_there (StaysAt changes who t) (get b.tokens t) x
+        (subst (Both (StaysAt changes who t) (get b.tokens t)) e (stays.tokens t)) in
         inl (λ none. none-some _ (sym none ∙ was.1)),
     λ t lease_id l e. elim (stays.leases t lease_id l e) [
       | inl was ↦ inl was
@@ -83,12 +96,15 @@ module _ (b : Broker) (who : Option Text) (names : Names) (d : Done) (new : (i :
   are_old changes (renew named increment) (c, t, is, named_, e) = by_evolves (renewed_evolves t increment e)
   are_old changes (revoke named) (c, t, is, named_, e) =
       let next = broker.revoke b t in
-      by_evolves (subst (λ (z : Done). Evolves b z.next) (sym e) (evolves_trans b next _ (revoke_evolves b t) (drop_evolves next t)))
+      by_evolves (subst (λ (z : Done). Evolves b z.next) (sym e)
+      (evolves_trans b next _ (revoke_evolves b t) (drop_evolves next t)))
   are_old changes (orphan t) (c, is, e) =
       let next = broker.revoke_orphan b t in
-      by_evolves (subst (λ (z : Done). Evolves b z.next) (sym e) (evolves_trans b next _ (revoke_orphan_evolves b t) (drop_evolves next t)))
+      by_evolves (subst (λ (z : Done). Evolves b z.next) (sym e)
+      (evolves_trans b next _ (revoke_orphan_evolves b t) (drop_evolves next t)))
 
-module _ (b : Broker) (who : Option Text) (names : Names) (command : Command) (d : Done) (does : Does b who names command d)
+module _ (b : Broker) (who : Option Text) (names : Names) (command : Command) (d : Done)
+    (does : Does b who names command d)
     (new : are_new b.used ((traits command).own names) ≡ true) where
   given_new : (i : Text) → IsGiven d.taken i → IsNew b i
   given_new i given = elim does.gives_own [

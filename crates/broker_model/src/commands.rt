@@ -1,5 +1,5 @@
-//! What requests ask for, once their bodies are read: the commands, part by part. Where a command acts, as a path, stands
-//! beside it.
+//! What requests ask for, once their bodies are read: the commands, part by part. Where a command acts, as a path,
+//! stands beside it.
 
 ghost use Rattle.std.specs.Prelude.{◌≡◌};
 ghost use Rattle.broker_model.specs.parts.Issued.{issued_needs};

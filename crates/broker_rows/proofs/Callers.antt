@@ -31,11 +31,13 @@ module _ (b : Broker) (c : Text) where
   -- no object changes
   spent_objects : (t path : Text) → object_row (spend b c).tokens t path ≡ object_row b.tokens t path
   spent_objects t path =
-      ap (option_and_then (λ (x : Token). option_map (cubby_row t) (get x.cubbyhole path))) (get-change b.tokens c one_less t)
+      ap (option_and_then (λ (x : Token). option_map (cubby_row t) (get x.cubbyhole path)))
+      (get-change b.tokens c one_less t)
       ∙ inner (same t c) (get b.tokens t)
     where
       inner : (v : Bool) (o : Option Token)
-          → option_and_then (λ (x : Token). option_map (cubby_row t) (get x.cubbyhole path)) (option_map (λ x. if v then one_less x else x) o)
+          → option_and_then (λ (x : Token). option_map (cubby_row t) (get x.cubbyhole path))
+          (option_map (λ x. if v then one_less x else x) o)
           ≡ option_and_then (λ (x : Token). option_map (cubby_row t) (get x.cubbyhole path)) o
       inner v None = refl
       inner true (Some x) = refl
@@ -52,7 +54,8 @@ module _ (b : Broker) (c : Text) where
       → KeepsOthers of_tokens (table_of old) (table_of new) → Represents (Some c) new (spend b c)
   represents-spend old new st tells others = record {
     rows = other_tokens b (spend b c).tokens (table_of old) (table_of new) st.rows tells
-        (λ k q h. others k q (no_token k (is_object k h).0) ∙ ap (λ (t : Table). t k q) st.rows ∙ spent_cubbyholes k q h)
+        (λ k q h. others k q (no_token k (is_object k h).0) ∙ ap (λ (t : Table). t k q) st.rows
+        ∙ spent_cubbyholes k q h)
         (leases_still b (spend b c) old new st others (changed_leases b c one_less (λ x. refl)))
         (λ k q h. others k q (is_elsewhere k h).0);
     sound = spend_sound forms b c st.sound;
@@ -69,7 +72,8 @@ module _ (b : Broker) (c : Text) (old : Rows) (st : Represents (Some c) old b) w
   spent_revoked v told spent = ap (λ v. if v then revoke b c else b) (sym told ∙ spent)
 
   -- it has uses left, and nothing changes
-  pub represents-unspent : (new : Rows) (v : Bool) → IsSpent v → v ≡ false → new ≡ old → Represents None new (end_spent b (Some c))
+  pub represents-unspent : (new : Rows) (v : Bool) → IsSpent v → v ≡ false → new ≡ old
+      → Represents None new (end_spent b (Some c))
   represents-unspent new v told is same_rows =
       let ends : end_spent b (Some c) ≡ b = ap (λ v. if v then revoke b c else b) (sym told ∙ is) in
       record {
@@ -85,7 +89,8 @@ pub unknown_unspent : (o : Option Token) (found : Option TokenEntry) → found �
 unknown_unspent None found e none = refl
 unknown_unspent (Some x) found e none = absurd (none-some _ (sym none ∙ e))
 
-pub limit_told : (o : Option Token) (found : Option TokenEntry) (entry : TokenEntry) (v : Bool) → found ≡ option_map token_entry o
+pub limit_told : (o : Option Token) (found : Option TokenEntry) (entry : TokenEntry) (v : Bool)
+    → found ≡ option_map token_entry o
     → found ≡ Some entry → v ≡ option_map_or (λ n. n == 0) entry.uses_left false → v ≡ option_map_or is_spent o false
 limit_told None found entry v e some is = absurd (none-some _ (sym e ∙ some))
 limit_told (Some x) found entry v e some is =

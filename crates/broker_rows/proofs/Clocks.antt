@@ -22,8 +22,10 @@ use Rattle.records.specs.RowForms.{clock_row}
 use Rattle.token_tree.specs.Tokens.{without_expired}
 use Rattle.broker_rows.specs.Representing.{Represents}
 
-pub sound-with_clock : (b : Broker) (n : ℕ) → Sound forms None b → n ≤ greatest_moment → Sound forms None (with_clock b n)
-sound-with_clock b n s h = sound_with b n b.secrets b.mounts b.roles b.policies forms None s h s.secrets s.mounts s.roles s.policies
+pub sound-with_clock : (b : Broker) (n : ℕ) → Sound forms None b → n ≤ greatest_moment
+    → Sound forms None (with_clock b n)
+sound-with_clock b n s h =
+    sound_with b n b.secrets b.mounts b.roles b.policies forms None s h s.secrets s.mounts s.roles s.policies
 
 -- the clock's row put in place
 pub represents-with_clock : (b : Broker) (old new : Rows) (n : ℕ) → Represents None old b → n ≤ greatest_moment
@@ -43,7 +45,8 @@ alive_fewer b now q y e =
       subst (IsLess x.0) (sym x.3) (record {
         same_accessor = refl;
         fewer_leases = λ lease_id l f.
-            (kept_get (λ id. option_map_or (λ (l : Lease). nat_lt now l.ends) (get x.0.leases id) false) x.0.leases lease_id l f).0;
+            (kept_get (λ id. option_map_or (λ (l : Lease). nat_lt now l.ends) (get x.0.leases id) false) x.0.leases
+            lease_id l f).0;
       }),
     )
 
@@ -53,5 +56,6 @@ pub expired_tokens_sound : (b : Broker) (m : ℕ) → Sound forms None b → m �
 expired_tokens_sound b m sound within =
     let now = max b.clock m in
     let s = at_moment_sound forms None b sound m within in
-    fewer_sound forms None None b sound now (alive_at now b.tokens) b.waiting s.clock (tree_of forms None None _ s) (alive_fewer b now)
+    fewer_sound forms None None b sound now (alive_at now b.tokens) b.waiting s.clock (tree_of forms None None _ s)
+    (alive_fewer b now)
     (λ t w e. e) s.tokens.each s.unspent

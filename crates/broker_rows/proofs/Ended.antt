@@ -21,7 +21,8 @@ use Rattle.leases.specs.LeaseRows.{RepresentsLeases}
 use Rattle.leases.specs.Laws.{EndedAreTold}
 use Rattle.leases.specs.LeftLaws.{all_readable, ends_added, readable_after}
 use Rattle.broker_rows.specs.Ending.{of_belongings, AreTokenLong, LeavesNothing, LosesObjects}
-use Rattle.broker_rows.specs.EndingLaws.{leaves_others, neither, no_token, is_object, is_lease, is_elsewhere, other_tokens, others_kept}
+use Rattle.broker_rows.specs.EndingLaws.{leaves_others, neither, no_token, is_object, is_lease, is_elsewhere}
+use Rattle.broker_rows.specs.EndingLaws.{other_tokens, others_kept}
 use Rattle.broker_rows.specs.Left.{HaveEnded}
 use Rattle.broker_rows.specs.Representing.{Represents}
 use Rattle.broker_rows.specs.RepresentingLaws.{represents_leases, tells_part, tokens_long}
@@ -72,7 +73,8 @@ module _ {who after : Option Text} (b : Broker) (us : Tokens) (ended : List Text
   objects_there : Tells of_cubbyholes (table_of rest) b
   objects_there k q h =
       let object = is_object k h in
-      e.ends.others k q object.1 ∙ e.others k q (no_token k object.0) ∙ tells_part of_cubbyholes b e.old e.represents k q h
+      e.ends.others k q object.1 ∙ e.others k q (no_token k object.0)
+      ∙ tells_part of_cubbyholes b e.old e.represents k q h
 
   -- and all leases are, but those that were due
   leases_there : RepresentsLeases (table_of e.mid) b
@@ -97,16 +99,19 @@ module _ {who after : Option Text} (b : Broker) (us : Tokens) (ended : List Text
     leases_told law k q h =
         ap (λ (z : Table). z k q) leaves.cubbyholes ∙ others_kept ended (table_of leaves.mid) k q (is_lease k h).1
         ∙ law (either e.due (are_owned ended)) (table_of e.mid) (table_of leaves.mid) b c leases_there
-        (ends_added e.due (are_owned ended) (table_of e.mid) (table_of rest) (table_of leaves.mid) e.ends leaves.leases) e.leaves k q h
+        (ends_added e.due (are_owned ended) (table_of e.mid) (table_of rest) (table_of leaves.mid) e.ends leaves.leases)
+        e.leaves k q h
 
     -- the rows are those of the broker without the tokens
     pub represents-ended : EndedLeaveNothing → EndedAreTold → Represents after new c
     represents-ended objects leases = record {
       rows = other_tokens b us (table_of e.old) (table_of new) e.represents.rows
-          (λ k q h. leaves_others ended rest new leaves k q (no_belonging k h) ∙ e.ends.others k q (no_lease k h) ∙ e.tells k q h)
+          (λ k q h. leaves_others ended rest new leaves k q (no_belonging k h) ∙ e.ends.others k q (no_lease k h)
+          ∙ e.tells k q h)
           (objects_told objects) (leases_told leases)
           (λ k q h. let apart = is_elsewhere k h in
-          leaves_others ended rest new leaves k q apart.1 ∙ e.ends.others k q (neither (of_cubbyholes k) (of_leases k) apart.1).1
+          leaves_others ended rest new leaves k q apart.1
+          ∙ e.ends.others k q (neither (of_cubbyholes k) (of_leases k) apart.1).1
           ∙ e.others k q apart.0);
       sound = e.sound;
     }

@@ -49,9 +49,12 @@ module _ (b : Broker) (m n : ℕ) (first old : Rows) (st : Represents None first
       (expired_tokens_sound b m st.sound (le_trans (le-max_right b.clock m) within))
 
   -- what has come to its end by then is swept: tokens, and then leases
-  pub swept_left : (mid rest : Rows) (ended : List Text) → AreEnded (with_clock b n) (without_expired (with_clock b n) n) ended
-      → Tells of_tokens (table_of mid) (without_expired (with_clock b n) n) → KeepsOthers of_tokens (table_of old) (table_of mid)
-      → EndsLeases (leases.has_come n) (table_of mid) (table_of rest) → HaveEnded None None (with_clock b n) (alive_at n b.tokens) ended rest
+  pub swept_left : (mid rest : Rows) (ended : List Text)
+      → AreEnded (with_clock b n) (without_expired (with_clock b n) n) ended
+      → Tells of_tokens (table_of mid) (without_expired (with_clock b n) n)
+      → KeepsOthers of_tokens (table_of old) (table_of mid)
+      → EndsLeases (leases.has_come n) (table_of mid) (table_of rest)
+      → HaveEnded None None (with_clock b n) (alive_at n b.tokens) ended rest
   swept_left mid rest ended are tells others due = record {
     old = old;
     mid = mid;
@@ -73,8 +76,10 @@ module _ (b : Broker) (m n : ℕ) (first old : Rows) (st : Represents None first
       }
 
   -- the leases that are due can be read
-  pub due_readable : (mid : Rows) → KeepsOthers of_tokens (table_of old) (table_of mid) → AreReadable (leases.has_come n) (table_of mid)
-  due_readable mid others = all_readable (leases.has_come n) (table_of mid) (with_clock b n) (represents_leases (with_clock b n) old mid later others)
+  pub due_readable : (mid : Rows) → KeepsOthers of_tokens (table_of old) (table_of mid)
+      → AreReadable (leases.has_come n) (table_of mid)
+  due_readable mid others = all_readable (leases.has_come n) (table_of mid) (with_clock b n)
+      (represents_leases (with_clock b n) old mid later others)
 
   -- and then responses
   pub responses_swept : (left new : Rows) → Represents None left (without_expired (with_clock b n) n)
@@ -96,8 +101,10 @@ still_due timed asked mid n list due same others = record {
 }
 
 -- and once leases have, and nothing is left of the tokens
-pub due_yet : (timed asked mid live left : Rows) (n : ℕ) (list : List (RowKey × Row)) (ended : List Text) → AreDue timed n list
-    → asked ≡ timed → KeepsOthers of_tokens (table_of asked) (table_of mid) → KeepsOthers of_leases (table_of mid) (table_of live)
+pub due_yet : (timed asked mid live left : Rows) (n : ℕ) (list : List (RowKey × Row)) (ended : List Text)
+    → AreDue timed n list
+    → asked ≡ timed → KeepsOthers of_tokens (table_of asked) (table_of mid)
+    → KeepsOthers of_leases (table_of mid) (table_of live)
     → LeavesNothing ended live left → wrapping.AreStillDue n list (table_of left)
 due_yet timed asked mid live left n list ended due same tokens leases leaves = record {
   asked = timed;

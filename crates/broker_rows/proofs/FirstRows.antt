@@ -26,11 +26,14 @@ use Rattle.broker_rows.specs.Representing.{Represents}
 -- ---- rows put in turn
 
 pub settings_put : (r₀ r₁ r₂ r₃ : Rows) (moment : ℕ) (a b c : Row)
-    → r₁ ≡ map.insert r₀ (kind.Clock, []) a → r₂ ≡ map.insert r₁ (kind.Mount, codes "secret") b → r₃ ≡ map.insert r₂ (kind.Policy, codes "default") c
+    → r₁ ≡ map.insert r₀ (kind.Clock, []) a → r₂ ≡ map.insert r₁ (kind.Mount, codes "secret") b
+    → r₃ ≡ map.insert r₂ (kind.Policy, codes "default") c
     → a ≡ clock_row moment → b ≡ mount_row secret_mount → c ≡ policy_row default_policy → r₃ ≡ with_settings r₀ moment
 settings_put r₀ r₁ r₂ r₃ moment a b c e₁ e₂ e₃ fa fb fc =
-    e₃ ∙ ap (λ r. map.insert r (kind.Policy, codes "default") c) (e₂ ∙ ap (λ r. map.insert r (kind.Mount, codes "secret") b) e₁)
-    ∙ (λ i. map.insert (map.insert (map.insert r₀ (kind.Clock, []) (fa i)) (kind.Mount, codes "secret") (fb i)) (kind.Policy, codes "default") (fc i))
+    e₃ ∙ ap (λ r. map.insert r (kind.Policy, codes "default") c)
+    (e₂ ∙ ap (λ r. map.insert r (kind.Mount, codes "secret") b) e₁)
+    ∙ (λ i. map.insert (map.insert (map.insert r₀ (kind.Clock, []) (fa i)) (kind.Mount, codes "secret") (fb i))
+    (kind.Policy, codes "default") (fc i))
 
 -- what the row of a root token says
 abbrev root_says : Text → List Text → ℕ → List (Text × Text) → TokenEntry
@@ -47,7 +50,8 @@ root_says accessor policies issued meta = record {
   meta = meta;
 }
 
-pub root_entry : (moment : ℕ) (accessor acc : Text) (policies : List Text) (issued : ℕ) (meta : List (Text × Text)) → acc ≡ accessor
+pub root_entry : (moment : ℕ) (accessor acc : Text) (policies : List Text) (issued : ℕ) (meta : List (Text × Text))
+    → acc ≡ accessor
     → policies ≡ codes "root" ∷ [] → issued ≡ moment → meta ≡ []
     → entry_row (root_says acc policies issued meta) ≡ token_row (root_token moment accessor)
 root_entry moment accessor acc policies issued meta a p s m =
@@ -65,10 +69,13 @@ first_represented rows moment v w now fits_v fits_w differ is =
     }
 
 -- the rows that a start puts represent the first broker
-pub first_started : (rows settled started : Rows) (moment v w : ℕ) → moment ≤ greatest_moment → v < 2 ^ 128 → w < 2 ^ 128 → v ≢ w
-    → rows ≡ map.empty → settled ≡ with_settings rows moment → started ≡ with_root settled moment (id v) (id w) (token_text (id v))
+pub first_started : (rows settled started : Rows) (moment v w : ℕ) → moment ≤ greatest_moment → v < 2 ^ 128
+    → w < 2 ^ 128 → v ≢ w
+    → rows ≡ map.empty → settled ≡ with_settings rows moment
+    → started ≡ with_root settled moment (id v) (id w) (token_text (id v))
     → Represents None started (first_broker moment v w)
 first_started rows settled started moment v w now fits_v fits_w differ none e f =
-    let put_rows = ap table_of (f ∙ ap (λ r. with_root r moment (id v) (id w) (token_text (id v))) (e ∙ ap (λ r. with_settings r moment) none))
+    let put_rows = ap table_of
+    (f ∙ ap (λ r. with_root r moment (id v) (id w) (token_text (id v))) (e ∙ ap (λ r. with_settings r moment) none))
     ∙ rows-first moment v w in
     first_represented started moment v w now fits_v fits_w differ put_rows

@@ -25,7 +25,8 @@ IsCallerAt rows c = IsTokenAt (table_of rows) c.token (Some c.known)
 abbrev pub IsCallerOf : Broker → Caller → Type 0
 IsCallerOf b c = Some c.known ≡ option_map token_entry (get b.tokens c.token)
 
--- The rows of the policies of these names can be read, where they are there, and these are their rules for what is asked
+-- The rows of the policies of these names can be read, where they are there, and these are their rules for what is
+-- asked
 -- for with a verb.
 pub record AreRulesAt (rows : Rows) (names : List Text) (v : Verb) (rules : Rules) : Type 0 where
   pub readable : All (IsReadable (table_of rows)) names

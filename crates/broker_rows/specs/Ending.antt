@@ -56,7 +56,8 @@ KeepsCubbyholes old new =
 
 -- ---- what belonged to tokens that ended, whatever the rows are
 
--- What belonged to tokens that ended is gone: their leases, whose rows were read, and their cubbyholes. No other row has
+-- What belonged to tokens that ended is gone: their leases, whose rows were read, and their cubbyholes. No other row
+-- has
 -- changed.
 pub record LeavesNothing (ended : List Text) (old new : Rows) : Type 0 where
   pub mid : Rows

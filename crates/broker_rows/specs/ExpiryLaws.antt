@@ -100,7 +100,8 @@ module _ (moment now : ℕ) (old expired : Rows) (e : Expires moment now old exp
       (responses_alone e.responses.ended (table_of e.left))
 
   -- the row of a token is there, unless the token has ended
-  at_token : (t : Text) → table_of expired kind.Token t ≡ (if has e.ended t then None else table_of e.timed kind.Token t)
+  at_token : (t : Text) → table_of expired kind.Token t
+      ≡ (if has e.ended t then None else table_of e.timed kind.Token t)
   at_token t =
       left_alone_then kind.Token t refl ∙ swept_alone kind.Token t refl ∙ ap (λ (z : Table). z kind.Token t) e.ends.rows
 

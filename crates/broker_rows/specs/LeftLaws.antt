@@ -19,13 +19,16 @@ use Rattle.broker_rows.specs.Left.{HaveEnded}
 use Rattle.broker_rows.specs.Representing.{Represents}
 
 -- what a revocation leaves was there
-was_there : (b : Broker) (t q : Text) (y : Token) → get (without_descendants b.tokens t) q ≡ Some y → get b.tokens q ≡ Some y
+was_there : (b : Broker) (t q : Text) (y : Token) → get (without_descendants b.tokens t) q ≡ Some y
+    → get b.tokens q ≡ Some y
 was_there b t q y is = (kept_get (λ u. not (is_under b.tokens u t)) b.tokens q y is).0
 
 -- the token t was revoked, with all below it
-pub revoked_left : {who after : Option Text} (b : Broker) (t : Text) (old mid : Rows) (ended : List Text) → Represents who old b
+pub revoked_left : {who after : Option Text} (b : Broker) (t : Text) (old mid : Rows) (ended : List Text)
+    → Represents who old b
     → Sound forms after (revoke b t) → AreEnded b (revoke b t) ended → Tells of_tokens (table_of mid) (revoke b t)
-    → KeepsOthers of_tokens (table_of old) (table_of mid) → HaveEnded who after b (without_descendants b.tokens t) ended mid
+    → KeepsOthers of_tokens (table_of old) (table_of mid)
+    → HaveEnded who after b (without_descendants b.tokens t) ended mid
 revoked_left b t old mid ended st sound are tells others = record {
   old = old;
   mid = mid;

@@ -27,15 +27,16 @@ inner false false o u h = h
 abbrev pub marked : Broker → Text → Text → Broker
 marked b i j = record b { used = use_up b.used (i ∷ j ∷ []) }
 
-module _ (i j : Text) (mid new : Table) (is : new ≡ with_row (with_row mid kind.Used j used_row) kind.Used i used_row) where
-  marks_outside : (k : Kind) (q : Text) → of_used k ≡ false
-      → with_row (with_row mid kind.Used j used_row) kind.Used i used_row k q ≡ mid k q
-  marks_outside kind.Used q h = absurd (true≢false h)
-  marks_outside _ q h = refl
+module _ (i j : Text) (mid new : Table) (is : new ≡ with_row (with_row mid kind.Used j used_row) kind.Used i used_row)
+  where
+    marks_outside : (k : Kind) (q : Text) → of_used k ≡ false
+        → with_row (with_row mid kind.Used j used_row) kind.Used i used_row k q ≡ mid k q
+    marks_outside kind.Used q h = absurd (true≢false h)
+    marks_outside _ q h = refl
 
-  -- where two were marked, no other row has changed
-  pub marks_keep : KeepsOthers of_used mid new
-  marks_keep k q h = ap (λ (table : Table). table k q) is ∙ marks_outside k q h
+    -- where two were marked, no other row has changed
+    pub marks_keep : KeepsOthers of_used mid new
+    marks_keep k q h = ap (λ (table : Table). table k q) is ∙ marks_outside k q h
 
 module _ (b : Broker) (i j : Text) (mid new : Table)
     (is : new ≡ with_row (with_row mid kind.Used j used_row) kind.Used i used_row) where

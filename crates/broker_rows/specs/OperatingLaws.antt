@@ -15,7 +15,8 @@ use Rattle.broker_rows.specs.Operating.{ActsAs}
 
 module _ {X : Type 0} (b : Broker) (rows : Rows) (who : Option Text) (f : X → Done) (o : Option X) where
   -- the answer that shows what was found
-  pub acts_found : (x : X) (result : Result Code.Answered RequestError) → o ≡ Some x → ActsAs who b rows result (Ok (f x))
+  pub acts_found : (x : X) (result : Result Code.Answered RequestError) → o ≡ Some x
+      → ActsAs who b rows result (Ok (f x))
       → ActsAs who b rows result (some_or refusal.NotFound o >>= (λ x. Ok (f x)))
   acts_found x result is acts =
       subst (λ o. ActsAs who b rows result (some_or refusal.NotFound o >>= (λ x. Ok (f x)))) (sym is) acts

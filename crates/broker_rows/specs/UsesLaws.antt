@@ -31,7 +31,8 @@ pub uses_same : (old new : Rows) → new ≡ old → KeepsUses old new
 uses_same old new same t left = subst (λ (rows : Rows). IsSpentAt rows t false) (sym same) left
 
 -- a token whose row stays has the uses that it had
-pub uses_at : (old new : Rows) (t : Text) → table_of new kind.Token t ≡ table_of old kind.Token t → IsSpentAt old t false
+pub uses_at : (old new : Rows) (t : Text) → table_of new kind.Token t ≡ table_of old kind.Token t
+    → IsSpentAt old t false
     → IsSpentAt new t false
 uses_at old new t same left = (left.0, left.1, same ∙ left.2, left.3)
 
@@ -55,7 +56,8 @@ pub caller_at : {who : Option Text} (b : Broker) (rows : Rows) (c : Caller) → 
     → IsCallerAt rows c
 unfolding rows_of
 caller_at b rows c st is =
-    ap (λ (t : Table). t kind.Token c.token) st.rows ∙ by_entry (get b.tokens c.token) ∙ ap (option_map entry_row) (sym is)
+    ap (λ (t : Table). t kind.Token c.token) st.rows ∙ by_entry (get b.tokens c.token)
+    ∙ ap (option_map entry_row) (sym is)
   where
     by_entry : (o : Option Token) → option_map token_row o ≡ option_map entry_row (option_map token_entry o)
     by_entry None = refl
@@ -73,12 +75,14 @@ entry_told law (Some x) None good in_range same = absurd (none-some _ same)
 entry_told law (Some x) (Some e) good in_range same =
     ap Some (law e (token_entry x) (in_range e refl) (good x refl) (same_Some _ _ same))
 
-entry_spent : (o : Option Token) → option_map_or has_no_uses (option_map token_entry o) false ≡ option_map_or is_spent o false
+entry_spent : (o : Option Token) → option_map_or has_no_uses (option_map token_entry o) false
+    ≡ option_map_or is_spent o false
 entry_spent None = refl
 entry_spent (Some x) = refl
 
 -- the row of a token of a broker says whether it has spent its uses
-pub spent_told : {who : Option Text} (b : Broker) (t : Text) (rows : Rows) → TokenRowsTellTheirEntries → Represents who rows b
+pub spent_told : {who : Option Text} (b : Broker) (t : Text) (rows : Rows) → TokenRowsTellTheirEntries
+    → Represents who rows b
     → (v : Bool) → IsSpentAt rows t v → v ≡ option_map_or is_spent (get b.tokens t) false
 unfolding rows_of
 spent_told b t rows law st v at =

@@ -51,8 +51,8 @@ pub fn expire<T: RecordsTx>(alloc: Global, tx: &mut T, moment: Moment) -> Result
     Ok(now)
 }
 
-/// Moves the clock on to the moment, unless it is later already, and answers it. Its row is written only if it moves, so
-/// that a request which changes nothing else writes nothing.
+/// Moves the clock on to the moment, unless it is later already, and answers it. Its row is written only if it moves,
+/// so that a request which changes nothing else writes nothing.
 fn advance_clock<T: RecordsTx>(alloc: Global, tx: &mut T, moment: Moment) -> Result<Moment, Fault>
     ensures told { IsHonest (T.seen tx.new) → (b : Broker) → Represents None (T.seen tx.old).rows b
         → IfOk result (λ now. (now ≡ max b.clock moment) × Represents None (T.seen tx.new).rows (with_clock b now)) }

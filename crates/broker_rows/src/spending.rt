@@ -19,10 +19,10 @@ use broker_types::Fault;
 use records::{RecordsTx, TokenRecord};
 use std::alloc::Global;
 
-/// Takes a use from the caller, if its uses are limited, and answers what its row says then; nothing if there is no such
-/// token (Vault's documentation, "Token auth method (API)", `num_uses`).
-/// It fails with `Memory` if memory runs out, with `Storage` if the transaction's storage failed, and with `Damaged` if
-/// a row that it asks for cannot be read.
+/// Takes a use from the caller, if its uses are limited, and answers what its row says then; nothing if there is no
+/// such token (Vault's documentation, "Token auth method (API)", `num_uses`). It fails with `Memory` if memory runs
+/// out, with `Storage` if the transaction's storage failed, and with `Damaged` if a row that it asks for cannot be
+/// read.
 pub fn spend<T: RecordsTx>(
     alloc: Global,
     tx: &mut T,

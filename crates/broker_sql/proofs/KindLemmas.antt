@@ -57,20 +57,24 @@ pub record LookedSoFar (old now : Seen) (count : ℕ) : Type 0 where
   pub none : IsHonest now → (kind : Kind) → kind_number kind ≤ count → rows_under old.rows kind [] ≡ []
 
 -- and of the next kind there is none
-pub looked_further : (old now new : Seen) (i : ℕ) → LookedSoFar old now i → (IsHonest new → new.rows ≡ now.rows) → GoesOn now new false
+pub looked_further : (old now new : Seen) (i : ℕ) → LookedSoFar old now i → (IsHonest new → new.rows ≡ now.rows)
+    → GoesOn now new false
     → (IsHonest new → rows_under now.rows (slice_index_or kinds i k.Clock) [] ≡ []) → LookedSoFar old new (i + 1)
 looked_further old now new i so_far same on next =
     record {
       same = λ honest. same honest ∙ so_far.same (before honest);
       goes_on = goes_further old now new false so_far.goes_on on;
-      none = λ honest kind within. elim (nat_le (kind_number kind) i) as (λ b. nat_le (kind_number kind) i ≡ b → rows_under old.rows kind [] ≡ []) [
-        | true ↦ λ is. so_far.none (before honest) kind (grind (arith, nat_tests))
-        | false ↦ λ is.
-            let last : kind_number kind - 1 ≡ i = grind (arith, nat_tests) in
-            let this : slice_index_or kinds i k.Clock ≡ kind = subst (λ n. slice_index_or kinds n k.Clock ≡ kind) last (at_number kind) in
-            subst (λ l. rows_under old.rows l [] ≡ []) this
-            (subst (λ rows. rows_under rows (slice_index_or kinds i k.Clock) [] ≡ []) (so_far.same (before honest)) (next honest))
-      ] refl;
+      none = λ honest kind within. elim (nat_le (kind_number kind) i) as
+          (λ b. nat_le (kind_number kind) i ≡ b → rows_under old.rows kind [] ≡ []) [
+            | true ↦ λ is. so_far.none (before honest) kind (grind (arith, nat_tests))
+            | false ↦ λ is.
+                let last : kind_number kind - 1 ≡ i = grind (arith, nat_tests) in
+                let this : slice_index_or kinds i k.Clock ≡ kind =
+                subst (λ n. slice_index_or kinds n k.Clock ≡ kind) last (at_number kind) in
+                subst (λ l. rows_under old.rows l [] ≡ []) this
+                (subst (λ rows. rows_under rows (slice_index_or kinds i k.Clock) [] ≡ []) (so_far.same (before honest))
+                (next honest))
+          ] refl;
     }
   where
     before : IsHonest new → IsHonest now
@@ -85,7 +89,8 @@ none_first : (es : List (RowKey × Row))
 none_first [] none = refl
 none_first (e ∷ es) none =
     let rest = filter (λ d. is_of_kind e.0.0 d.0 && starts_with nat_eq d.0.1 []) es in
-    let no : (e ∷ rest) ≡ [] = subst (λ b. cond (b && starts_with nat_eq e.0.1 []) (e ∷ rest) rest ≡ []) (itself (kind_number e.0.0)) (none e.0.0) in
+    let no : (e ∷ rest) ≡ [] = subst (λ b. cond (b && starts_with nat_eq e.0.1 []) (e ∷ rest) rest ≡ [])
+    (itself (kind_number e.0.0)) (none e.0.0) in
     absurd cc
 
 entries-empty : entries (empty {K = RowKey} {X = Row} {R = key_cmp}) ≡ []
@@ -96,9 +101,11 @@ entries-empty =
 -- there is none at all
 pub no_rows : (old now : Seen) → LookedSoFar old now 13 → IsHonest now → old.rows ≡ empty
 no_rows old now so_far honest =
-    same_entries_map old.rows empty (none_first (entries old.rows) (λ kind. so_far.none honest kind (number_within kind)) ∙ sym entries-empty)
+    same_entries_map old.rows empty
+    (none_first (entries old.rows) (λ kind. so_far.none honest kind (number_within kind)) ∙ sym entries-empty)
 
 -- without rows there is none of a kind
 pub none_in_empty : (rows : Rows) (kind : Kind) → rows ≡ empty → rows_under rows kind [] ≡ []
 none_in_empty rows kind is =
-    ap (filter (λ e. is_of_kind kind e.0 && starts_with nat_eq e.0.1 [])) (ap (λ (r : Rows). entries r) is ∙ entries-empty)
+    ap (filter (λ e. is_of_kind kind e.0 && starts_with nat_eq e.0.1 []))
+    (ap (λ (r : Rows). entries r) is ∙ entries-empty)

@@ -87,9 +87,9 @@ impl<S: Alter> SqlStore<S> {
 
 impl<S: Alter + Drop> SqlStore<S> {
     /// The store of rows that were there before, with those of keys in format 1 rewritten in format 2, all of them or
-    /// none. If there are no rows, `start` makes the first broker; else the rows are those of a broker that was started.
-    /// It fails with `BadStart` exactly if there are rows and no row of the clock, with `Memory` if memory runs out, and
-    /// with `Storage` if the storage failed. The records are gone then.
+    /// none. If there are no rows, `start` makes the first broker; else the rows are those of a broker that was
+    /// started. It fails with `BadStart` exactly if there are rows and no row of the clock, with `Memory` if memory
+    /// runs out, and with `Storage` if the storage failed. The records are gone then.
     pub fn adopt(alloc: Global, records: SqlRecords<S>) -> Result<SqlStore<S>, Fault>
         ensures upgraded { IfOk result (λ store. IsHonestStore (sql_kept S.Store store)
             → AreUpgraded (table_of (kept_records S.Store records).rows) (table_of (sql_kept S.Store store).rows)) }

@@ -24,8 +24,8 @@ pub fn memory_returns_what_was_written()
         → IsHonestStore (⟦<SqlStore<FileStore<RamFile>> as Store>⟧.seen s) }
 {}
 
-/// A law: if the program stops between requests, while a store can be asked, an open finds the rows that were committed,
-/// and there are no others to find. So no request that was answered is lost.
+/// A law: if the program stops between requests, while a store can be asked, an open finds the rows that were
+/// committed, and there are no others to find. So no request that was answered is lost.
 pub fn what_was_committed_is_found<S: Alter>()
     ensures { AllFindTheirRows S.Store }
 {}

@@ -1,5 +1,6 @@
 -- Counting off years and months finds the date whose day number it is.
-use Rattle.std.proofs.Common.{◌≡◌, ℕ, zero, suc, ◌+◌, ◌-◌, ◌<◌, ◌≤◌, nat_lt, true, false, pos, ℤ, ◌-ℤ◌, refl, ap, ◌∙◌, arith, inl, inr}
+use Rattle.std.proofs.Common.{◌≡◌, ℕ, zero, suc, ◌+◌, ◌-◌, ◌<◌, ◌≤◌, nat_lt, true, false, pos, ℤ, ◌-ℤ◌, refl, ap, ◌∙◌}
+use Rattle.std.proofs.Common.{arith, inl, inr}
 use Rattle.std.proofs.lemmas.Bool.{cases_lt}
 use Rattle.std.proofs.lemmas.Bool.Decides.{nat_tests}
 use Rattle.jiff_core.specs.Calendar.{days_in_year, days_in_month, days_of_years, days_of_months}
@@ -38,7 +39,8 @@ year_here : (k s n : ℕ) → n < days_in_year (pos s) → day_from_year (suc k)
 unfolding day_from_year
 year_here k s n h = rw (day_from_year, is_true n (days_in_year (pos s)) h) refl
 
-year_later : (k s n : ℕ) → days_in_year (pos s) ≤ n → day_from_year (suc k) s n ≡ day_from_year k (suc s) (n - days_in_year (pos s))
+year_later : (k s n : ℕ) → days_in_year (pos s) ≤ n
+    → day_from_year (suc k) s n ≡ day_from_year k (suc s) (n - days_in_year (pos s))
 unfolding day_from_year
 year_later k s n h = rw (day_from_year, is_false n (days_in_year (pos s)) h) refl
 
@@ -66,7 +68,8 @@ year_found (suc k) s n y r from to e small =
           let at : suc s + (y - suc s) ≡ y = omega arith in
           let high : before (suc s) ≤ before y = rw at at rest in
           let past : days_in_year (pos s) ≤ n = omega arith in
-          year_later k s n past ∙ year_found k (suc s) (n - days_in_year (pos s)) y r more (omega arith) (omega arith) small
+          year_later k s n past ∙ year_found k (suc s) (n - days_in_year (pos s)) y r more (omega arith)
+          (omega arith) small
     ]
 
 months-suc : (y : ℤ) (p : ℕ) → days_of_months y (suc p) ≡ days_of_months y p + days_in_month y (suc p)
@@ -92,7 +95,8 @@ month_last y p n = refl
 same_day : (y : ℤ) (p q n r : ℕ) → p ≡ q → n + days_of_months y p ≡ days_of_months y q + r → (p ≡ q) × (n ≡ r)
 same_day y p q n r e h = let b : days_of_months y p ≡ days_of_months y q = ap (days_of_months y) e in (e, omega arith)
 
-pub month_found : (k y p n q r : ℕ) → p ≤ q → q ≤ p + k → n + days_of_months (pos y) p ≡ days_of_months (pos y) q + r → r < days_in_month (pos y) (suc q)
+pub month_found : (k y p n q r : ℕ) → p ≤ q → q ≤ p + k → n + days_of_months (pos y) p ≡ days_of_months (pos y) q + r
+    → r < days_in_month (pos y) (suc q)
     → day_from_month k y (suc p) n ≡ found y q r
 month_found zero y p n q r from to e small =
     let same = same_day (pos y) p q n r (omega arith) e in
@@ -107,5 +111,6 @@ month_found (suc k) y p n q r from to e small =
           let step = months-suc (pos y) p in
           let high = days_of_months_mono (pos y) (suc p) q more in
           let past : days_in_month (pos y) (suc p) ≤ n = omega arith in
-          month_later k y p n past ∙ month_found k y (suc p) (n - days_in_month (pos y) (suc p)) q r more (omega arith) (omega arith) small
+          month_later k y p n past ∙ month_found k y (suc p) (n - days_in_month (pos y) (suc p)) q r more (omega arith)
+          (omega arith) small
     ]

@@ -1,7 +1,9 @@
 -- A date of the library is the civil date of its day number.
-use Rattle.std.proofs.Common.{◌≡◌, ℕ, suc, ◌+◌, ◌-◌, ◌<◌, ◌≤◌, pos, negsuc, ℤ, ◌<ℤ◌, ◌≤ℤ◌, unsigned_abs, refl, sym, ◌∙◌, arith}
+use Rattle.std.proofs.Common.{◌≡◌, ℕ, suc, ◌+◌, ◌-◌, ◌<◌, ◌≤◌, pos, negsuc, ℤ, ◌<ℤ◌, ◌≤ℤ◌, unsigned_abs, refl, sym, ◌∙◌}
+use Rattle.std.proofs.Common.{arith}
 use Rattle.std.proofs.lemmas.Int.{by_lt_z}
-use Rattle.jiff_core.specs.Calendar.{days_in_month, days_of_years, days_of_months, day_count, days_from_civil, IsCivilDate}
+use Rattle.jiff_core.specs.Calendar.{days_in_month, days_of_years, days_of_months, day_count, days_from_civil}
+use Rattle.jiff_core.specs.Calendar.{IsCivilDate}
 use Rattle.jiff_core.proofs.CalendarLemmas.{day_count-lt_year, day_of_year_bound, days_of_months-zero}
 use Rattle.jiff_core.proofs.SignedLemmas.{signed_arith}
 use Rattle.broker_types.specs.Time.{civil}
@@ -36,7 +38,8 @@ found_at y m d n civ e ge =
     let high : y ≤ 9999 = omega (arith, signed_arith, civ.0.1) in
     let bound = day_of_year_bound (pos y) m d civ in
     let whole = split y m d n civ.1.0 civ.2.0 e in
-    let in_year = year_found 8029 1970 n y (days_of_months (pos y) (m - 1) + (d - 1)) low (omega arith) whole (omega arith) in
+    let in_year = year_found 8029 1970 n y (days_of_months (pos y) (m - 1) + (d - 1)) low (omega arith) whole
+    (omega arith) in
     let month : suc (m - 1) ≡ m = omega arith in
     let last : d - 1 < days_in_month (pos y) (suc (m - 1)) = rw month (omega (arith, civ.2.1)) in
     let in_month =

@@ -1,5 +1,6 @@
 -- Definitions computed on small inputs.
-use Rattle.std.specs.Prelude.{◌≡◌, ◌+◌, ℕ, List, [], ◌∷◌, true, false, not, cond, Option, Some, None, option_map, option_and_then, if◌then◌else◌, nat_lt}
+use Rattle.std.specs.Prelude.{◌≡◌, ◌+◌, ℕ, List, [], ◌∷◌, true, false, not, cond, Option, Some, None, option_map}
+use Rattle.std.specs.Prelude.{option_and_then, if◌then◌else◌, nat_lt}
 use Rattle.std.specs.Prelude.{length, replicate, codes, is_none, ◌&&◌, ⊤}
 use Rattle.std.specs.declared.cmp.Ordering.TheVariants.{Less, Greater}
 use Rattle.std.specs.FinMap as fin
@@ -7,16 +8,19 @@ use Rattle.std.specs.List.{find, list_any, list_all}
 use Rattle.std.specs.Option.{option_map_or}
 use Rattle.std.proofs.Common.{refl, ◌∙◌, ap}
 use Rattle.broker_types.specs.Text.{Text, text_cmp, same}
-use Rattle.broker_types.specs.Map.{Map, get, len, put, without, keep, with_values, map_values, change, first_where, entries, empty}
+use Rattle.broker_types.specs.Map.{Map, get, len, put, without, keep, with_values, map_values, change, first_where}
+use Rattle.broker_types.specs.Map.{entries, empty}
 use Rattle.broker_types.specs.Name.{is_name, is_mount_name}
 use Rattle.broker_types.specs.Token.{Token, Tokens, Lease}
-use Rattle.broker_types.specs.Lineage.{climb, lineage, is_under, without_descendants, without_parent, orphaned_by, outlasts, is_alive, alive_at}
+use Rattle.broker_types.specs.Lineage.{climb, lineage, is_under, without_descendants, without_parent, orphaned_by}
+use Rattle.broker_types.specs.Lineage.{outlasts, is_alive, alive_at}
 use Rattle.broker_types.specs.Lineage.{with_live_leases, ends_within}
 use Rattle.broker_types.specs.Broker.{Broker, Waiting, waiting_ends, at_moment, revoke}
 use Rattle.broker_types.specs.First.{root_token, first_broker}
 use Rattle.broker_types.specs.Sound.{is_ascending}
 use Rattle.broker_types.specs.Places as place
-use Rattle.broker_types.specs.Places.{token_identifier, lease_identifier, identifier_at, credential, wrapping_token, wrapping_accessor}
+use Rattle.broker_types.specs.Places.{token_identifier, lease_identifier, identifier_at, credential, wrapping_token}
+use Rattle.broker_types.specs.Places.{wrapping_accessor}
 use Rattle.broker_types.specs.Spending.{one_less, is_spent, spend, end_spent}
 use Rattle.broker_types.specs.Used.{are_new, use_up}
 use Rattle.broker_types.specs.MapLaws.{get-put, get-without, get-keep, get-map_values, get-change, entries-map_values}
@@ -89,7 +93,8 @@ each_changed = entries-map_values (λ k n. n + length k) two ∙ ap (with_values
 
 one_changed : entries (change two b (λ n. n + 5)) ≡ (a, 1) ∷ (b, 7) ∷ []
 unfolding same
-one_changed = entries-map_values (λ q n. if same q b then n + 5 else n) two ∙ ap (with_values (λ q n. if same q b then n + 5 else n)) entries-two
+one_changed = entries-map_values (λ q n. if same q b then n + 5 else n) two
+    ∙ ap (with_values (λ q n. if same q b then n + 5 else n)) entries-two
 
 first_above_one : first_where (λ k n. nat_lt 1 n) two ≡ Some (b, 2)
 first_above_one = ap (find (λ e. nat_lt 1 e.1)) entries-two
@@ -170,21 +175,25 @@ left = get-keep (λ q. not (is_under tree q t)) tree v ∙ ap (λ is. cond (not 
 
 orphaned : get (without_parent tree t) u ≡ Some (record (under t None) { parent = None })
 unfolding same
-orphaned = get-map_values (λ q. orphaned_by t) (without tree t) u ∙ ap (option_map (orphaned_by t)) (get-without tree t u ∙ at u)
+orphaned = get-map_values (λ q. orphaned_by t) (without tree t) u
+    ∙ ap (option_map (orphaned_by t)) (get-without tree t u ∙ at u)
 
 alone : get (without_parent tree t) t ≡ None
 unfolding same
 alone = get-map_values (λ q. orphaned_by t) (without tree t) t ∙ ap (option_map (orphaned_by t)) (get-without tree t t)
 
 alive : is_alive 9 tree u ≡ true
-alive = ap (list_all (λ q. outlasts 9 (option_and_then (λ (x : Token). x.ends) (get tree q)))) lineage-u ∙ rw (at u) (rw (at t) (rw (at r) refl))
+alive = ap (list_all (λ q. outlasts 9 (option_and_then (λ (x : Token). x.ends) (get tree q)))) lineage-u
+    ∙ rw (at u) (rw (at t) (rw (at r) refl))
 
 ended_above : is_alive 10 tree u ≡ false
-ended_above = ap (list_all (λ q. outlasts 10 (option_and_then (λ (x : Token). x.ends) (get tree q)))) lineage-u ∙ rw (at u) (rw (at t) refl)
+ended_above = ap (list_all (λ q. outlasts 10 (option_and_then (λ (x : Token). x.ends) (get tree q)))) lineage-u
+    ∙ rw (at u) (rw (at t) refl)
 
 ended : get (alive_at 10 tree) u ≡ None
 ended = get-map_values (λ q. with_live_leases 10) (keep (is_alive 10 tree) tree) u
-    ∙ ap (option_map (with_live_leases 10)) (get-keep (is_alive 10 tree) tree u ∙ ap (λ is. cond is (get tree u) None) ended_above)
+    ∙ ap (option_map (with_live_leases 10))
+    (get-keep (is_alive 10 tree) tree u ∙ ap (λ is. cond is (get tree u) None) ended_above)
 
 chain_ends : ends_within (len tree) tree u ≡ true
 chain_ends = ap (λ n. ends_within n tree u) four ∙ rw (at u) (rw (at t) (rw (at r) refl))
@@ -210,7 +219,14 @@ abbrev lease_id : Text
 lease_id = codes "db/creds/r/00000000-0000-0000-0000-000000000013"
 
 abbrev lease : Lease
-lease = record { issued = 4; ttl = 6; max_ttl = 0; ends = 10; renewed = None; credential = codes "00000000-0000-0000-0000-000000000014" }
+lease = record {
+  issued = 4;
+  ttl = 6;
+  max_ttl = 0;
+  ends = 10;
+  renewed = None;
+  credential = codes "00000000-0000-0000-0000-000000000014";
+}
 
 abbrev leases : Map Lease
 leases = fin.from_sorted ((lease_id, lease) ∷ [])
@@ -222,10 +238,12 @@ leased : get leases lease_id ≡ Some lease
 leased = fin.get-from_sorted text_cmp ((lease_id, lease) ∷ []) lease_id tt
 
 lease_lives : get (with_live_leases 9 lessee).leases lease_id ≡ Some lease
-lease_lives = get-keep (λ id. option_map_or (λ (l : Lease). nat_lt 9 l.ends) (get leases id) false) leases lease_id ∙ rw leased refl
+lease_lives = get-keep (λ id. option_map_or (λ (l : Lease). nat_lt 9 l.ends) (get leases id) false) leases lease_id
+    ∙ rw leased refl
 
 lease_ended : get (with_live_leases 10 lessee).leases lease_id ≡ None
-lease_ended = get-keep (λ id. option_map_or (λ (l : Lease). nat_lt 10 l.ends) (get leases id) false) leases lease_id ∙ rw leased refl
+lease_ended = get-keep (λ id. option_map_or (λ (l : Lease). nat_lt 10 l.ends) (get leases id) false) leases lease_id
+    ∙ rw leased refl
 
 abbrev wrapping : Text
 wrapping = codes "hvs.00000000-0000-0000-0000-000000000025"
@@ -251,10 +269,12 @@ waits : get waiting wrapping ≡ Some response
 waits = fin.get-from_sorted text_cmp ((wrapping, response) ∷ []) wrapping tt
 
 still_waits : get (at_moment broker 104).waiting wrapping ≡ Some response
-still_waits = get-keep (λ q. option_map_or (λ w. nat_lt 104 (waiting_ends w)) (get waiting q) false) waiting wrapping ∙ rw waits refl
+still_waits = get-keep (λ q. option_map_or (λ w. nat_lt 104 (waiting_ends w)) (get waiting q) false) waiting wrapping
+    ∙ rw waits refl
 
 waited : get (at_moment broker 105).waiting wrapping ≡ None
-waited = get-keep (λ q. option_map_or (λ w. nat_lt 105 (waiting_ends w)) (get waiting q) false) waiting wrapping ∙ rw waits refl
+waited = get-keep (λ q. option_map_or (λ w. nat_lt 105 (waiting_ends w)) (get waiting q) false) waiting wrapping
+    ∙ rw waits refl
 
 clock_moves_on : (at_moment broker 104).clock ≡ 104
 clock_moves_on = refl
@@ -270,10 +290,12 @@ of_token = refl
 of_lease : lease_identifier lease_id ≡ codes "00000000-0000-0000-0000-000000000013"
 of_lease = refl
 
-wrapping_token_stands : identifier_at broker (wrapping_token wrapping) ≡ Some (codes "00000000-0000-0000-0000-000000000025")
+wrapping_token_stands : identifier_at broker (wrapping_token wrapping)
+    ≡ Some (codes "00000000-0000-0000-0000-000000000025")
 wrapping_token_stands = rw waits refl
 
-its_accessor_stands : identifier_at broker (wrapping_accessor wrapping) ≡ Some (codes "00000000-0000-0000-0000-000000000026")
+its_accessor_stands : identifier_at broker (wrapping_accessor wrapping)
+    ≡ Some (codes "00000000-0000-0000-0000-000000000026")
 its_accessor_stands = rw waits refl
 
 lessee_stands : get broker.tokens r ≡ Some lessee

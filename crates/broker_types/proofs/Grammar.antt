@@ -1,5 +1,6 @@
 -- The texts that have seconds are those of the grammar.
-use Rattle.std.specs.Prelude.{◌≡◌, ◌≢◌, ◌≤◌, ◌<◌, ◌⊎◌, ℕ, suc, ◌+◌, ◌-◌, ◌*◌, ◌==◌, ◌&&◌, nat_le, List, [], ◌∷◌, ◌++◌, length, Bool, true, false, not, cond}
+use Rattle.std.specs.Prelude.{◌≡◌, ◌≢◌, ◌≤◌, ◌<◌, ◌⊎◌, ℕ, suc, ◌+◌, ◌-◌, ◌*◌, ◌==◌, ◌&&◌, nat_le, List, [], ◌∷◌, ◌++◌}
+use Rattle.std.specs.Prelude.{length, Bool, true, false, not, cond}
 use Rattle.std.specs.Prelude.{if◌then◌else◌, Option, Some, None, option_and_then, unwrap_or, All, sum_by}
 use Rattle.std.specs.List.{list_all, flat_map}
 use Rattle.std.specs.Char.{is_ascii_digit, digit_value}
@@ -14,8 +15,10 @@ use Rattle.std.proofs.lemmas.Str.Parse.{digit_from_value}
 use Rattle.std.proofs.lemmas.Bool.{false≢true}
 use Rattle.std.proofs.lemmas.Option.{none-some, same_Some}
 use Rattle.std.proofs.Math.Bool.{and-false}
-use Rattle.broker_types.specs.Duration.{unit_of, group_end, groups, with_unit, at_most, longest_duration, duration_of, TimeUnit, hours, minutes, seconds}
-use Rattle.broker_types.specs.Duration.{unit_byte, unit_seconds, Group, IsGroup, group_text, group_seconds, IsCount, IsSum, IsDuration}
+use Rattle.broker_types.specs.Duration.{unit_of, group_end, groups, with_unit, at_most, longest_duration, duration_of}
+use Rattle.broker_types.specs.Duration.{TimeUnit, hours, minutes, seconds}
+use Rattle.broker_types.specs.Duration.{unit_byte, unit_seconds, Group, IsGroup, group_text, group_seconds, IsCount}
+use Rattle.broker_types.specs.Duration.{IsSum, IsDuration}
 use Rattle.broker_types.proofs.Groups.{in_range}
 
 -- ---- digits
@@ -35,7 +38,8 @@ digit_small c h = let r = in_digits c h in let e = digit_value_digit c r in omeg
 all_digits : (s : List ℕ) → list_all is_ascii_digit s ≡ true → AllDigits 10 s
 all_digits [] h = tt
 all_digits (c ∷ cs) h =
-    elim (is_ascii_digit c) as (λ b. is_ascii_digit c ≡ b → (b && list_all is_ascii_digit cs) ≡ true → (digit_value c < 10) × AllDigits 10 cs) [
+    elim (is_ascii_digit c) as (λ b. is_ascii_digit c ≡ b → (b && list_all is_ascii_digit cs) ≡ true
+    → (digit_value c < 10) × AllDigits 10 cs) [
       | true ↦ λ e g. (digit_small c e, all_digits cs g)
       | false ↦ λ _ g. absurd (false≢true g)
     ] refl h
@@ -52,12 +56,16 @@ not_empty n = grind (arith, nat_tests)
 
 count_numeral : (s : List ℕ) → is_count s ≡ true → IsNumeral 10 s
 count_numeral [] h = absurd (false≢true h)
-count_numeral (c ∷ cs) h =
-    (omega arith, all_digits (c ∷ cs) (sym (ap (λ b. b && list_all is_ascii_digit (c ∷ cs)) (not_empty (length cs))) ∙ h))
+count_numeral (c ∷ cs) h = (
+  omega arith,
+  all_digits (c ∷ cs)
+      (sym (ap (λ b. b && list_all is_ascii_digit (c ∷ cs)) (not_empty (length cs))) ∙ h),
+)
 
 numeral_count : (s : List ℕ) → IsNumeral 10 s → is_count s ≡ true
 numeral_count [] h = absurd (omega (arith, h.0))
-numeral_count (c ∷ cs) h = ap (λ b. b && list_all is_ascii_digit (c ∷ cs)) (not_empty (length cs)) ∙ digits_all (c ∷ cs) h.1
+numeral_count (c ∷ cs) h = ap (λ b. b && list_all is_ascii_digit (c ∷ cs)) (not_empty (length cs))
+    ∙ digits_all (c ∷ cs) h.1
 
 -- ---- units
 
@@ -69,15 +77,17 @@ IsUnitByte c u = (x : TimeUnit) × (c ≡ unit_byte x) × (u ≡ unit_seconds x)
 
 unit_known : (c u : ℕ) → unit_of c ≡ Some u → IsUnitByte c u
 unit_known c u h =
-    elim (c == 104) as (λ b. (c == 104) ≡ b → cond b (Some 3600) (cond (c == 109) (Some 60) (cond (c == 115) (Some 1) None)) ≡ Some u → IsUnitByte c u) [
+    elim (c == 104) as (λ b. (c == 104) ≡ b
+    → cond b (Some 3600) (cond (c == 109) (Some 60) (cond (c == 115) (Some 1) None)) ≡ Some u → IsUnitByte c u) [
       | true ↦ λ e g. (hours, named c 104 e, sym (same_Some _ _ g))
-      | false ↦ λ _ g. elim (c == 109) as (λ b. (c == 109) ≡ b → cond b (Some 60) (cond (c == 115) (Some 1) None) ≡ Some u → IsUnitByte c u) [
-        | true ↦ λ e f. (minutes, named c 109 e, sym (same_Some _ _ f))
-        | false ↦ λ _ f. elim (c == 115) as (λ b. (c == 115) ≡ b → cond b (Some 1) None ≡ Some u → IsUnitByte c u) [
-          | true ↦ λ e k. (seconds, named c 115 e, sym (same_Some _ _ k))
-          | false ↦ λ _ k. absurd (none-some _ k)
-        ] refl f
-      ] refl g
+      | false ↦ λ _ g. elim (c == 109) as (λ b. (c == 109) ≡ b
+          → cond b (Some 60) (cond (c == 115) (Some 1) None) ≡ Some u → IsUnitByte c u) [
+            | true ↦ λ e f. (minutes, named c 109 e, sym (same_Some _ _ f))
+            | false ↦ λ _ f. elim (c == 115) as (λ b. (c == 115) ≡ b → cond b (Some 1) None ≡ Some u → IsUnitByte c u) [
+              | true ↦ λ e k. (seconds, named c 115 e, sym (same_Some _ _ k))
+              | false ↦ λ _ k. absurd (none-some _ k)
+            ] refl f
+          ] refl g
     ] refl h
 
 no_digit : (x : TimeUnit) → is_ascii_digit (unit_byte x) ≡ false
@@ -85,7 +95,8 @@ no_digit hours = refl
 no_digit minutes = refl
 no_digit seconds = refl
 
-at_unit : (x : TimeUnit) (sum v : ℕ) (rest : List ℕ) → groups sum (Some v) (unit_byte x ∷ rest) ≡ groups (sum + v * unit_seconds x) None rest
+at_unit : (x : TimeUnit) (sum v : ℕ) (rest : List ℕ)
+    → groups sum (Some v) (unit_byte x ∷ rest) ≡ groups (sum + v * unit_seconds x) None rest
 at_unit hours sum v rest = refl
 at_unit minutes sum v rest = refl
 at_unit seconds sum v rest = refl
@@ -97,19 +108,23 @@ through_digits : (ds : List ℕ) (sum d : ℕ) (rest : List ℕ) → AllDigits 1
 through_digits [] sum d rest h = refl
 through_digits (c ∷ ds) sum d rest h =
     let digit = is_digit c h.0 in
-    ap (λ b. option_and_then (λ p. groups p.0 p.1 (ds ++ rest)) (if b then Some (sum, Some (d * 10 + (c - 48))) else group_end sum (Some d) (unit_of c))) digit
+    ap (λ b. option_and_then (λ p. groups p.0 p.1 (ds ++ rest))
+    (if b then Some (sum, Some (d * 10 + (c - 48))) else group_end sum (Some d) (unit_of c))) digit
     ∙ ap (λ k. groups sum (Some (d * 10 + k)) (ds ++ rest)) (digit_is c digit)
     ∙ through_digits ds sum (d * 10 + digit_value c) rest h.1
 
-through_numeral : (ds : List ℕ) (sum : ℕ) (rest : List ℕ) → IsNumeral 10 ds → groups sum None (ds ++ rest) ≡ groups sum (Some (digits_value 10 ds)) rest
+through_numeral : (ds : List ℕ) (sum : ℕ) (rest : List ℕ) → IsNumeral 10 ds
+    → groups sum None (ds ++ rest) ≡ groups sum (Some (digits_value 10 ds)) rest
 through_numeral [] sum rest h = absurd (omega (arith, h.0))
 through_numeral (c ∷ ds) sum rest h =
     let digit = is_digit c h.1.0 in
-    ap (λ b. option_and_then (λ p. groups p.0 p.1 (ds ++ rest)) (if b then Some (sum, Some (0 * 10 + (c - 48))) else group_end sum None (unit_of c))) digit
+    ap (λ b. option_and_then (λ p. groups p.0 p.1 (ds ++ rest))
+    (if b then Some (sum, Some (0 * 10 + (c - 48))) else group_end sum None (unit_of c))) digit
     ∙ ap (λ k. groups sum (Some (0 * 10 + k)) (ds ++ rest)) (digit_is c digit)
     ∙ through_digits ds sum (0 * 10 + digit_value c) rest h.1.1
 
-through_group : (g : Group) (sum : ℕ) (rest : List ℕ) → IsGroup g → groups sum None (group_text g ++ rest) ≡ groups (sum + group_seconds g) None rest
+through_group : (g : Group) (sum : ℕ) (rest : List ℕ) → IsGroup g
+    → groups sum None (group_text g ++ rest) ≡ groups (sum + group_seconds g) None rest
 through_group g sum rest h =
     ap (groups sum None) (append_assoc g.digits (unit_byte g.unit ∷ []) rest)
     ∙ through_numeral g.digits sum (unit_byte g.unit ∷ rest) h
@@ -118,10 +133,12 @@ through_group g sum rest h =
 total_cons : (g : Group) (gs : List Group) → sum_by group_seconds (g ∷ gs) ≡ group_seconds g + sum_by group_seconds gs
 total_cons g gs = sum_by-cons group_seconds g gs
 
-through_groups : (gs : List Group) (sum : ℕ) → All IsGroup gs → groups sum None (flat_map group_text gs) ≡ Some (sum + sum_by group_seconds gs)
+through_groups : (gs : List Group) (sum : ℕ) → All IsGroup gs
+    → groups sum None (flat_map group_text gs) ≡ Some (sum + sum_by group_seconds gs)
 through_groups [] sum h = let e : sum ≡ sum + 0 = omega arith in ap Some e
 through_groups (g ∷ gs) sum h =
-    let e : sum + group_seconds g + sum_by group_seconds gs ≡ sum + sum_by group_seconds (g ∷ gs) = omega (arith, total_cons g gs) in
+    let e : sum + group_seconds g + sum_by group_seconds gs ≡ sum + sum_by group_seconds (g ∷ gs) =
+    omega (arith, total_cons g gs) in
     through_group g sum (flat_map group_text gs) (All-head IsGroup g gs h)
     ∙ through_groups gs (sum + group_seconds g) (All-tail IsGroup g gs h)
     ∙ ap Some e
@@ -149,19 +166,23 @@ abbrev Reads : ℕ → Option ℕ → List ℕ → ℕ → Type 0
 Reads sum None text n = AreGroups sum text n
 Reads sum (Some d) text n = AreGroupsAfter sum d text n
 
-one_digit : (sum : ℕ) (begun : Option ℕ) (c : ℕ) (cs : List ℕ) (n : ℕ) → is_ascii_digit c ≡ true → AreGroupsAfter sum (unwrap_or begun 0 * 10 + (c - 48)) cs n
+one_digit : (sum : ℕ) (begun : Option ℕ) (c : ℕ) (cs : List ℕ) (n : ℕ) → is_ascii_digit c ≡ true
+    → AreGroupsAfter sum (unwrap_or begun 0 * 10 + (c - 48)) cs n
     → Reads sum begun (c ∷ cs) n
 one_digit sum None c cs n digit r =
     let g : Group = record { digits = c ∷ r.digits; unit = r.unit } in
     let value : digits_value_after 10 (0 * 10 + (c - 48)) r.digits ≡ digits_value 10 (c ∷ r.digits) =
     ap (λ k. digits_value_after 10 (0 * 10 + k) r.digits) (digit_is c digit) in
-    let scaled : digits_value_after 10 (0 * 10 + (c - 48)) r.digits * unit_seconds r.unit ≡ group_seconds g = ap (λ k. k * unit_seconds r.unit) value in
+    let scaled : digits_value_after 10 (0 * 10 + (c - 48)) r.digits * unit_seconds r.unit ≡ group_seconds g =
+    ap (λ k. k * unit_seconds r.unit) value in
     record {
       parts = g ∷ r.parts;
       each = All-cons IsGroup g r.parts (omega arith, (digit_small c digit, r.are_digits)) r.each;
-      joined = ap (λ t. c ∷ t) r.joined ∙ sym (append_assoc (c ∷ r.digits) (unit_byte r.unit ∷ []) (flat_map group_text r.parts));
+      joined = ap (λ t. c ∷ t) r.joined
+          ∙ sym (append_assoc (c ∷ r.digits) (unit_byte r.unit ∷ []) (flat_map group_text r.parts));
       total = r.total
-          ∙ (let e : sum + digits_value_after 10 (0 * 10 + (c - 48)) r.digits * unit_seconds r.unit + sum_by group_seconds r.parts
+          ∙ (let e : sum + digits_value_after 10 (0 * 10 + (c - 48)) r.digits * unit_seconds r.unit
+          + sum_by group_seconds r.parts
           ≡ sum + sum_by group_seconds (g ∷ r.parts) = omega (arith, total_cons g r.parts, scaled) in e);
     }
 one_digit sum (Some d) c cs n digit r = record {
@@ -171,10 +192,12 @@ one_digit sum (Some d) c cs n digit r = record {
   parts = r.parts;
   each = r.each;
   joined = ap (λ t. c ∷ t) r.joined;
-  total = r.total ∙ ap (λ k. sum + digits_value_after 10 (d * 10 + k) r.digits * unit_seconds r.unit + sum_by group_seconds r.parts) (digit_is c digit);
+  total = r.total ∙ ap (λ k. sum + digits_value_after 10 (d * 10 + k) r.digits * unit_seconds r.unit
+      + sum_by group_seconds r.parts) (digit_is c digit);
 }
 
-one_unit : (sum d c u : ℕ) (cs : List ℕ) (n : ℕ) → unit_of c ≡ Some u → AreGroups (sum + d * u) cs n → AreGroupsAfter sum d (c ∷ cs) n
+one_unit : (sum d c u : ℕ) (cs : List ℕ) (n : ℕ) → unit_of c ≡ Some u → AreGroups (sum + d * u) cs n
+    → AreGroupsAfter sum d (c ∷ cs) n
 one_unit sum d c u cs n h r =
     let x = unit_known c u h in
     record {
@@ -188,22 +211,26 @@ one_unit sum d c u cs n h r =
     }
 
 reads : (cs : List ℕ) (sum : ℕ) (begun : Option ℕ) (n : ℕ) → groups sum begun cs ≡ Some n → Reads sum begun cs n
-reads [] sum None n e = record { parts = []; each = All-nil IsGroup; joined = refl; total = let f = same_Some _ _ e in omega (arith, f) }
+reads [] sum None n e =
+    record { parts = []; each = All-nil IsGroup; joined = refl; total = let f = same_Some _ _ e in omega (arith, f) }
 reads [] sum (Some d) n e = absurd (none-some _ e)
 reads (c ∷ cs) sum begun n e =
     elim (is_ascii_digit c)
     as (λ b. is_ascii_digit c ≡ b
-    → option_and_then (λ p. groups p.0 p.1 cs) (if b then Some (sum, Some (unwrap_or begun 0 * 10 + (c - 48))) else group_end sum begun (unit_of c))
+    → option_and_then (λ p. groups p.0 p.1 cs)
+    (if b then Some (sum, Some (unwrap_or begun 0 * 10 + (c - 48))) else group_end sum begun (unit_of c))
     ≡ Some n → Reads sum begun (c ∷ cs) n) [
       | true ↦ λ digit f. one_digit sum begun c cs n digit (reads cs sum (Some (unwrap_or begun 0 * 10 + (c - 48))) n f)
-      | false ↦ λ _ f. elim begun as (λ o. option_and_then (λ p. groups p.0 p.1 cs) (group_end sum o (unit_of c)) ≡ Some n → Reads sum o (c ∷ cs) n) [
-        | None ↦ λ g. absurd (none-some _ g)
-        | Some d ↦ λ g. elim (unit_of c)
-            as (λ o. unit_of c ≡ o → option_and_then (λ p. groups p.0 p.1 cs) (group_end sum (Some d) o) ≡ Some n → AreGroupsAfter sum d (c ∷ cs) n) [
-              | None ↦ λ _ k. absurd (none-some _ k)
-              | Some u ↦ λ is k. one_unit sum d c u cs n is (reads cs (sum + d * u) None n k)
-            ] refl g
-      ] f
+      | false ↦ λ _ f. elim begun as (λ o. option_and_then (λ p. groups p.0 p.1 cs) (group_end sum o (unit_of c))
+          ≡ Some n → Reads sum o (c ∷ cs) n) [
+            | None ↦ λ g. absurd (none-some _ g)
+            | Some d ↦ λ g. elim (unit_of c)
+                as (λ o. unit_of c ≡ o → option_and_then (λ p. groups p.0 p.1 cs) (group_end sum (Some d) o) ≡ Some n
+                → AreGroupsAfter sum d (c ∷ cs) n) [
+                  | None ↦ λ _ k. absurd (none-some _ k)
+                  | Some u ↦ λ is k. one_unit sum d c u cs n is (reads cs (sum + d * u) None n k)
+                ] refl g
+          ] f
     ] refl e
 
 -- ---- durations
@@ -211,8 +238,13 @@ reads (c ∷ cs) sum begun n e =
 at_most_is : (o : Option ℕ) (n : ℕ) → at_most o ≡ Some n → (o ≡ Some n) × (n ≤ longest_duration)
 at_most_is None n e = absurd (none-some _ e)
 at_most_is (Some m) n e =
-    elim (nat_le m 4294967295) as (λ b. nat_le m 4294967295 ≡ b → cond b (Some m) None ≡ Some n → (Some m ≡ Some n) × (n ≤ 4294967295)) [
-      | true ↦ λ t f. (f, let fits : m ≤ 4294967295 = grind (arith, nat_tests) in subst (λ k. k ≤ 4294967295) (same_Some _ _ f) fits)
+    elim (nat_le m 4294967295) as (λ b. nat_le m 4294967295 ≡ b → cond b (Some m) None ≡ Some n → (Some m ≡ Some n)
+    × (n ≤ 4294967295)) [
+      | true ↦ λ t f. (
+        f,
+        let fits : m ≤ 4294967295 = grind (arith, nat_tests) in
+            subst (λ k. k ≤ 4294967295) (same_Some _ _ f) fits,
+      )
       | false ↦ λ _ f. absurd (none-some _ f)
     ] refl e
 
@@ -232,7 +264,8 @@ of_duration s n e =
           let r = at_most_is (Some (digits_value 10 s)) n (sym (ap at_most (count_read s h)) ∙ e) in
           record { form = inl (inr (record { numeral = h; value = sym (same_Some _ _ r.0) })); fits = r.1 }
       | false ↦ λ t.
-          let r = at_most_is (groups 0 None s) n (sym (ap (λ b. at_most (groups 0 None (if b then s ++ 115 ∷ [] else s))) t) ∙ e) in
+          let r = at_most_is (groups 0 None s) n
+          (sym (ap (λ b. at_most (groups 0 None (if b then s ++ 115 ∷ [] else s))) t) ∙ e) in
           let whole = reads s 0 None n r.0 in
           record { form = by whole.parts whole.each whole.joined whole.total; fits = r.1 }
     ] refl
@@ -240,17 +273,21 @@ of_duration s n e =
     by : (parts : List Group) → All IsGroup parts → s ≡ flat_map group_text parts → n ≡ 0 + sum_by group_seconds parts
         → (((s ≡ []) × (n ≡ 0)) ⊎ IsCount s n) ⊎ IsSum s n
     by [] each joined total = inl (inl (joined, let f : n ≡ 0 = omega (arith, total) in f))
-    by (g ∷ gs) each joined total = inr (record { parts = g ∷ gs; some = λ f. absurd (cc); each = each; joined = joined; total = omega (arith, total) })
+    by (g ∷ gs) each joined total = inr
+        (record { parts = g ∷ gs; some = λ f. absurd (cc); each = each; joined = joined; total = omega (arith, total) })
 
-no_count : (ds : List ℕ) (x : TimeUnit) (rest : List ℕ) → list_all is_ascii_digit ((ds ++ unit_byte x ∷ []) ++ rest) ≡ false
+no_count : (ds : List ℕ) (x : TimeUnit) (rest : List ℕ)
+    → list_all is_ascii_digit ((ds ++ unit_byte x ∷ []) ++ rest) ≡ false
 no_count [] x rest = ap (λ b. b && list_all is_ascii_digit rest) (no_digit x)
 no_count (d ∷ ds) x rest = ap (λ b. is_ascii_digit d && b) (no_count ds x rest) ∙ and-false (is_ascii_digit d)
 
-sum_read : (gs : List Group) → gs ≢ [] → All IsGroup gs → groups 0 None (with_unit (flat_map group_text gs)) ≡ Some (0 + sum_by group_seconds gs)
+sum_read : (gs : List Group) → gs ≢ [] → All IsGroup gs
+    → groups 0 None (with_unit (flat_map group_text gs)) ≡ Some (0 + sum_by group_seconds gs)
 sum_read [] some each = absurd (some refl)
 sum_read (g ∷ gs) some each =
     let s : List ℕ = flat_map group_text (g ∷ gs) in
-    let fails : is_count s ≡ false = ap (λ b. not (length s == 0) && b) (no_count g.digits g.unit (flat_map group_text gs)) ∙ and-false (not (length s == 0)) in
+    let fails : is_count s ≡ false = ap (λ b. not (length s == 0) && b)
+    (no_count g.digits g.unit (flat_map group_text gs)) ∙ and-false (not (length s == 0)) in
     ap (λ b. groups 0 None (if b then s ++ 115 ∷ [] else s)) fails ∙ through_groups (g ∷ gs) 0 each
 
 pub to_duration : (s : List ℕ) (n : ℕ) → IsDuration s n → duration_of s ≡ Some n

@@ -1,14 +1,16 @@
 -- What the groups of a text come to.
 use Rattle.std.specs.List.{list_all}
 use Rattle.std.specs.Char.{is_ascii_digit}
-use Rattle.std.proofs.Common.{◌≡◌, ℕ, ◌+◌, ◌-◌, ◌*◌, ◌<◌, ◌≤◌, ◌==◌, ◌&&◌, nat_le, List, [], ◌∷◌, ◌++◌, length, get_or, drop, Bool, true, false, not, cond}
+use Rattle.std.proofs.Common.{◌≡◌, ℕ, ◌+◌, ◌-◌, ◌*◌, ◌<◌, ◌≤◌, ◌==◌, ◌&&◌, nat_le, List, [], ◌∷◌, ◌++◌, length, get_or}
+use Rattle.std.proofs.Common.{drop, Bool, true, false, not, cond}
 use Rattle.std.proofs.Common.{Option, Some, None, option_and_then, unwrap_or, refl, sym, ap, ◌∙◌, arith, add-one}
 use Rattle.std.proofs.Math.Nat.{mul-le-mul_left}
 use Rattle.std.proofs.Math.ListN.{drop_of_length-le}
 use Rattle.std.proofs.Math.Seq.{drop-cons}
 use Rattle.std.proofs.lemmas.List.{append-nil}
 use Rattle.std.proofs.lemmas.Bool.Decides.{nat_tests}
-use Rattle.broker_types.specs.Duration.{unit_of, group_end, group_step, groups, whole_groups, with_unit, at_most, duration_of}
+use Rattle.broker_types.specs.Duration.{unit_of, group_end, group_step, groups, whole_groups, with_unit, at_most}
+use Rattle.broker_types.specs.Duration.{duration_of}
 
 past : (n : ℕ) → 4294967295 < n → at_most (Some n) ≡ None
 past n h = let t : nat_le n 4294967295 ≡ false = grind (arith, nat_tests) in rw t refl
@@ -27,7 +29,8 @@ least_product : (n v : ℕ) → 1 ≤ v → n ≤ n * v
 least_product n v one = grind (arith, mul-le-mul_left n one)
 
 -- a sum that is too large stays so
-pub too_large : (cs : List ℕ) (sum : ℕ) (begun : Option ℕ) → 4294967295 < sum + unwrap_or begun 0 → at_most (groups sum begun cs) ≡ None
+pub too_large : (cs : List ℕ) (sum : ℕ) (begun : Option ℕ) → 4294967295 < sum + unwrap_or begun 0
+    → at_most (groups sum begun cs) ≡ None
 too_large [] sum None h = past sum (omega arith)
 too_large [] sum (Some n) h = refl
 too_large (c ∷ cs) sum begun h = by_digit (is_ascii_digit c) (λ t b k. too_large cs t b k)
@@ -43,7 +46,8 @@ too_large (c ∷ cs) sum begun h = by_digit (is_ascii_digit c) (λ t b k. too_la
         later (sum + n * v) None (omega arith)
 
     by_digit : (t : Bool) → ((t : ℕ) (b : Option ℕ) → 4294967295 < t + unwrap_or b 0 → at_most (groups t b cs) ≡ None)
-        → at_most (option_and_then (λ p. groups p.0 p.1 cs) (cond t (Some (sum, Some (unwrap_or begun 0 * 10 + (c - 48)))) (group_end sum begun (unit_of c))))
+        → at_most (option_and_then (λ p. groups p.0 p.1 cs)
+        (cond t (Some (sum, Some (unwrap_or begun 0 * 10 + (c - 48)))) (group_end sum begun (unit_of c))))
         ≡ None
     by_digit true later = later sum (Some (unwrap_or begun 0 * 10 + (c - 48))) (omega arith)
     by_digit false later = by_unit begun (unit_of c) h (λ v e. unit_least c v e) later
@@ -69,8 +73,10 @@ refused s i sum begun within rest e =
     let m = with_unit_is s in
     rw (m.1, rest m.0, left s i within, e) refl
 
-pub over : (s : List ℕ) (i sum : ℕ) (begun : Option ℕ) (total : ℕ) (digits : Option ℕ) → i < length s → Rest s sum begun i
-    → group_step sum begun (get_or s i 0) ≡ Some (total, digits) → 4294967295 < total + unwrap_or digits 0 → None ≡ duration_of s
+pub over : (s : List ℕ) (i sum : ℕ) (begun : Option ℕ) (total : ℕ) (digits : Option ℕ) → i < length s
+    → Rest s sum begun i
+    → group_step sum begun (get_or s i 0) ≡ Some (total, digits) → 4294967295 < total + unwrap_or digits 0
+    → None ≡ duration_of s
 over s i sum begun total digits within rest e h =
     let m = with_unit_is s in
     rw (m.1, rest m.0, left s i within, e) (sym (too_large (drop (i + 1) s ++ m.0) total digits h))
@@ -78,7 +84,8 @@ over s i sum begun total digits within rest e h =
 pub ended : (s : List ℕ) (i sum : ℕ) (begun : Option ℕ) → length s ≤ i → Rest s sum begun i
     → (not (length s == 0) && list_all is_ascii_digit s) ≡ false → at_most (whole_groups sum begun) ≡ duration_of s
 ended s i sum begun past_end rest e =
-    let whole : groups 0 None s ≡ groups sum begun (drop i s ++ []) = ap (groups 0 None) (sym (append-nil s)) ∙ rest [] in
+    let whole : groups 0 None s ≡ groups sum begun (drop i s ++ []) = ap (groups 0 None) (sym (append-nil s))
+    ∙ rest [] in
     rw (e, whole, drop_of_length-le s {i = i} past_end) refl
 
 pub in_range : (n : ℕ) → n ≤ 4294967295 → at_most (Some n) ≡ Some n

@@ -3,7 +3,8 @@ use Rattle.std.proofs.Common.{◌≡◌, Option, Some, None, Bool, true, false, 
 use Rattle.clap.specs.Words.{Text}
 use Rattle.brokerd.specs.CommandLine.{IsFlag, IsNotSet, IsSet}
 
-pub set : (o : Option Text) (flag : Bool) → (o ≡ None → flag ≡ false) → (o ≡ Some (codes "false") → flag ≡ false) → flag ≡ true → IsSet o
+pub set : (o : Option Text) (flag : Bool) → (o ≡ None → flag ≡ false) → (o ≡ Some (codes "false") → flag ≡ false)
+    → flag ≡ true → IsSet o
 set o false none other is = cc is
 set o true none other is = (λ e. cc (none e), λ e. cc (other e))
 

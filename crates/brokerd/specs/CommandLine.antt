@@ -1,5 +1,6 @@
 -- The command line of the program, as `clap` sees it (this project's).
-use Rattle.std.specs.Prelude.{◌≡◌, ◌≢◌, ◌⊎◌, ◌<◌, ◌^◌, codes, true, false, Bool, option_map, Option, Some, None, List, ℕ, ⊤, pos}
+use Rattle.std.specs.Prelude.{◌≡◌, ◌≢◌, ◌⊎◌, ◌<◌, ◌^◌, codes, true, false, Bool, option_map, Option, Some, None, List}
+use Rattle.std.specs.Prelude.{ℕ, ⊤, pos}
 use Rattle.std.specs.Str.Parse.{IsNumeral, digits_value, without_leading_plus}
 use Rattle.clap.specs.Words.{App, Row, Rule, Text, first_of, new_app, new_rule, one_of, with_rule, with_subcommand}
 use Rattle.clap.specs.declared.builder.action.ArgAction.TheVariants.{SetTrue}

@@ -1,8 +1,8 @@
 ghost use Rattle.std.specs.Prelude.{◌≡◌, IfOk, IfErr, IfSome, None, codes, false, map, string_bytes, true};
 ghost use Rattle.clap.specs.Words.{app_of, found_of, kind_of, rows_of, rule_of, subcommand_of, takes};
 ghost use Rattle.brokerd.specs.CommandLine.{program_app, check_app, replay_app, serve_app, listen_rule};
-ghost use Rattle.brokerd.specs.CommandLine.{at_once_rule, check_rule, checked_rule, connections_rule, db_rule, log_rule};
-ghost use Rattle.brokerd.specs.CommandLine.{stop_on_input_rule, until_stopped_rule};
+ghost use Rattle.brokerd.specs.CommandLine.{at_once_rule, check_rule, checked_rule, connections_rule, db_rule};
+ghost use Rattle.brokerd.specs.CommandLine.{log_rule, stop_on_input_rule, until_stopped_rule};
 ghost use Rattle.brokerd.specs.CommandLine.{IsMeant, IsCommandOf, IsCount, IsPlaces, LacksCount, LacksPlaces};
 
 use clap::error::{Error, ErrorKind};

@@ -1,5 +1,7 @@
--- Rows of one cubbyhole replaced: other rows stay, and a broker's rows are those of the broker with that cubbyhole edited.
-use Rattle.std.specs.Prelude.{◌≡◌, ◌&&◌, ◌==◌, [], not, nat_eq, Bool, true, false, if◌then◌else◌, Option, option_map, option_and_then, is_none}
+-- Rows of one cubbyhole replaced: other rows stay, and a broker's rows are those of the broker with that cubbyhole
+-- edited.
+use Rattle.std.specs.Prelude.{◌≡◌, ◌&&◌, ◌==◌, [], not, nat_eq, Bool, true, false, if◌then◌else◌, Option, option_map}
+use Rattle.std.specs.Prelude.{option_and_then, is_none}
 use Rattle.std.specs.List.{starts_with}
 use Rattle.std.proofs.Common.{refl, sym, ◌∙◌, ap}
 use Rattle.std.proofs.lemmas.Bool.{and_parts, and_from, false≢true}
@@ -41,31 +43,37 @@ others_kept t met r old new e own k q apart =
 
 module _ (b : Broker) (t : Text) (edit : Map Text → Map Text) where
   -- the rows of other kinds do not tell what the cubbyhole has
-  kept_at : (k : Kind) (q : Text) → (kind_number k == kind_number kind.Cubby) ≡ false → rows_of (edited b t edit) k q ≡ rows_of b k q
+  kept_at : (k : Kind) (q : Text) → (kind_number k == kind_number kind.Cubby) ≡ false
+      → rows_of (edited b t edit) k q ≡ rows_of b k q
   unfolding rows_of
   kept_at kind.Token q h =
       ap (option_map token_row) (get-change b.tokens t (with_cubbyhole edit) q)
       ∙ mapped_unseen token_row _ (unseen token_row (with_cubbyhole edit) (λ x. refl) (same q t)) (get b.tokens q)
   kept_at kind.Accessor q h =
-      ap (λ o. or_else o (option_map (λ e. accessor_row e.0 holder.WrappingToken) (first_where (λ t (w : Waiting). same w.accessor q) b.waiting))) (
+      ap (λ o. or_else o (option_map (λ e. accessor_row e.0 holder.WrappingToken)
+      (first_where (λ t (w : Waiting). same w.accessor q) b.waiting))) (
       ap (option_map (λ e. accessor_row e.0 holder.Token))
       (first_where-map_values _ (λ t (x : Token). same x.accessor q) (λ t (x : Token). same x.accessor q) b.tokens
       (λ u x. unseen (λ (x : Token). same x.accessor q) (with_cubbyhole edit) (λ x. refl) (same u t) x))
-      ∙ mapped_unseen (λ e. accessor_row e.0 holder.Token) _ (λ e. refl) (first_where (λ t (x : Token). same x.accessor q) b.tokens))
+      ∙ mapped_unseen (λ e. accessor_row e.0 holder.Token) _ (λ e. refl)
+      (first_where (λ t (x : Token). same x.accessor q) b.tokens))
   kept_at kind.Cubby q h = absurd (false≢true (sym h))
   kept_at kind.Lease q h =
       ap (option_and_then (λ e. option_map (λ l. lease_row e.0 l) (get e.1.leases q)))
       (first_where-map_values _ (λ t x. has_lease q x) (λ t x. has_lease q x) b.tokens
       (λ u x. unseen (has_lease q) (with_cubbyhole edit) (λ x. refl) (same u t) x))
       ∙ then_unseen (λ e. option_map (λ l. lease_row e.0 l) (get e.1.leases q)) _
-      (λ e. unseen (λ (x : Token). option_map (λ l. lease_row e.0 l) (get x.leases q)) (with_cubbyhole edit) (λ x. refl) (same e.0 t) e.1)
+      (λ e. unseen (λ (x : Token). option_map (λ l. lease_row e.0 l) (get x.leases q)) (with_cubbyhole edit) (λ x. refl)
+      (same e.0 t) e.1)
       (first_where (λ t x. has_lease q x) b.tokens)
   kept_at kind.Credential q h =
       ap (option_and_then (λ e. option_map (λ l. credential_row l.0) (lease_of_credential q e.1)))
-      (first_where-map_values _ (λ t x. not (is_none (lease_of_credential q x))) (λ t x. not (is_none (lease_of_credential q x))) b.tokens
+      (first_where-map_values _ (λ t x. not (is_none (lease_of_credential q x)))
+      (λ t x. not (is_none (lease_of_credential q x))) b.tokens
       (λ u x. unseen (λ x. not (is_none (lease_of_credential q x))) (with_cubbyhole edit) (λ x. refl) (same u t) x))
       ∙ then_unseen (λ e. option_map (λ l. credential_row l.0) (lease_of_credential q e.1)) _
-      (λ e. unseen (λ x. option_map (λ l. credential_row l.0) (lease_of_credential q x)) (with_cubbyhole edit) (λ x. refl) (same e.0 t) e.1)
+      (λ e. unseen (λ x. option_map (λ l. credential_row l.0) (lease_of_credential q x)) (with_cubbyhole edit)
+      (λ x. refl) (same e.0 t) e.1)
       (first_where (λ t x. not (is_none (lease_of_credential q x))) b.tokens)
   kept_at _ q h = refl
 
@@ -75,9 +83,11 @@ module _ (b : Broker) (t : Text) (edit : Map Text → Map Text) where
   tells_edited met r old new e cubby part told k q h =
       (λ i. e i k q)
       ∙ elim (kind_number k == kind_number kind.Cubby) as
-      (λ v. (kind_number k == kind_number kind.Cubby) ≡ v → (if v && met q then r else old k q) ≡ rows_of (edited b t edit) k q) [
+      (λ v. (kind_number k == kind_number kind.Cubby) ≡ v
+      → (if v && met q then r else old k q) ≡ rows_of (edited b t edit) k q) [
         | true ↦ λ is.
             let one : k ≡ kind.Cubby = same_kind k kind.Cubby is in
-            ap (λ o. if met q then r else o) (told k q h ∙ ap (λ k. rows_of b k q) one) ∙ sym (cubby q) ∙ ap (λ k. rows_of (edited b t edit) k q) (sym one)
+            ap (λ o. if met q then r else o) (told k q h ∙ ap (λ k. rows_of b k q) one) ∙ sym (cubby q)
+            ∙ ap (λ k. rows_of (edited b t edit) k q) (sym one)
         | false ↦ λ other. told k q h ∙ sym (kept_at k q other)
       ] refl

@@ -1,5 +1,6 @@
 -- Rows filed under their owners: those of a broker are, edits leave them so, and one owner's are one cubbyhole.
-use Rattle.std.specs.Prelude.{◌≡◌, ◌+◌, [], length, take, drop, nat_eq, Bool, true, false, if◌then◌else◌, Some, None, option_map}
+use Rattle.std.specs.Prelude.{◌≡◌, ◌+◌, [], length, take, drop, nat_eq, Bool, true, false, if◌then◌else◌, Some, None}
+use Rattle.std.specs.Prelude.{option_map}
 use Rattle.std.specs.List.{starts_with}
 use Rattle.std.proofs.Common.{refl, sym, ◌∙◌, ap, inl, inr}
 use Rattle.std.proofs.lemmas.Option.{none-some, same_Some}
@@ -31,7 +32,8 @@ brokers_filed rows b told q row at = by (has_slash q) refl (sym at ∙ told kind
     path : Text
     path = drop (token_len + 1) q
 
-    by : (v : Bool) → has_slash q ≡ v → Some row ≡ (if v then option_map (cubby_row t) (object_at b t path) else None) → IsFiled q row
+    by : (v : Bool) → has_slash q ≡ v → Some row ≡ (if v then option_map (cubby_row t) (object_at b t path) else None)
+        → IsFiled q row
     by true is e =
         let of = mapped (cubby_row t) (object_at b t path) row (sym e) in
         record {
@@ -43,10 +45,12 @@ brokers_filed rows b told q row at = by (has_slash q) refl (sym at ∙ told kind
 
 module _ (rows : Table) (t : Text) (filed : AreFiled rows) where
   -- rows stay filed if one of the owner comes
-  pub written_filed : (path object : Text) → length t ≡ token_len → AreFiled (with_row rows kind.Cubby (object_key t path) (cubby_row t object))
+  pub written_filed : (path object : Text) → length t ≡ token_len
+      → AreFiled (with_row rows kind.Cubby (object_key t path) (cubby_row t object))
   written_filed path object len q row at = by (same q (object_key t path)) refl at
     where
-      by : (v : Bool) → same q (object_key t path) ≡ v → (if v then Some (cubby_row t object) else rows kind.Cubby q) ≡ Some row → IsFiled q row
+      by : (v : Bool) → same q (object_key t path) ≡ v
+          → (if v then Some (cubby_row t object) else rows kind.Cubby q) ≡ Some row → IsFiled q row
       by true is e =
           let one : cubby_row t object ≡ row = same_Some _ _ e in
           record {
@@ -68,7 +72,8 @@ module _ (rows : Table) (t : Text) (filed : AreFiled rows) where
   dropped_filed q row at = left_filed q row (starts_with nat_eq q (object_key t [])) at
 
 -- a row at a key that begins with the token and a slash is the token's
-all_owned : (rows : Table) (t q : Text) → AreFiled rows → length t ≡ token_len → starts_with nat_eq q (object_key t []) ≡ true
+all_owned : (rows : Table) (t q : Text) → AreFiled rows → length t ≡ token_len
+    → starts_with nat_eq q (object_key t []) ≡ true
     → if_owned t (rows kind.Cubby q) ≡ rows kind.Cubby q
 all_owned rows t q filed len under = elim (found_or_not (rows kind.Cubby q)) [
   | inl none ↦ ap (if_owned t) none ∙ sym none
@@ -84,11 +89,14 @@ owned_alike rows others t filed also len alike q under =
     sym (all_owned rows t q filed len under) ∙ alike q ∙ all_owned others t q also len under
 
 -- what keeps the rows at other keys keeps the rows of other owners
-pub others_stay : (old new : Table) (t : Text) → AreFiled old → AreFiled new → length t ≡ token_len → KeepsOtherOwners t old new
+pub others_stay : (old new : Table) (t : Text) → AreFiled old → AreFiled new → length t ≡ token_len
+    → KeepsOtherOwners t old new
     → without_owned new kind.Cubby t ≡ without_owned old kind.Cubby t
-others_stay old new t filed also len keeps = sym (under_owned new t also len) ∙ (λ i k q. at k q i) ∙ under_owned old t filed len
+others_stay old new t filed also len keeps = sym (under_owned new t also len) ∙ (λ i k q. at k q i)
+    ∙ under_owned old t filed len
   where
-    at : (k : Kind) (q : Text) → without_under new kind.Cubby (object_key t []) k q ≡ without_under old kind.Cubby (object_key t []) k q
+    at : (k : Kind) (q : Text) → without_under new kind.Cubby (object_key t []) k q
+        ≡ without_under old kind.Cubby (object_key t []) k q
     at k q = elim (has_prefix kind.Cubby (object_key t []) k q) as (λ v. has_prefix kind.Cubby (object_key t []) k q ≡ v
         → (if v then None else new k q) ≡ (if v then None else old k q)) [
           | true ↦ λ _. refl

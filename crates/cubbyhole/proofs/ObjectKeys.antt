@@ -19,7 +19,8 @@ key_parts q h =
     elim (cases_lt token_len (length q)) [
       | inl within ↦
           let at : get_or q token_len 0 ≡ slash = eqb→eq (get_or q token_len 0) slash (subst T (sym h) tt) in
-          let front : drop token_len q ≡ slash ∷ drop (token_len + 1) q = drop-cons q token_len 0 within ∙ ap (λ x. x ∷ drop (token_len + 1) q) at in
+          let front : drop token_len q ≡ slash ∷ drop (token_len + 1) q = drop-cons q token_len 0 within
+          ∙ ap (λ x. x ∷ drop (token_len + 1) q) at in
           sym (take-append-drop token_len q) ∙ ap (λ r. take token_len q ++ r) front
       | inr short ↦ absurd (false≢true (ap (λ v. v == slash) (sym (get_or_past q token_len 0 short)) ∙ h))
     ]
@@ -41,11 +42,13 @@ key_met t path q len is =
       | true ↦ λ h.
           let parts = and_parts _ _ h in
           let one : q ≡ object_key t path = key_parts q is
-          ∙ (λ i. object_key (same_true (take token_len q) t parts.0 i) (same_true (drop (token_len + 1) q) path parts.1 i)) in
+          ∙ (λ i. object_key (same_true (take token_len q) t parts.0 i)
+          (same_true (drop (token_len + 1) q) path parts.1 i)) in
           ap (λ z. same z (object_key t path)) one ∙ same_self (object_key t path)
       | false ↦ λ apart. false_from_ne_true _ (λ h.
           let one : q ≡ object_key t path = same_true q (object_key t path) h in
-          let token : same (take token_len q) t ≡ true = ap (λ z. same (take token_len z) t) one ∙ ap (λ u. same u t) (key_token t path len) ∙ same_self t in
+          let token : same (take token_len q) t ≡ true = ap (λ z. same (take token_len z) t) one
+          ∙ ap (λ u. same u t) (key_token t path len) ∙ same_self t in
           let rest : same (drop (token_len + 1) q) path ≡ true = ap (λ z. same (drop (token_len + 1) z) path) one
           ∙ ap (λ u. same u path) (key_path t path len) ∙ same_self path in
           false≢true (sym apart ∙ (λ i. token i && rest i)))
@@ -62,9 +65,11 @@ begins t path =
 
 -- the key of a path is among the token's
 pub key_under : (t path q : Text) → same q (object_key t path) ≡ true → starts_with nat_eq q (object_key t []) ≡ true
-key_under t path q is = ap (λ z. starts_with nat_eq z (object_key t [])) (same_true q (object_key t path) is) ∙ begins t path
+key_under t path q is = ap (λ z. starts_with nat_eq z (object_key t [])) (same_true q (object_key t path) is)
+    ∙ begins t path
 
-follows : (t q : Text) → starts_with nat_eq q (object_key t []) ≡ true → q ≡ object_key t (drop (length (object_key t [])) q)
+follows : (t q : Text) → starts_with nat_eq q (object_key t []) ≡ true
+    → q ≡ object_key t (drop (length (object_key t [])) q)
 unfolding same
 follows t q h =
     let prefix = object_key t [] in
@@ -73,13 +78,16 @@ follows t q h =
     ∙ append_assoc t (slash ∷ []) (drop (length prefix) q)
 
 -- the keys of a token's cubbyhole are those that begin with the token and a slash
-pub key_owner : (t q : Text) → length t ≡ token_len → has_slash q ≡ true → starts_with nat_eq q (object_key t []) ≡ same (take token_len q) t
+pub key_owner : (t q : Text) → length t ≡ token_len → has_slash q ≡ true
+    → starts_with nat_eq q (object_key t []) ≡ same (take token_len q) t
 key_owner t q len is =
-    elim (same (take token_len q) t) as (λ v. same (take token_len q) t ≡ v → starts_with nat_eq q (object_key t []) ≡ v) [
+    elim (same (take token_len q) t) as (λ v. same (take token_len q) t ≡ v
+    → starts_with nat_eq q (object_key t []) ≡ v) [
       | true ↦ λ of.
           ap (λ k. starts_with nat_eq k (object_key t []))
           (key_parts q is ∙ ap (λ u. object_key u (drop (token_len + 1) q)) (same_true (take token_len q) t of))
           ∙ begins t (drop (token_len + 1) q)
       | false ↦ λ apart. false_from_ne_true _ (λ h.
-          false≢true (sym apart ∙ ap (λ u. same u t) (ap (take token_len) (follows t q h) ∙ key_token t (drop (length (object_key t [])) q) len) ∙ same_self t))
+          false≢true (sym apart ∙ ap (λ u. same u t) (ap (take token_len) (follows t q h)
+          ∙ key_token t (drop (length (object_key t [])) q) len) ∙ same_self t))
     ] refl

@@ -1,5 +1,6 @@
 -- The paths of a cubbyhole, and the keys of its rows.
-use Rattle.std.specs.Prelude.{◌≡◌, ◌||◌, List, [], ◌∷◌, ◌++◌, length, is_some, Option, Some, None, option_map, option_and_then}
+use Rattle.std.specs.Prelude.{◌≡◌, ◌||◌, List, [], ◌∷◌, ◌++◌, length, is_some, Option, Some, None, option_map}
+use Rattle.std.specs.Prelude.{option_and_then}
 use Rattle.std.specs.List.{list_any}
 use Rattle.std.specs.Option.{option_map_or}
 use Rattle.std.specs.Ordering.{eq_by_cmp}
@@ -44,7 +45,8 @@ pub paths_name : (rows : Rows) (b : Broker) (t : Text) → Tells of_cubbyholes (
     → AreNames rows kind.Cubby (object_key t []) (paths b t)
 paths_name rows b t told len path =
     ap (λ q. is_some (table_of rows kind.Cubby q)) (sym (key_joined t path))
-    ∙ ap is_some (told kind.Cubby (object_key t path) refl ∙ row_at b t path len) ∙ some-map (object_at b t path) ∙ has-paths b t path
+    ∙ ap is_some (told kind.Cubby (object_key t path) refl ∙ row_at b t path len) ∙ some-map (object_at b t path)
+    ∙ has-paths b t path
   where
     some-map : (o : Option Text) → is_some (option_map (cubby_row t) o) ≡ is_some o
     some-map None = refl

@@ -34,29 +34,35 @@ same_option t (Some x) None e = absurd (none-some _ (sym e))
 same_option t (Some x) (Some y) e = ap Some (same_object t x y (same_Some _ _ e))
 
 -- what the broker has at the path is what the row there keeps
-pub object_told : (rows : Table) (b : Broker) (t path : Text) (object : Option Text) → Tells of_cubbyholes rows b → length t ≡ token_len
+pub object_told : (rows : Table) (b : Broker) (t path : Text) (object : Option Text) → Tells of_cubbyholes rows b
+    → length t ≡ token_len
     → IsObjectAt rows t path object → object ≡ object_at b t path
-object_told rows b t path object told len is = same_option t object (object_at b t path) (sym is ∙ told kind.Cubby (object_key t path) refl ∙ row_at b t path len)
+object_told rows b t path object told len is =
+    same_option t object (object_at b t path) (sym is ∙ told kind.Cubby (object_key t path) refl ∙ row_at b t path len)
 
 -- there is a row where the broker has an object
 pub object_there : (rows : Table) (b : Broker) (t path : Text) → Tells of_cubbyholes rows b → length t ≡ token_len
     → is_some (rows kind.Cubby (object_key t path)) ≡ is_some (object_at b t path)
-object_there rows b t path told len = ap is_some (told kind.Cubby (object_key t path) refl ∙ row_at b t path len) ∙ of_object (object_at b t path)
+object_there rows b t path told len = ap is_some (told kind.Cubby (object_key t path) refl ∙ row_at b t path len)
+    ∙ of_object (object_at b t path)
   where
     of_object : (o : Option Text) → is_some (option_map (cubby_row t) o) ≡ is_some o
     of_object None = refl
     of_object (Some object) = refl
 
 -- and where the broker is sound, a row that is there can be read
-pub object_kept : (forms : Forms) (rows : Table) (b : Broker) (t path : Text) (row : Row) → SoundTokens forms b.tokens → Tells of_cubbyholes rows b
-    → length t ≡ token_len → rows kind.Cubby (object_key t path) ≡ Some row → (object : Text) × IsShortText object × (row ≡ cubby_row t object)
+pub object_kept : (forms : Forms) (rows : Table) (b : Broker) (t path : Text) (row : Row) → SoundTokens forms b.tokens
+    → Tells of_cubbyholes rows b
+    → length t ≡ token_len → rows kind.Cubby (object_key t path) ≡ Some row → (object : Text) × IsShortText object
+    × (row ≡ cubby_row t object)
 object_kept forms rows b t path row sound told len is = by_object (object_at b t path) refl
     (sym is ∙ told kind.Cubby (object_key t path) refl ∙ row_at b t path len)
   where
     short : (object : Text) → object_at b t path ≡ Some object → IsShortText object
     short object e = elim (found_or_not (get b.tokens t)) [
       | inl none ↦ absurd (none-some _ (sym (ap (option_and_then (λ (x : Token). get x.cubbyhole path)) none) ∙ e))
-      | inr x ↦ ((sound.each t x.0 x.1).cubbyhole path object (sym (ap (option_and_then (λ (x : Token). get x.cubbyhole path)) x.1) ∙ e)).1.short
+      | inr x ↦ ((sound.each t x.0 x.1).cubbyhole path object
+          (sym (ap (option_and_then (λ (x : Token). get x.cubbyhole path)) x.1) ∙ e)).1.short
     ]
 
     by_object : (o : Option Text) → object_at b t path ≡ o → Some row ≡ option_map (cubby_row t) o

@@ -21,7 +21,8 @@ use Rattle.cubbyhole.specs.Objects.{object_key, children_in}
 use Rattle.cubbyhole.proofs.ObjectKeys.{begins}
 
 -- what begins with the token, a slash and a folder begins with the token and the slash
-within : (t folder q : Text) → starts_with nat_eq q (object_key t folder) ≡ true → starts_with nat_eq q (object_key t []) ≡ true
+within : (t folder q : Text) → starts_with nat_eq q (object_key t folder) ≡ true
+    → starts_with nat_eq q (object_key t []) ≡ true
 unfolding same
 within t folder q h =
     let prefix = object_key t folder in
@@ -36,14 +37,17 @@ keys_are [] = refl
 keys_are (e ∷ es) = ap (λ z. e.0.1 ∷ z) (keys_are es)
 
 module _ (rows others : Rows) (prefix : Text)
-    (alike : (q : Text) → starts_with nat_eq q prefix ≡ true → fin.get rows (kind.Cubby, q) ≡ fin.get others (kind.Cubby, q)) where
+    (alike : (q : Text) → starts_with nat_eq q prefix ≡ true
+    → fin.get rows (kind.Cubby, q) ≡ fin.get others (kind.Cubby, q)) where
   -- the same rows are listed under the prefix
   same_listed : named (rows_under rows kind.Cubby prefix) ≡ named (rows_under others kind.Cubby prefix)
   same_listed =
       let listed = named (rows_under others kind.Cubby prefix) in
       let sorted : T (is_sorted text_cmp listed) = listed-sorted kind.Cubby prefix others in
-      sym (entries_are (from_sorted listed) (named (rows_under rows kind.Cubby prefix)) (listed-sorted kind.Cubby prefix rows) (λ q.
-      find-listed kind.Cubby prefix rows q ∙ at q (starts_with nat_eq q prefix) refl ∙ sym (find-listed kind.Cubby prefix others q)
+      sym (entries_are (from_sorted listed) (named (rows_under rows kind.Cubby prefix))
+      (listed-sorted kind.Cubby prefix rows) (λ q.
+      find-listed kind.Cubby prefix rows q ∙ at q (starts_with nat_eq q prefix) refl
+      ∙ sym (find-listed kind.Cubby prefix others q)
       ∙ sym (fin.get-from_sorted text_cmp listed q sorted)))
       ∙ fin.entries-from_sorted text_cmp listed sorted
     where

@@ -40,9 +40,9 @@ impl fmt::Display for Finding {
     }
 }
 
-/// Whether the rows that were committed are those of a sound broker, as between two requests, once those of keys in format
-/// 1 are rewritten as an opening does, or else the first row that keeps them from being so. The rows stay as they are. It
-/// fails only if memory runs out or the storage fails.
+/// Whether the rows that were committed are those of a sound broker, as between two requests, once those of keys in
+/// format 1 are rewritten as an opening does, or else the first row that keeps them from being so. The rows stay as
+/// they are. It fails only if memory runs out or the storage fails.
 pub fn check_records<S: Alter>(alloc: Global, records: &mut SqlRecords<S>) -> Result<Finding, Fault>
     ensures sound { IsHonestStore (kept_records S.Store records.new) → IfOk result (λ finding.
         IfSound finding (OpenAsABroker (kept_records S.Store records.old).rows)) }
@@ -82,9 +82,9 @@ fn find_defect<T: RecordsTx>(alloc: Global, tx: &mut T) -> Result<Option<Defect>
     }
 }
 
-/// The first row that keeps the rows that were committed from being those of a sound broker, as `check_records` finds it,
-/// but none if they lack the row of the clock: then no broker was started. The rows stay as they are, and afterwards the
-/// records can be asked. It fails only if memory runs out or the storage fails.
+/// The first row that keeps the rows that were committed from being those of a sound broker, as `check_records` finds
+/// it, but none if they lack the row of the clock: then no broker was started. The rows stay as they are, and
+/// afterwards the records can be asked. It fails only if memory runs out or the storage fails.
 pub fn defect_of<S: Alter>(
     alloc: Global,
     records: &mut SqlRecords<S>,
@@ -118,10 +118,10 @@ fn find_if_started<T: RecordsTx>(alloc: Global, tx: &mut T) -> Result<Option<Def
     find_defect(alloc, tx)
 }
 
-/// Whether a file and its log, which is beside it, keep the rows of a sound broker, and the records that were checked. `S`
-/// stands for what they hold. No row is changed, and no program may have the file open meanwhile. It fails with `Memory` if
-/// memory runs out, and with `Storage` if there is no such file, it is empty, it cannot be opened as a database of a broker
-/// (`SqlRecords::open_from`), or the storage fails.
+/// Whether a file and its log, which is beside it, keep the rows of a sound broker, and the records that were
+/// checked. `S` stands for what they hold. No row is changed, and no program may have the file open meanwhile. It
+/// fails with `Memory` if memory runs out, and with `Storage` if there is no such file, it is empty, it cannot be
+/// opened as a database of a broker (`SqlRecords::open_from`), or the storage fails.
 pub fn check_from<S: Start>(
     rt: &HostRuntime,
     path: &str,

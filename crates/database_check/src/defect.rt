@@ -9,8 +9,8 @@ use soundness::{Rule, Trouble};
 use std::alloc::{AllocError, Global};
 use std::fmt;
 
-/// A row that keeps rows from being those of a sound broker. A token is told by its accessor, a secret, a mount, a policy
-/// and a role by its name, and no other row by its key, which may be a secret.
+/// A row that keeps rows from being those of a sound broker. A token is told by its accessor, a secret, a mount, a
+/// policy and a role by its name, and no other row by its key, which may be a secret.
 #[derive(Drop)]
 pub struct Defect {
     kind: Kind,

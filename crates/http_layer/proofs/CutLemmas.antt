@@ -1,12 +1,14 @@
 -- The front, where the code knows its case.
-use Rattle.std.proofs.Common.{◌≡◌, ℕ, ◌+◌, ◌<◌, ◌≤◌, Bool, true, false, cond, List, length, take, slice_range, Result, Ok, Err, nat_le, refl, sym, ap}
+use Rattle.std.proofs.Common.{◌≡◌, ℕ, ◌+◌, ◌<◌, ◌≤◌, Bool, true, false, cond, List, length, take, slice_range, Result}
+use Rattle.std.proofs.Common.{Ok, Err, nat_le, refl, sym, ap}
 use Rattle.std.proofs.Common.{◌∙◌, subst, arith}
 use Rattle.std.proofs.lemmas.List.{length-take-le}
 use Rattle.std.proofs.lemmas.Bool.Decides.{nat_tests}
 use Rattle.broker_types.specs.declared.status.Status.{Status}
 use Rattle.broker_types.specs.declared.status.Status.TheVariants.{HeaderFieldsTooLarge}
 use Rattle.http_layer.specs.HeadParts.{HeadParts, IsHead}
-use Rattle.http_layer.specs.Front.{need, refused_with, whole, read, unended, too_long, HeadEnds, HasNoHeadEnd, window, is_too_long, longest_head}
+use Rattle.http_layer.specs.Front.{need, refused_with, whole, read, unended, too_long, HeadEnds, HasNoHeadEnd, window}
+use Rattle.http_layer.specs.Front.{is_too_long, longest_head}
 use Rattle.http_layer.specs.Front.{IsFront, front_of_body, body_length}
 
 -- the head is the first len bytes of s, and p has its parts
@@ -15,19 +17,23 @@ pub record ReadsHead (s : List ℕ) (len : ℕ) (p : HeadParts) : Type 0 where
   pub head : IsHead (take len s) p
   pub size : p.size ≡ len
 
-pub reads_head : (s : List ℕ) (len : ℕ) (p : HeadParts) → HeadEnds (window s) len → len ≤ length s → IsHead (take len s) p
+pub reads_head : (s : List ℕ) (len : ℕ) (p : HeadParts) → HeadEnds (window s) len → len ≤ length s
+    → IsHead (take len s) p
     → p.size ≡ length (take len s) → ReadsHead s len p
-reads_head s len p ends within head size = record { ends = ends; head = head; size = size ∙ length-take-le len s within }
+reads_head s len p ends within head size =
+    record { ends = ends; head = head; size = size ∙ length-take-le len s within }
 
 -- where no head ends within the first bytes
-pub IsFront-unended : (s : List ℕ) → HasNoHeadEnd (window s) → IsFront s (cond (nat_le longest_head (length s)) (refused_with HeaderFieldsTooLarge) need)
+pub IsFront-unended : (s : List ℕ) → HasNoHeadEnd (window s)
+    → IsFront s (cond (nat_le longest_head (length s)) (refused_with HeaderFieldsTooLarge) need)
 IsFront-unended s none = at (is_too_long s) refl
   where
     at : (long : Bool) → is_too_long s ≡ long → IsFront s (cond long (refused_with HeaderFieldsTooLarge) need)
     at true is = record { head = too_long; is_head = (is, none); front = refl }
     at false is = record { head = unended; is_head = (is, none); front = refl }
 
-IsFront-read : (s : List ℕ) (len : ℕ) (p : HeadParts) (r : Result ℕ Status) → ReadsHead s len p → body_length p ≡ r → IsFront s (front_of_body s p r)
+IsFront-read : (s : List ℕ) (len : ℕ) (p : HeadParts) (r : Result ℕ Status) → ReadsHead s len p → body_length p ≡ r
+    → IsFront s (front_of_body s p r)
 IsFront-read s len p r h is =
     record {
       head = read p;
@@ -38,11 +44,13 @@ IsFront-read s len p r h is =
       front = ap (front_of_body s p) (sym is);
     }
 
-pub IsFront-refused : (s : List ℕ) (len : ℕ) (p : HeadParts) (status : Status) → ReadsHead s len p → body_length p ≡ Err status
+pub IsFront-refused : (s : List ℕ) (len : ℕ) (p : HeadParts) (status : Status) → ReadsHead s len p
+    → body_length p ≡ Err status
     → IsFront s (refused_with status)
 IsFront-refused s len p status h is = IsFront-read s len p (Err status) h is
 
-pub IsFront-whole : (s : List ℕ) (len : ℕ) (p : HeadParts) (n : ℕ) (body : List ℕ) → ReadsHead s len p → body_length p ≡ Ok n
+pub IsFront-whole : (s : List ℕ) (len : ℕ) (p : HeadParts) (n : ℕ) (body : List ℕ) → ReadsHead s len p
+    → body_length p ≡ Ok n
     → len + n ≤ length s → body ≡ slice_range s len (len + n) → IsFront s (whole (len + n) p body)
 IsFront-whole s len p n body h is fits same =
     let test : nat_le (p.size + n) (length s) ≡ true = grind (arith, nat_tests, h.size) in
@@ -52,7 +60,8 @@ IsFront-whole s len p n body h is fits same =
     ∙ ap (whole (len + n) p) (sym same) in
     subst (IsFront s) there (IsFront-read s len p (Ok n) h is)
 
-pub IsFront-short : (s : List ℕ) (len : ℕ) (p : HeadParts) (n : ℕ) → ReadsHead s len p → body_length p ≡ Ok n → length s < len + n
+pub IsFront-short : (s : List ℕ) (len : ℕ) (p : HeadParts) (n : ℕ) → ReadsHead s len p → body_length p ≡ Ok n
+    → length s < len + n
     → IsFront s need
 IsFront-short s len p n h is short =
     let test : nat_le (p.size + n) (length s) ≡ false = grind (arith, nat_tests, h.size) in

@@ -1,5 +1,6 @@
 -- The number of a text of digits, one digit after another.
-use Rattle.std.proofs.Common.{◌≡◌, refl, ℕ, ◌+◌, ◌-◌, ◌*◌, ◌<◌, true, List, [], ◌∷◌, ◌++◌, length, take, min, ap, ◌∙◌, arith, get_or}
+use Rattle.std.proofs.Common.{◌≡◌, refl, ℕ, ◌+◌, ◌-◌, ◌*◌, ◌<◌, true, List, [], ◌∷◌, ◌++◌, length, take, min, ap, ◌∙◌}
+use Rattle.std.proofs.Common.{arith, get_or}
 use Rattle.std.specs.Char.{is_ascii_digit, digit_value}
 use Rattle.std.specs.List.{list_all}
 use Rattle.std.specs.Str.Parse.{digits_value}
@@ -21,7 +22,8 @@ capped_more ds i value lt digits so_far digit next is =
     let grown : digits_value 10 (take (i + 1) ds) ≡ digits_value 10 (take i ds) * 10 + digit_value (get_or ds i 0) =
     ap (digits_value 10) more ∙ digits_value_push 10 (take i ds) (get_or ds i 0) in
     let at : digit_value (get_or ds i 0) ≡ get_or ds i 0 - 48 = digit_value_at (get_or ds i 0) digit in (
-      ap (list_all is_ascii_digit) more ∙ list_all-append is_ascii_digit (take i ds) (get_or ds i 0 ∷ []) ∙ and_from _ _ digits (and_from _ _ digit refl),
+      ap (list_all is_ascii_digit) more ∙ list_all-append is_ascii_digit (take i ds) (get_or ds i 0 ∷ [])
+          ∙ and_from _ _ digits (and_from _ _ digit refl),
       capped_next _ _ _ _ _ _ so_far is grown at,
     )
   where

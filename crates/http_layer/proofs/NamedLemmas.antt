@@ -1,5 +1,6 @@
 -- The fields with one name, one field after another.
-use Rattle.std.proofs.Common.{◌≡◌, ◌<◌, ℕ, Bool, true, false, cond, List, [], ◌∷◌, ◌++◌, length, map, get_or, refl, sym, ap, ◌∙◌}
+use Rattle.std.proofs.Common.{◌≡◌, ◌<◌, ℕ, Bool, true, false, cond, List, [], ◌∷◌, ◌++◌, length, map, get_or, refl, sym}
+use Rattle.std.proofs.Common.{ap, ◌∙◌}
 use Rattle.std.specs.Prelude.{filter, ◌||◌}
 use Rattle.std.specs.List.{list_any}
 use Rattle.std.proofs.lemmas.List.{map-append, append-nil}
@@ -10,7 +11,8 @@ use Rattle.http_layer.specs.Named.{AreNamed}
 use Rattle.http_layer.specs.declared.fields.Named.{Named}
 use Rattle.http_layer.specs.declared.fields.Named.TheVariants.{Absent, Once, Several}
 
-values_named-append : (name : List ℕ) (fields more : List HeadField) → values_named name (fields ++ more) ≡ values_named name fields ++ values_named name more
+values_named-append : (name : List ℕ) (fields more : List HeadField)
+    → values_named name (fields ++ more) ≡ values_named name fields ++ values_named name more
 values_named-append name fields more =
     ap (map (λ (f : HeadField). f.1)) (filter-append (is_named name) fields more)
     ∙ map-append (λ (f : HeadField). f.1) (filter (is_named name) fields) (filter (is_named name) more)
@@ -29,17 +31,21 @@ values_named-miss name fields f is =
     ∙ append-nil (values_named name fields)
 
 -- where a value stood, one more makes it several
-pub AreNamed-several : (values : List (List ℕ)) (named : Named) (v : List ℕ) → AreNamed values named → (named ≡ Absent → ⊥)
+pub AreNamed-several : (values : List (List ℕ)) (named : Named) (v : List ℕ) → AreNamed values named
+    → (named ≡ Absent → ⊥)
     → AreNamed (values ++ v ∷ []) Several
 AreNamed-several values Absent v are some = absurd (some refl)
 AreNamed-several values (Once w) v are some = (w.now, v, [], ap (λ (l : List (List ℕ)). l ++ v ∷ []) are)
-AreNamed-several values Several v (a, b, rest, is) some = (a, b, rest ++ v ∷ [], ap (λ (l : List (List ℕ)). l ++ v ∷ []) is)
+AreNamed-several values Several v (a, b, rest, is) some =
+    (a, b, rest ++ v ∷ [], ap (λ (l : List (List ℕ)). l ++ v ∷ []) is)
 
-list_any-map : {X Y : Type 0} (p : Y → Bool) (f : X → Y) (xs : List X) → list_any p (map f xs) ≡ list_any (λ x. p (f x)) xs
+list_any-map : {X Y : Type 0} (p : Y → Bool) (f : X → Y) (xs : List X)
+    → list_any p (map f xs) ≡ list_any (λ x. p (f x)) xs
 list_any-map p f [] = refl
 list_any-map p f (x ∷ xs) = ap (λ (b : Bool). p (f x) || b) (list_any-map p f xs)
 
 -- one element settles the answer
-pub list_any-map_at : {X Y : Type 0} (p : Y → Bool) (f : X → Y) (xs : List X) (i : ℕ) (d : X) → i < length xs → p (f (get_or xs i d)) ≡ true
+pub list_any-map_at : {X Y : Type 0} (p : Y → Bool) (f : X → Y) (xs : List X) (i : ℕ) (d : X) → i < length xs
+    → p (f (get_or xs i d)) ≡ true
     → true ≡ list_any p (map f xs)
 list_any-map_at p f xs i d inside is = sym (list_any-map p f xs ∙ list_any_at (λ x. p (f x)) xs i d inside is)

@@ -1,12 +1,14 @@
 -- A request that is printed with CR LF at the end of its lines: its first empty line ends its head.
-use Rattle.std.proofs.Common.{◌≡◌, ◌≢◌, refl, ℕ, zero, suc, ◌+◌, ◌-◌, ◌<◌, ◌⊎◌, inl, inr, Bool, true, false, cond, List, [], ◌∷◌, ◌++◌}
+use Rattle.std.proofs.Common.{◌≡◌, ◌≢◌, refl, ℕ, zero, suc, ◌+◌, ◌-◌, ◌<◌, ◌⊎◌, inl, inr, Bool, true, false, cond, List}
+use Rattle.std.proofs.Common.{[], ◌∷◌, ◌++◌}
 use Rattle.std.proofs.Common.{length, take, drop, get_or, codes, sym, ap, ◌∙◌, subst, arith}
 use Rattle.std.proofs.Common.{append_assoc, append-nil, length-append, All}
 use Rattle.std.proofs.lemmas.List.Elements.{All-head, All-tail, All-append, All-cons, All-nil, All-weaker}
 use Rattle.std.proofs.Math.Seq.{drop-append_seam}
 use Rattle.std.proofs.lemmas.Bool.{false≢true, or_from, ne_eqb}
 use Rattle.std.specs.List.{prefix_len, flat_map}
-use Rattle.httparse.specs.Grammar.{is_token_byte, is_uri_byte, is_value_byte, LineEnd, crlf, Field, IsField, IsRequestHead}
+use Rattle.httparse.specs.Grammar.{is_token_byte, is_uri_byte, is_value_byte, LineEnd, crlf, Field, IsField}
+use Rattle.httparse.specs.Grammar.{IsRequestHead}
 use Rattle.httparse.specs.Grammar.{print_field, print_section, print_end, print_version, print_request}
 use Rattle.httparse.proofs.GrammarLemmas.{print_request-append}
 use Rattle.httparse.proofs.PieceLemmas.{print_field-append}
@@ -55,9 +57,11 @@ abbrev StartsLine : List ℕ → Type 0
 StartsLine s = (s ≡ 13 ∷ 10 ∷ []) ⊎ (take 1 s ≢ 13 ∷ [])
 
 -- an empty line in a text and what follows begins after the text
-past_text : (t r : List ℕ) → IsLineText t → (k : ℕ) → HasEmptyLineAt (t ++ r) k → (j : ℕ) × (k ≡ length t + j) × HasEmptyLineAt r j
+past_text : (t r : List ℕ) → IsLineText t → (k : ℕ) → HasEmptyLineAt (t ++ r) k → (j : ℕ) × (k ≡ length t + j)
+    × HasEmptyLineAt r j
 past_text [] r plain k h = (k, omega arith, h)
-past_text (b ∷ t) r plain zero h = absurd (no_return b (All-head IsInLine b t plain) (ap (λ (l : List ℕ). get_or l 0 0) h))
+past_text (b ∷ t) r plain zero h =
+    absurd (no_return b (All-head IsInLine b t plain) (ap (λ (l : List ℕ). get_or l 0 0) h))
 past_text (b ∷ t) r plain (suc k) h =
     let (j, is, g) = past_text t r (All-tail IsInLine b t plain) k h in
     (j, omega (arith, is), g)
@@ -68,7 +72,8 @@ starts_text (b ∷ t) r some plain e = no_return b (All-head IsInLine b t plain)
 
 no_blank : (t r : List ℕ) → 0 < length t → IsLineText t → prefix_len is_line_byte (t ++ r) ≡ 0
 no_blank [] r some plain = absurd (omega (arith, some))
-no_blank (b ∷ t) r some plain = ap (λ (x : Bool). cond x (1 + prefix_len is_line_byte (t ++ r)) 0) (All-head IsInLine b t plain)
+no_blank (b ∷ t) r some plain = ap (λ (x : Bool). cond x (1 + prefix_len is_line_byte (t ++ r)) 0)
+    (All-head IsInLine b t plain)
 
 first_of_two : (s : List ℕ) → take 1 (take 2 s) ≡ take 1 s
 first_of_two [] = refl
@@ -139,16 +144,19 @@ line_text method target = method ++ 32 ∷ (target ++ 32 ∷ print_version 1)
 request_line_text : (method target : List ℕ) (fields : List Field) → IsRequestHead (printed_head method target fields)
     → IsLineText (line_text method target)
 request_line_text method target fields is =
-    All-append IsInLine method (32 ∷ (target ++ 32 ∷ print_version 1)) (All-weaker _ IsInLine token_byte method is.method.1)
+    All-append IsInLine method (32 ∷ (target ++ 32 ∷ print_version 1))
+    (All-weaker _ IsInLine token_byte method is.method.1)
     (All-cons IsInLine 32 (target ++ 32 ∷ print_version 1) refl
-    (All-append IsInLine target (32 ∷ print_version 1) (All-weaker _ IsInLine (other_byte is_uri_byte refl refl) target is.target.1) version))
+    (All-append IsInLine target (32 ∷ print_version 1)
+    (All-weaker _ IsInLine (other_byte is_uri_byte refl refl) target is.target.1) version))
   where
     more : (b : ℕ) (bytes : List ℕ) → IsInLine b → IsLineText bytes → IsLineText (b ∷ bytes)
     more b bytes is rest = All-cons IsInLine b bytes is rest
 
     version : IsLineText (32 ∷ print_version 1)
     version =
-        more 32 (codes "HTTP/1.1") refl (more 72 (codes "TTP/1.1") refl (more 84 (codes "TP/1.1") refl (more 84 (codes "P/1.1") refl
+        more 32 (codes "HTTP/1.1") refl
+        (more 72 (codes "TTP/1.1") refl (more 84 (codes "TP/1.1") refl (more 84 (codes "P/1.1") refl
         (more 80 (codes "/1.1") refl (more 47 (codes "1.1") refl (more 49 (codes ".1") refl (more 46 (codes "1") refl
         (more 49 [] refl (All-nil IsInLine)))))))))
 
@@ -157,7 +165,8 @@ head_lines : (method target : List ℕ) (fields : List Field)
 head_lines method target fields =
     sym (append-nil (print_request (printed_head method target fields)))
     ∙ print_request-append (printed_head method target fields) []
-    ∙ ap (λ (l : List ℕ). method ++ 32 ∷ (target ++ 32 ∷ (print_version 1 ++ 13 ∷ 10 ∷ l))) (append-nil (print_section fields crlf))
+    ∙ ap (λ (l : List ℕ). method ++ 32 ∷ (target ++ 32 ∷ (print_version 1 ++ 13 ∷ 10 ∷ l)))
+    (append-nil (print_section fields crlf))
     ∙ regroup method target (print_version 1) (13 ∷ 10 ∷ print_section fields crlf)
   where
     regroup : (a b c r : List ℕ) → a ++ 32 ∷ (b ++ 32 ∷ (c ++ r)) ≡ (a ++ 32 ∷ (b ++ 32 ∷ c)) ++ r
@@ -169,7 +178,8 @@ empty_line_last : (y : List ℕ) → HasEmptyLineAt (y ++ 13 ∷ 10 ∷ 13 ∷ 1
 empty_line_last y = ap (take 4) (drop-append_seam y (13 ∷ 10 ∷ 13 ∷ 10 ∷ []))
 
 ends_by_lines : (t s : List ℕ) → 0 < length t → IsLineText t → StartsLine s → EndsAtLines s
-    → (y : List ℕ) × (t ++ 13 ∷ 10 ∷ s ≡ y ++ 13 ∷ 10 ∷ 13 ∷ 10 ∷ []) → HeadEnds (t ++ 13 ∷ 10 ∷ s) (length (t ++ 13 ∷ 10 ∷ s))
+    → (y : List ℕ) × (t ++ 13 ∷ 10 ∷ s ≡ y ++ 13 ∷ 10 ∷ 13 ∷ 10 ∷ [])
+    → HeadEnds (t ++ 13 ∷ 10 ∷ s) (length (t ++ 13 ∷ 10 ∷ s))
 ends_by_lines t s some text starts ends (y, is) =
     let all : length (t ++ 13 ∷ 10 ∷ s) ≡ length y + 4 = ap length is ∙ length-append y (13 ∷ 10 ∷ 13 ∷ 10 ∷ []) in
     let start : prefix_len is_line_byte (t ++ 13 ∷ 10 ∷ s) ≡ 0 = no_blank t (13 ∷ 10 ∷ s) some text in
@@ -184,11 +194,13 @@ ends_by_lines t s some text starts ends (y, is) =
 -- a printed head ends with its first empty line
 pub printed_ends : (method target : List ℕ) (fields : List Field) → IsRequestHead (printed_head method target fields)
     → All EndsInCrlf fields
-    → HeadEnds (print_request (printed_head method target fields)) (length (print_request (printed_head method target fields)))
+    → HeadEnds (print_request (printed_head method target fields))
+    (length (print_request (printed_head method target fields)))
 printed_ends method target fields valid ends =
     let lines = section_lines fields valid.fields ends in
     let some : 0 < length (line_text method target) =
     omega (arith, valid.method.0, length-append method (32 ∷ (target ++ 32 ∷ print_version 1))) in
     subst (λ (l : List ℕ). HeadEnds l (length l)) (sym (head_lines method target fields))
-    (ends_by_lines (line_text method target) (print_section fields crlf) some (request_line_text method target fields valid)
+    (ends_by_lines (line_text method target) (print_section fields crlf) some
+    (request_line_text method target fields valid)
     lines.0 lines.1 (section_end (line_text method target) fields ends))

@@ -13,10 +13,12 @@ appended_3 h a b c x1 x2 x3 p1 p2 p3 =
     regroup : ((h ++ a) ++ b) ++ c ≡ h ++ ((a ++ b) ++ c)
     regroup = simp append_assoc
 
-pub appended_5 : (h a b c d e x1 x2 x3 x4 x5 : List ℕ) → x1 ≡ h ++ a → x2 ≡ x1 ++ b → x3 ≡ x2 ++ c → x4 ≡ x3 ++ d → x5 ≡ x4 ++ e
+pub appended_5 : (h a b c d e x1 x2 x3 x4 x5 : List ℕ) → x1 ≡ h ++ a → x2 ≡ x1 ++ b → x3 ≡ x2 ++ c → x4 ≡ x3 ++ d
+    → x5 ≡ x4 ++ e
     → x5 ≡ h ++ (a ++ b ++ c ++ d ++ e)
 appended_5 h a b c d e x1 x2 x3 x4 x5 p1 p2 p3 p4 p5 =
-    p5 ∙ ap (λ (l : List ℕ). l ++ e) (p4 ∙ ap (λ (l : List ℕ). l ++ d) (p3 ∙ ap (λ (l : List ℕ). l ++ c) (p2 ∙ ap (λ (l : List ℕ). l ++ b) p1))) ∙ regroup
+    p5 ∙ ap (λ (l : List ℕ). l ++ e) (p4 ∙ ap (λ (l : List ℕ). l ++ d)
+    (p3 ∙ ap (λ (l : List ℕ). l ++ c) (p2 ∙ ap (λ (l : List ℕ). l ++ b) p1))) ∙ regroup
   where
     regroup : ((((h ++ a) ++ b) ++ c) ++ d) ++ e ≡ h ++ ((((a ++ b) ++ c) ++ d) ++ e)
     regroup = simp append_assoc
@@ -37,7 +39,8 @@ phrase_length is.NotImplemented = omega arith
 abbrev pub typed_lines : ℕ → List ℕ
 typed_lines len = codes "Content-Type: application/json" ++ crlf ++ codes "Content-Length: " ++ decimal len ++ crlf
 
-pub body_lines_other : (s : Status) (len : ℕ) → (s ≡ is.NoContent → ⊥) → (s ≡ is.NotImplemented → ⊥) → body_lines s len ≡ typed_lines len
+pub body_lines_other : (s : Status) (len : ℕ) → (s ≡ is.NoContent → ⊥) → (s ≡ is.NotImplemented → ⊥)
+    → body_lines s len ≡ typed_lines len
 body_lines_other is.NoContent len a b = absurd (a refl)
 body_lines_other is.NotImplemented len a b = absurd (b refl)
 body_lines_other is.Success len a b = refl

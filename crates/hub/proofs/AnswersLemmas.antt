@@ -1,5 +1,6 @@
 -- A run of the hub, one event after another.
-use Rattle.std.proofs.Common.{arith, ◌≡◌, ◌∙◌, ℕ, ◌+◌, ◌<◌, ◌≤◌, List, [], ◌∷◌, ◌++◌, length, take, get_or, refl, sym, ap, subst, None}
+use Rattle.std.proofs.Common.{arith, ◌≡◌, ◌∙◌, ℕ, ◌+◌, ◌<◌, ◌≤◌, List, [], ◌∷◌, ◌++◌, length, take, get_or, refl, sym}
+use Rattle.std.proofs.Common.{ap, subst, None}
 use Rattle.std.proofs.lemmas.List.{take_more, take_all}
 use Rattle.broker_rows.specs.Representing.{Represents}
 use Rattle.broker.specs.Kept.{Kept, IsHonestStore}
@@ -31,8 +32,10 @@ abbrev pub with_piece : Event → List ℕ → Event
 with_piece e piece = record { conn = e.conn; piece = piece; moment = e.moment; words = e.words }
 
 -- a run has no other replies
-pub answers_of : {S : Type 0} (seen : S → Kept) (w : World) (events : List Event) (replies : List (List ℕ)) (hub : Hub S) (after : World)
-    → Run w events replies after → (history : History) → EventsAsked w events replies history after → AreAsked w.broker history
+pub answers_of : {S : Type 0} (seen : S → Kept) (w : World) (events : List Event) (replies : List (List ℕ))
+    (hub : Hub S) (after : World)
+    → Run w events replies after → (history : History) → EventsAsked w events replies history after
+    → AreAsked w.broker history
     → HubRepresents seen hub after → Answers seen w events replies hub
 answers_of seen w events replies hub after run history asks asked represents =
     record {
@@ -46,11 +49,13 @@ answers_of seen w events replies hub after run history asks asked represents =
     }
 
 -- no event, and nothing was asked
-pub answers_none : {S : Type 0} (seen : S → Kept) (w : World) (hub : Hub S) → HubRepresents seen hub w → Answers seen w [] [] hub
+pub answers_none : {S : Type 0} (seen : S → Kept) (w : World) (hub : Hub S) → HubRepresents seen hub w
+    → Answers seen w [] [] hub
 answers_none seen w hub represents = answers_of seen w [] [] hub w refl [] refl tt represents
 
 -- one event of a sound broker
-pub answers_one : {S : Type 0} (seen : S → Kept) (w : World) (e : Event) (bytes : List ℕ) (hub : Hub S) → Sound forms None w.broker
+pub answers_one : {S : Type 0} (seen : S → Kept) (w : World) (e : Event) (bytes : List ℕ) (hub : Hub S)
+    → Sound forms None w.broker
     → AnswersOne seen w e bytes hub → Answers seen w (e ∷ []) (bytes ∷ []) hub
 answers_one seen w e bytes hub sound n =
     let g = goes w e bytes n.after n.next in
@@ -58,16 +63,20 @@ answers_one seen w e bytes hub sound n =
     (AreAsked-one w.broker g.0 (λ a is. g.2 a is sound)) n.represents
 
 -- events, and others after them
-pub answers_on : {S : Type 0} (seen : S → Kept) (w : World) (es fs : List Event) (rs ss : List (List ℕ)) (old new : Hub S)
+pub answers_on : {S : Type 0} (seen : S → Kept) (w : World) (es fs : List Event) (rs ss : List (List ℕ))
+    (old new : Hub S)
     (a : Answers seen w es rs old) → Answers seen a.after fs ss new → Answers seen w (es ++ fs) (rs ++ ss) new
 answers_on seen w es fs rs ss old new a b =
-    answers_of seen w (es ++ fs) (rs ++ ss) new b.after (Run-append w es fs rs ss a.after b.after a.run b.run) (a.history ++ b.history)
+    answers_of seen w (es ++ fs) (rs ++ ss) new b.after (Run-append w es fs rs ss a.after b.after a.run b.run)
+    (a.history ++ b.history)
     (EventsAsked-append w es fs rs ss a.history b.history a.after b.after a.asks b.asks)
     (asked_on w.broker a.after.broker a.history b.history (run_left w es rs a.history a.after a.asks) a.asked b.asked)
     b.represents
 
-pub answers_more : {S : Type 0} (seen : S → Kept) (w : World) (events : List Event) (i : ℕ) (e : Event) (piece bytes : List ℕ)
-    (replies : List (List ℕ)) (old new : Hub S) → i < length events → e ≡ get_or events i e → piece ≡ e.piece → Answers seen w (take i events) replies old
+pub answers_more : {S : Type 0} (seen : S → Kept) (w : World) (events : List Event) (i : ℕ) (e : Event)
+    (piece bytes : List ℕ)
+    (replies : List (List ℕ)) (old new : Hub S) → i < length events → e ≡ get_or events i e → piece ≡ e.piece
+    → Answers seen w (take i events) replies old
     → ((v : World) → HubRepresents seen old v → AnswersOne seen v (with_piece e piece) bytes new)
     → Answers seen w (take (i + 1) events) (replies ++ bytes ∷ []) new
 answers_more seen w events i e piece bytes replies old new lt is same a next =
@@ -83,12 +92,18 @@ honest_before a b le honest = omega (arith, le, honest)
 -- a store after two calls
 pub later_still : (a b c : Kept) → IsLater a b → IsLater b c → IsLater a c
 later_still a b c first second =
-    record { mismatches = omega (arith, first.mismatches, second.mismatches); closes = λ open_. first.closes (second.closes open_) }
+    record {
+      mismatches = omega (arith, first.mismatches, second.mismatches);
+      closes = λ open_. first.closes (second.closes open_);
+    }
 
-pub stops_at : {S : Type 0} (seen : S → Kept) (w : World) (events : List Event) (i : ℕ) (e : Event) (piece : List ℕ) (replies : List (List ℕ))
+pub stops_at : {S : Type 0} (seen : S → Kept) (w : World) (events : List Event) (i : ℕ) (e : Event) (piece : List ℕ)
+    (replies : List (List ℕ))
     (fault : Fault) (old new : Hub S)
-    → e ≡ get_or events i e → piece ≡ e.piece → Answers seen w (take i events) replies old → (hub_store seen new).rows ≡ (hub_store seen old).rows
-    → ((all : Connections) → ConnectionsRepresent old all → (next : Connections) × ConnectionsRepresent new next × FaultsAt fault all e.conn piece next)
+    → e ≡ get_or events i e → piece ≡ e.piece → Answers seen w (take i events) replies old
+    → (hub_store seen new).rows ≡ (hub_store seen old).rows
+    → ((all : Connections) → ConnectionsRepresent old all → (next : Connections) × ConnectionsRepresent new next
+    × FaultsAt fault all e.conn piece next)
     → StopsAt seen w events i replies fault new
 stops_at seen w events i e piece replies fault old new is same a kept leaves =
     let f = leaves a.after.connections a.represents.connections in
@@ -99,17 +114,25 @@ stops_at seen w events i e piece replies fault old new is same a kept leaves =
       at = is;
       after = f.0;
       left = subst (λ (l : List ℕ). FaultsAt fault a.after.connections e.conn l f.0) same f.2;
-      represents = record { broker = subst (λ (l : Rows). Represents None l a.after.broker) (sym kept) a.represents.broker; connections = f.1 };
+      represents = record {
+        broker = subst (λ (l : Rows). Represents None l a.after.broker)
+            (sym kept) a.represents.broker;
+        connections = f.1;
+      };
     }
 
-pub answers_all : {S : Type 0} (seen : S → Kept) (w : World) (events : List Event) (i : ℕ) (replies : List (List ℕ)) (hub : Hub S)
+pub answers_all : {S : Type 0} (seen : S → Kept) (w : World) (events : List Event) (i : ℕ) (replies : List (List ℕ))
+    (hub : Hub S)
     → length events ≤ i → Answers seen w (take i events) replies hub → Answers seen w events replies hub
-answers_all seen w events i replies hub le a = subst (λ (es : List Event). Answers seen w es replies hub) (take_all i events le) a
+answers_all seen w events i replies hub le a =
+    subst (λ (es : List Event). Answers seen w es replies hub) (take_all i events le) a
 
 -- ---- whatever the rows are
 
-pub turns_more : {S : Type 0} (all : Connections) (events : List Event) (i : ℕ) (e : Event) (piece bytes : List ℕ) (replies : List (List ℕ))
-    (old new : Hub S) → i < length events → e ≡ get_or events i e → piece ≡ e.piece → TookTurns all (take i events) replies old
+pub turns_more : {S : Type 0} (all : Connections) (events : List Event) (i : ℕ) (e : Event) (piece bytes : List ℕ)
+    (replies : List (List ℕ))
+    (old new : Hub S) → i < length events → e ≡ get_or events i e → piece ≡ e.piece
+    → TookTurns all (take i events) replies old
     → ((each : Connections) → ConnectionsRepresent old each
     → (next : Connections) × ConnectionsRepresent new next × NextConnections each e.conn piece e.moment bytes next)
     → TookTurns all (take (i + 1) events) (replies ++ bytes ∷ []) new
@@ -119,14 +142,18 @@ turns_more all events i e piece bytes replies old new lt is same t gives =
     subst (λ (l : List ℕ). NextConnections t.after e.conn l e.moment bytes n.0) same n.2 in
     record {
       after = n.0;
-      run = subst (λ (es : List Event). RunConnections all es (replies ++ bytes ∷ []) n.0) (sym (take-more events i e lt is))
+      run = subst (λ (es : List Event). RunConnections all es (replies ++ bytes ∷ []) n.0)
+          (sym (take-more events i e lt is))
           (RunConnections-push all (take i events) replies t.after e bytes n.0 t.run one);
       represents = n.1;
     }
 
-pub turns_stop : {S : Type 0} (all : Connections) (events : List Event) (i : ℕ) (e : Event) (piece : List ℕ) (replies : List (List ℕ))
-    (fault : Fault) (old new : Hub S) → e ≡ get_or events i e → piece ≡ e.piece → TookTurns all (take i events) replies old
-    → ((each : Connections) → ConnectionsRepresent old each → (next : Connections) × ConnectionsRepresent new next × FaultsAt fault each e.conn piece next)
+pub turns_stop : {S : Type 0} (all : Connections) (events : List Event) (i : ℕ) (e : Event) (piece : List ℕ)
+    (replies : List (List ℕ))
+    (fault : Fault) (old new : Hub S) → e ≡ get_or events i e → piece ≡ e.piece
+    → TookTurns all (take i events) replies old
+    → ((each : Connections) → ConnectionsRepresent old each → (next : Connections) × ConnectionsRepresent new next
+    × FaultsAt fault each e.conn piece next)
     → StopsTurns all events i replies fault new
 turns_stop all events i e piece replies fault old new is same t leaves =
     let f = leaves t.after t.represents in
@@ -142,4 +169,5 @@ turns_stop all events i e piece replies fault old new is same t leaves =
 
 pub turns_all : {S : Type 0} (all : Connections) (events : List Event) (i : ℕ) (replies : List (List ℕ)) (hub : Hub S)
     → length events ≤ i → TookTurns all (take i events) replies hub → TookTurns all events replies hub
-turns_all all events i replies hub le t = subst (λ (es : List Event). TookTurns all es replies hub) (take_all i events le) t
+turns_all all events i replies hub le t =
+    subst (λ (es : List Event). TookTurns all es replies hub) (take_all i events le) t

@@ -1,5 +1,6 @@
 -- How serving a connection ends: what holds of it is told by what the hub keeps.
-use Rattle.std.proofs.Common.{◌≡◌, ◌≢◌, ◌∙◌, ◌⊎◌, inl, inr, ℕ, Bool, true, false, List, [], ◌++◌, MatchBool, Option, Some, None, Result, Ok, Err}
+use Rattle.std.proofs.Common.{◌≡◌, ◌≢◌, ◌∙◌, ◌⊎◌, inl, inr, ℕ, Bool, true, false, List, [], ◌++◌, MatchBool, Option}
+use Rattle.std.proofs.Common.{Some, None, Result, Ok, Err}
 use Rattle.std.proofs.Common.{unwrap_or, refl, sym, ap, subst, add-zero, arith}
 use Rattle.std.proofs.lemmas.Bool.{false≢true}
 use Rattle.std.proofs.lemmas.Map.{update_here}
@@ -17,7 +18,8 @@ use Rattle.hub.specs.AnyRows.{FaultsAt, IsFrontReply, IsRequestReply, NextConnec
 use Rattle.hub.specs.Pending.{ConnectionRepresents, EntryRepresents}
 use Rattle.hub.specs.Representing.{ConnectionsRepresent, hub_connections}
 use Rattle.hub.specs.Serving.{IsAnswered, IsGone, LeavesClosed}
-use Rattle.hub.specs.World.{Connections, FollowsRequests, History, history_after, history_at, new_history, put_history, request_closes}
+use Rattle.hub.specs.World.{Connections, FollowsRequests, History, history_after, history_at, new_history, put_history}
+use Rattle.hub.specs.World.{request_closes}
 use Rattle.hub.specs.declared.connection.Connection.{Connection}
 use Rattle.hub.specs.declared.connection.Connection.TheVariants.{Open, Closed}
 use Rattle.hub.specs.declared.hub.Hub.{Hub}
@@ -38,9 +40,11 @@ request_replies m close (Err r) reply = replies_something (ask_refused r) m clos
 front_silent : (m : ℕ) (f : Front) → IsFrontReply m f [] → f ≡ need
 front_silent m need reply = refl
 front_silent m (refused_with status) reply = absurd (replies_something (front_refused status) m true reply)
-front_silent m (whole len head body) reply = absurd (request_replies m (request_closes head (asked head body)) (asked head body) reply)
+front_silent m (whole len head body) reply =
+    absurd (request_replies m (request_closes head (asked head body)) (asked head body) reply)
 
-silent_turn : (h : History) (piece : List ℕ) (m : ℕ) (bytes : List ℕ) (after : History) → TurnsOpen h piece m bytes after → bytes ≡ []
+silent_turn : (h : History) (piece : List ℕ) (m : ℕ) (bytes : List ℕ) (after : History)
+    → TurnsOpen h piece m bytes after → bytes ≡ []
     → (rest : List ℕ) → FollowsRequests after.stream after.answered rest → IsFront rest need
 silent_turn h piece m bytes after t nothing rest follows =
     let is : t.front ≡ need = front_silent m t.front (subst (IsFrontReply m t.front) nothing t.reply) in
@@ -54,11 +58,14 @@ silent_turn h piece m bytes after t nothing rest follows =
 history_put : (all : Connections) (conn : ℕ) (h : History) → history_at (put_history all conn h) conn ≡ h
 history_put all conn h = ap (λ (x : Option History). unwrap_or x new_history) (update_here all conn (Some h))
 
-silent_at : (all : Connections) (conn : ℕ) (piece : List ℕ) (m : ℕ) (bytes : List ℕ) (after : Connections) (closed : Bool)
+silent_at : (all : Connections) (conn : ℕ) (piece : List ℕ) (m : ℕ) (bytes : List ℕ) (after : Connections)
+    (closed : Bool)
     → (history_at all conn).closed ≡ closed
-    → MatchBool closed ((bytes ≡ []) × (after ≡ all)) ((h : History) × TurnsOpen (history_at all conn) piece m bytes h × (after ≡ put_history all conn h))
+    → MatchBool closed ((bytes ≡ []) × (after ≡ all))
+    ((h : History) × TurnsOpen (history_at all conn) piece m bytes h × (after ≡ put_history all conn h))
     → bytes ≡ [] → IsAnswered after conn
-silent_at all conn piece m bytes after true shut (none, same) nothing = inl (ap (λ (x : Connections). (history_at x conn).closed) same ∙ shut)
+silent_at all conn piece m bytes after true shut (none, same) nothing =
+    inl (ap (λ (x : Connections). (history_at x conn).closed) same ∙ shut)
 silent_at all conn piece m bytes after false is_open (h, turns, put) nothing =
     let here : history_at after conn ≡ h = ap (λ (x : Connections). history_at x conn) put ∙ history_put all conn h in
     inr (λ rest follows.
@@ -71,7 +78,8 @@ silent_at all conn piece m bytes after false is_open (h, turns, put) nothing =
 abbrev AnsweredAt : History → Type 0
 AnsweredAt h = (h.closed ≡ true) ⊎ ((rest : List ℕ) → FollowsRequests h.stream h.answered rest → IsFront rest need)
 
-answered_both : (c : Connection) (h g : History) → ConnectionRepresents c h → ConnectionRepresents c g → AnsweredAt h → AnsweredAt g
+answered_both : (c : Connection) (h g : History) → ConnectionRepresents c h → ConnectionRepresents c g → AnsweredAt h
+    → AnsweredAt g
 answered_both Closed h g p q is = inl (sym q.closed)
 answered_both (Open bytes) h g p q (inl shut) = absurd (false≢true (p.closed ∙ shut))
 answered_both (Open bytes) h g p q (inr needs) =
@@ -131,7 +139,8 @@ pub gone_closing : {S : Type 0} (conn : ℕ) (old new : Hub S)
 gone_closing conn old new closes all represents =
     let before = standing_all (hub_connections old) in
     let n = closes before (standing_each (hub_connections old)) in
-    gone_same (hub_connections new conn) (n.0 conn) (all conn) (n.1 conn) (represents conn) (gone_closed before conn n.0 n.2)
+    gone_same (hub_connections new conn) (n.0 conn) (all conn) (n.1 conn) (represents conn)
+    (gone_closed before conn n.0 n.2)
 
 -- so is one whose event had a fault
 pub gone_faulting : {S : Type 0} (conn : ℕ) (piece : List ℕ) (fault : Fault) (old new : Hub S)

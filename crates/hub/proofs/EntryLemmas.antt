@@ -1,9 +1,11 @@
 -- What the hub's table of connections has under each number, as its entries change.
-use Rattle.std.proofs.Common.{◌≡◌, ◌≢◌, ◌∙◌, inl, inr, ◌⊎◌, ⊎_elim, ℕ, zero, suc, ◌+◌, ◌-◌, ◌<◌, ◌≤◌, true, false, cond, List, [], ◌∷◌, length, Option, Some, None}
+use Rattle.std.proofs.Common.{◌≡◌, ◌≢◌, ◌∙◌, inl, inr, ◌⊎◌, ⊎_elim, ℕ, zero, suc, ◌+◌, ◌-◌, ◌<◌, ◌≤◌, true, false, cond}
+use Rattle.std.proofs.Common.{List, [], ◌∷◌, length, Option, Some, None}
 use Rattle.std.proofs.Common.{is_some, nat_cmp, nat_eq, nat_le, refl, sym, ap, arith}
 use Rattle.std.specs.BTreeMap.{BTreeMap, get, is_at}
 use Rattle.std.specs.Map.{lookup}
-use Rattle.std.proofs.lemmas.Bool.{false≢true, cases_eq, cases_lt, cond-true, cond-false, eq-eqb, ne_eqb, eqb-true, le-leb, lt-leb, leb-false, cases_Bool, false_from_ne_true}
+use Rattle.std.proofs.lemmas.Bool.{false≢true, cases_eq, cases_lt, cond-true, cond-false, eq-eqb, ne_eqb, eqb-true}
+use Rattle.std.proofs.lemmas.Bool.{le-leb, lt-leb, leb-false, cases_Bool, false_from_ne_true}
 use Rattle.std.proofs.lemmas.Option.{none-some, cond_some}
 use Rattle.hub.specs.Entries.{IsClosedRun, IsLastUpTo, IsNextIn, connection_at, connection_in, last_in, search_down}
 use Rattle.hub.specs.Numbers.{IsNextNumber}
@@ -49,7 +51,8 @@ search_none f (suc n) conn none =
     let nothing : f (suc n) ≡ None = none (suc n) (omega arith) in
     rw nothing (search_none f n conn (λ k le. none k (omega arith)))
 
-pub at_last : (f : ℕ → Option Entry) (conn first : ℕ) (e : Entry) → IsLastUpTo f conn first e → connection_at f conn ≡ connection_in first e conn
+pub at_last : (f : ℕ → Option Entry) (conn first : ℕ) (e : Entry) → IsLastUpTo f conn first e
+    → connection_at f conn ≡ connection_in first e conn
 at_last f conn first e l = search_from f conn conn first e l.here l.within l.none
 
 pub at_none : (f : ℕ → Option Entry) (conn : ℕ) → ((k : ℕ) → k ≤ conn → f k ≡ None) → connection_at f conn ≡ None
@@ -99,7 +102,8 @@ no_entries [] none = refl
 no_entries (e ∷ es) none = absurd (false≢true (none (omega arith)))
 
 -- from what a search of the keys says
-pub none_past : (f : ℕ → Option Entry) (first : ℕ) → ((k : ℕ) → is_some (f k) ≡ true → k ≤ first) → (k : ℕ) → first < k → f k ≡ None
+pub none_past : (f : ℕ → Option Entry) (first : ℕ) → ((k : ℕ) → is_some (f k) ≡ true → k ≤ first) → (k : ℕ) → first < k
+    → f k ≡ None
 none_past f first greatest k lt =
     none_of (f k) (false_from_ne_true (is_some (f k)) (λ there. let up_to = greatest k there in absurd (omega arith)))
 
@@ -109,7 +113,8 @@ last_from f conn first e here within greatest =
     record {
       here = here;
       within = within;
-      none = λ k lt le. none_of (f k) (false_from_ne_true (is_some (f k)) (λ there. let up_to = greatest k le there in absurd (omega arith)));
+      none = λ k lt le. none_of (f k)
+          (false_from_ne_true (is_some (f k)) (λ there. let up_to = greatest k le there in absurd (omega arith)));
     }
 
 -- ---- what one entry has
@@ -121,7 +126,8 @@ one_apart : (conn first : ℕ) (c : Connection) → conn ≢ first → connectio
 one_apart conn first c apart = cond-false (nat_eq conn first) (Some c) None (ne_eqb conn first apart)
 
 -- a number past one under which the entry has nothing
-still_none : (first conn n : ℕ) (e : Entry) → first < conn → conn ≤ n → connection_in first e conn ≡ None → connection_in first e n ≡ None
+still_none : (first conn n : ℕ) (e : Entry) → first < conn → conn ≤ n → connection_in first e conn ≡ None
+    → connection_in first e n ≡ None
 still_none first conn n (One c) lt le none = one_apart n first c (λ same. absurd (omega arith))
 still_none first conn n (ClosedRun more) lt le none = ⊎_elim
     (λ (is : nat_le conn (first + more) ≡ true).
@@ -134,7 +140,8 @@ still_none first conn n (ClosedRun more) lt le none = ⊎_elim
 -- an entry has something under its own number
 own : (conn : ℕ) (e : Entry) → is_some (connection_in conn e conn) ≡ true
 own conn (One c) = ap is_some (one_here conn c)
-own conn (ClosedRun more) = ap is_some (cond-true (nat_le conn (conn + more)) (Some Closed) None (le-leb conn (conn + more) (omega arith)))
+own conn (ClosedRun more) =
+    ap is_some (cond-true (nat_le conn (conn + more)) (Some Closed) None (le-leb conn (conn + more) (omega arith)))
 
 pub one_is_run : (first : ℕ) → IsClosedRun first (One Closed) first
 one_is_run first = record { reaches = omega arith; closed = closed }
@@ -145,7 +152,8 @@ one_is_run first = record { reaches = omega arith; closed = closed }
         cond-true (nat_eq k first) (Some Closed) None (eq-eqb k first same)
         ∙ sym (cond-true (nat_le k first) (Some Closed) None (le-leb k first (omega arith))))
         (λ (apart : k ≢ first).
-        one_apart k first Closed apart ∙ sym (cond-false (nat_le k first) (Some Closed) None (lt-leb k first (omega arith))))
+        one_apart k first Closed apart
+        ∙ sym (cond-false (nat_le k first) (Some Closed) None (lt-leb k first (omega arith))))
         (cases_eq k first)
 
 pub run_is_run : (first more last : ℕ) → last ≡ first + more → IsClosedRun first (ClosedRun more) last
@@ -163,7 +171,11 @@ key_apart f k conn e none some same = none-some e (sym none ∙ ap f same ∙ so
 stays : (f g : ℕ → Option Entry) (n first : ℕ) (e : Entry) → IsLastUpTo f n first e → g first ≡ f first
     → ((k : ℕ) → first < k → k ≤ n → g k ≡ f k) → connection_at g n ≡ connection_at f n
 stays f g n first e l here others =
-    at_last g n first e (record { here = here ∙ l.here; within = l.within; none = λ k lt le. others k lt le ∙ l.none k lt le })
+    at_last g n first e (record {
+      here = here ∙ l.here;
+      within = l.within;
+      none = λ k lt le. others k lt le ∙ l.none k lt le;
+    })
     ∙ sym (at_last f n first e l)
 
 -- the entries are those of before at each number
@@ -175,8 +187,10 @@ same_entries f g same n = ⊎_elim
 
 -- ---- a number
 
-pub at_own : (f : ℕ → Option Entry) (conn : ℕ) (e : Entry) → f conn ≡ Some e → connection_at f conn ≡ connection_in conn e conn
-at_own f conn e is = at_last f conn conn e (record { here = is; within = omega arith; none = λ k lt le. absurd (omega arith) })
+pub at_own : (f : ℕ → Option Entry) (conn : ℕ) (e : Entry) → f conn ≡ Some e
+    → connection_at f conn ≡ connection_in conn e conn
+at_own f conn e is = at_last f conn conn e
+    (record { here = is; within = omega arith; none = λ k lt le. absurd (omega arith) })
 
 pub at_one : (f : ℕ → Option Entry) (conn : ℕ) (c : Connection) → f conn ≡ Some (One c) → connection_at f conn ≡ Some c
 at_one f conn c is = at_own f conn (One c) is ∙ one_here conn c
@@ -186,9 +200,11 @@ pub seen_at : (f : ℕ → Option Entry) (conn : ℕ) (e : Entry) → f conn ≡
 seen_at f conn e is = ap is_some (at_own f conn e is) ∙ own conn e
 
 -- where the connection is not closed, there is no entry, or one that is this connection alone
-pub open_entry : (f : ℕ → Option Entry) (conn : ℕ) (c : Connection) → connection_at f conn ≡ Some c → is_closed c ≡ false → f conn ≡ Some (One c)
+pub open_entry : (f : ℕ → Option Entry) (conn : ℕ) (c : Connection) → connection_at f conn ≡ Some c
+    → is_closed c ≡ false → f conn ≡ Some (One c)
 open_entry f conn c is is_open = ⊎_elim
-    (λ (l : (first : ℕ) × (e : Entry) × IsLastUpTo f conn first e). at l.0 l.1 l.2.here (sym (at_last f conn l.0 l.1 l.2) ∙ is))
+    (λ (l : (first : ℕ) × (e : Entry) × IsLastUpTo f conn first e). at l.0 l.1 l.2.here
+    (sym (at_last f conn l.0 l.1 l.2) ∙ is))
     (λ (none : (k : ℕ) → k ≤ conn → f k ≡ None). absurd (none-some c (sym (at_none f conn none) ∙ is)))
     (last_or_none f conn)
   where
@@ -200,7 +216,8 @@ open_entry f conn c is is_open = ⊎_elim
         let both = cond_some (nat_le conn (first + more)) Closed c has in
         absurd (false≢true (sym is_open ∙ ap is_closed (sym both.1)))
 
-pub no_entry : (f : ℕ → Option Entry) (conn : ℕ) → f conn ≡ None → closed_at (connection_at f conn) ≡ false → connection_at f conn ≡ None
+pub no_entry : (f : ℕ → Option Entry) (conn : ℕ) → f conn ≡ None → closed_at (connection_at f conn) ≡ false
+    → connection_at f conn ≡ None
 no_entry f conn none is_open = at (connection_at f conn) refl
   where
     at : (o : Option Connection) → connection_at f conn ≡ o → connection_at f conn ≡ None
@@ -214,7 +231,8 @@ changed f g conn c d was is others n apart = ⊎_elim
     (λ (l : (first : ℕ) × (e : Entry) × IsLastUpTo f n first e). ⊎_elim
     (λ (same : l.0 ≡ conn). here l.0 l.1 l.2 same)
     (λ (other : l.0 ≢ conn).
-    stays f g n l.0 l.1 l.2 (others l.0 other) (λ k lt le. others k (key_apart f k conn (One c) (l.2.none k lt le) was)))
+    stays f g n l.0 l.1 l.2 (others l.0 other)
+    (λ k lt le. others k (key_apart f k conn (One c) (l.2.none k lt le) was)))
     (cases_eq l.0 conn))
     (λ (none : (k : ℕ) → k ≤ n → f k ≡ None).
     at_none g n (λ k le. others k (key_apart f k conn (One c) (none k le) was) ∙ none k le) ∙ sym (at_none f n none))
@@ -224,12 +242,17 @@ changed f g conn c d was is others n apart = ⊎_elim
     here first e l same =
         let above : (k : ℕ) → conn < k → k ≤ n → f k ≡ None = λ k lt le. l.none k (omega arith) le in
         let within = l.within in
-        at_last g n conn (One d) (record { here = is; within = omega arith; none = λ k lt le. others k (λ e. absurd (omega arith)) ∙ above k lt le })
+        at_last g n conn (One d) (record {
+          here = is;
+          within = omega arith;
+          none = λ k lt le. others k (λ e. absurd (omega arith)) ∙ above k lt le;
+        })
         ∙ one_apart n conn d apart ∙ sym (one_apart n conn c apart)
         ∙ sym (at_last f n conn (One c) (record { here = was; within = omega arith; none = above }))
 
 -- a connection is put where there was none
-pub opened : (f g : ℕ → Option Entry) (conn : ℕ) (c : Connection) → f conn ≡ None → connection_at f conn ≡ None → g conn ≡ Some (One c)
+pub opened : (f g : ℕ → Option Entry) (conn : ℕ) (c : Connection) → f conn ≡ None → connection_at f conn ≡ None
+    → g conn ≡ Some (One c)
     → ((k : ℕ) → k ≢ conn → g k ≡ f k) → (n : ℕ) → n ≢ conn → connection_at g n ≡ connection_at f n
 opened f g conn c was nothing is others n apart = ⊎_elim
     (λ (l : (first : ℕ) × (e : Entry) × IsLastUpTo f n first e). below l.0 l.1 l.2)
@@ -243,7 +266,11 @@ opened f g conn c was nothing is others n apart = ⊎_elim
     -- the new one is the last up to n, and has nothing there
     new : conn ≤ n → ((k : ℕ) → conn < k → k ≤ n → f k ≡ None) → connection_at g n ≡ None
     new le above =
-        at_last g n conn (One c) (record { here = is; within = le; none = λ k lt up_to. others k (λ e. absurd (omega arith)) ∙ above k lt up_to })
+        at_last g n conn (One c) (record {
+          here = is;
+          within = le;
+          none = λ k lt up_to. others k (λ e. absurd (omega arith)) ∙ above k lt up_to;
+        })
         ∙ one_apart n conn c apart
 
     outside : (first k : ℕ) → (conn ≤ first) ⊎ (n < conn) → first ≢ conn → first < k → k ≤ n → k ≡ conn → ⊥
@@ -254,13 +281,15 @@ opened f g conn c was nothing is others n apart = ⊎_elim
     below first e l =
         let other : first ≢ conn = λ same. key_apart f conn first e was l.here (sym same) in
         let stay : (conn ≤ first) ⊎ (n < conn) → connection_at g n ≡ connection_at f n =
-        λ out. stays f g n first e l (others first other) (λ k lt le. others k (λ same. absurd (outside first k out other lt le same))) in
+        λ out. stays f g n first e l (others first other)
+        (λ k lt le. others k (λ same. absurd (outside first k out other lt le same))) in
         ⊎_elim
         (λ (lt : first < conn). ⊎_elim
         (λ (past : n < conn). stay (inr past))
         (λ (le : conn ≤ n).
         let up_to : connection_at f conn ≡ connection_in first e conn =
-        at_last f conn first e (record { here = l.here; within = omega arith; none = λ k more at. l.none k more (omega arith) }) in
+        at_last f conn first e
+        (record { here = l.here; within = omega arith; none = λ k more at. l.none k more (omega arith) }) in
         new le (λ k more at. l.none k (omega arith) at)
         ∙ sym (at_last f n first e l ∙ still_none first conn n e lt le (sym up_to ∙ nothing)))
         (cases_lt n conn))
@@ -279,14 +308,17 @@ already_open f conn there =
 pub newly_open : (f g : ℕ → Option Entry) (conn : ℕ) → f conn ≡ None → closed_at (connection_at f conn) ≡ false
     → (c : Connection) × (g conn ≡ Some (One c)) × ConnectionRepresents c new_history
     → (c : Connection) × (connection_at g conn ≡ Some c) × OpenedAs (connection_at f conn) c
-newly_open f g conn none is_open (c, is, represents) = (c, at_one g conn c is, inr (no_entry f conn none is_open, represents))
+newly_open f g conn none is_open (c, is, represents) =
+    (c, at_one g conn c is, inr (no_entry f conn none is_open, represents))
 
-pub new_is_open : (g : ℕ → Option Entry) (conn : ℕ) → (c : Connection) × (g conn ≡ Some (One c)) × ConnectionRepresents c new_history
+pub new_is_open : (g : ℕ → Option Entry) (conn : ℕ) → (c : Connection) × (g conn ≡ Some (One c))
+    × ConnectionRepresents c new_history
     → closed_at (connection_at g conn) ≡ false
 new_is_open g conn (c, is, represents) = ap closed_at (at_one g conn c is) ∙ represents.closed
 
 -- a connection that is not closed is closed, if it was seen
-pub shut_here : (f g : ℕ → Option Entry) (conn : ℕ) (c : Connection) → connection_at f conn ≡ Some c → closed_at (connection_at f conn) ≡ false
+pub shut_here : (f g : ℕ → Option Entry) (conn : ℕ) (c : Connection) → connection_at f conn ≡ Some c
+    → closed_at (connection_at f conn) ≡ false
     → ((e : Entry) → f conn ≡ Some e → g conn ≡ Some (One Closed)) → connection_at g conn ≡ Some Closed
 shut_here f g conn c is is_open replaced =
     at_one g conn Closed (replaced (One c) (open_entry f conn c is (sym (ap closed_at is) ∙ is_open)))
@@ -306,7 +338,8 @@ shut_unseen f g conn nothing none others = same_entries f g same
     absent = no_key f conn nothing
 
     same : (k : ℕ) → g k ≡ f k
-    same k = ⊎_elim (λ (e : k ≡ conn). ap g e ∙ none absent ∙ sym (ap f e ∙ absent)) (λ (apart : k ≢ conn). others k apart) (cases_eq k conn)
+    same k = ⊎_elim (λ (e : k ≡ conn). ap g e ∙ none absent ∙ sym (ap f e ∙ absent))
+        (λ (apart : k ≢ conn). others k apart) (cases_eq k conn)
 
 pub shut_others : (f g : ℕ → Option Entry) (conn : ℕ) → closed_at (connection_at f conn) ≡ false
     → ((e : Entry) → f conn ≡ Some e → g conn ≡ Some (One Closed)) → (f conn ≡ None → g conn ≡ None)
@@ -320,21 +353,25 @@ shut_others f g conn is_open replaced none others n apart = at (connection_at f 
         changed f g conn c Closed was (replaced (One c) was) others n apart
 
 -- a closed connection
-pub shut_at : (o : Option Connection) (c : Connection) → o ≡ Some c → closed_at o ≡ true → (d : Connection) × (o ≡ Some d) × (is_closed d ≡ true)
+pub shut_at : (o : Option Connection) (c : Connection) → o ≡ Some c → closed_at o ≡ true → (d : Connection)
+    × (o ≡ Some d) × (is_closed d ≡ true)
 shut_at o c is closed = (c, is, sym (ap closed_at is) ∙ closed)
 
 -- ---- feeding
 
 -- an open connection's entry changes, and then entries are joined
-module _ (F : Connection → Connection → Type 0) (f g h : ℕ → Option Entry) (conn : ℕ) (is_open : closed_at (connection_at f conn) ≡ false)
+module _ (F : Connection → Connection → Type 0) (f g h : ℕ → Option Entry) (conn : ℕ)
+    (is_open : closed_at (connection_at f conn) ≡ false)
     (feeds : (c : Connection) → f conn ≡ Some (One c) → (d : Connection) × (g conn ≡ Some (One d)) × F c d)
     (settles : (k : ℕ) → connection_at h k ≡ connection_at g k) where
-  pub fed_here : (c : Connection) → connection_at f conn ≡ Some c → (d : Connection) × (connection_at h conn ≡ Some d) × F c d
+  pub fed_here : (c : Connection) → connection_at f conn ≡ Some c → (d : Connection) × (connection_at h conn ≡ Some d)
+      × F c d
   fed_here c is =
       let d = feeds c (open_entry f conn c is (sym (ap closed_at is) ∙ is_open)) in
       (d.0, settles conn ∙ at_one g conn d.0 d.1, d.2)
 
-  pub fed_others : is_some (connection_at f conn) ≡ true → ((k : ℕ) → k ≢ conn → g k ≡ f k) → (k : ℕ) → k ≢ conn → connection_at h k ≡ connection_at f k
+  pub fed_others : is_some (connection_at f conn) ≡ true → ((k : ℕ) → k ≢ conn → g k ≡ f k) → (k : ℕ) → k ≢ conn
+      → connection_at h k ≡ connection_at f k
   fed_others seen others k apart =
       let c = some_of (connection_at f conn) seen in
       let was = open_entry f conn c.0 c.1 (sym (ap closed_at c.1) ∙ is_open) in
@@ -344,7 +381,8 @@ module _ (F : Connection → Connection → Type 0) (f g h : ℕ → Option Entr
 -- ---- joining
 
 -- two closed runs, the second of which begins where the first ends, become one
-pub joined : (f g : ℕ → Option Entry) (first second end last : ℕ) (x y : Entry) → first < second → ((k : ℕ) → first < k → k < second → f k ≡ None)
+pub joined : (f g : ℕ → Option Entry) (first second end last : ℕ) (x y : Entry) → first < second
+    → ((k : ℕ) → first < k → k < second → f k ≡ None)
     → f first ≡ Some x → IsClosedRun first x end → end ≡ second - 1 → f second ≡ Some y → IsClosedRun second y last
     → g first ≡ Some (ClosedRun (last - first)) → g second ≡ None → ((k : ℕ) → k ≢ first → k ≢ second → g k ≡ f k)
     → (n : ℕ) → connection_at g n ≡ connection_at f n
@@ -355,11 +393,13 @@ joined f g first second end last x y lt between at_first run_first ends at_secon
     (λ (same : l.0 ≡ second). in_second (moved l.0 second l.1 y l.2 same at_second))
     (λ (third : l.0 ≢ second).
     stays f g n l.0 l.1 l.2 (others l.0 other third)
-    (λ k more le. let none = l.2.none k more le in others k (key_apart f k first x none at_first) (key_apart f k second y none at_second)))
+    (λ k more le. let none = l.2.none k more le in
+    others k (key_apart f k first x none at_first) (key_apart f k second y none at_second)))
     (cases_eq l.0 second))
     (cases_eq l.0 first))
     (λ (none : (k : ℕ) → k ≤ n → f k ≡ None).
-    at_none g n (λ k le. others k (key_apart f k first x (none k le) at_first) (key_apart f k second y (none k le) at_second) ∙ none k le)
+    at_none g n (λ k le. others k (key_apart f k first x (none k le) at_first)
+    (key_apart f k second y (none k le) at_second) ∙ none k le)
     ∙ sym (at_none f n none))
     (last_or_none f n)
   where
@@ -377,11 +417,13 @@ joined f g first second end last x y lt between at_first run_first ends at_secon
         (λ (same : k ≡ second). ap g same ∙ gone)
         (λ (apart : k ≢ second).
         others k (λ e. absurd (omega arith)) apart
-        ∙ ⊎_elim (λ (less : k < second). between k more less) (λ (far : second ≤ k). above k (omega arith) le) (cases_lt k second))
+        ∙ ⊎_elim (λ (less : k < second). between k more less) (λ (far : second ≤ k). above k (omega arith) le)
+        (cases_lt k second))
         (cases_eq k second)
 
     -- the joined run is the last up to n
-    in_new : first ≤ n → ((k : ℕ) → second < k → k ≤ n → f k ≡ None) → connection_at g n ≡ cond (nat_le n last) (Some Closed) None
+    in_new : first ≤ n → ((k : ℕ) → second < k → k ≤ n → f k ≡ None)
+        → connection_at g n ≡ cond (nat_le n last) (Some Closed) None
     in_new le above =
         at_last g n first (ClosedRun (last - first)) (record { here = new; within = le; none = gone_above above })
         ∙ ap (λ (q : ℕ). cond (nat_le n q) (Some Closed) None) reaches
@@ -408,21 +450,25 @@ within_last : (first n : ℕ) (e : Entry) → first ≤ n → n ≤ last_in firs
 within_last first n (One c) le at =
     let same : n ≡ first = omega arith in
     ap is_some (cond-true (nat_eq n first) (Some c) None (eq-eqb n first same))
-within_last first n (ClosedRun more) le at = ap is_some (cond-true (nat_le n (first + more)) (Some Closed) None (le-leb n (first + more) at))
+within_last first n (ClosedRun more) le at =
+    ap is_some (cond-true (nat_le n (first + more)) (Some Closed) None (le-leb n (first + more) at))
 
 past_last : (first n : ℕ) (e : Entry) → last_in first e < n → connection_in first e n ≡ None
 past_last first n (One c) lt = one_apart n first c (λ same. absurd (omega arith))
-past_last first n (ClosedRun more) lt = cond-false (nat_le n (first + more)) (Some Closed) None (lt-leb n (first + more) lt)
+past_last first n (ClosedRun more) lt = cond-false (nat_le n (first + more)) (Some Closed) None
+    (lt-leb n (first + more) lt)
 
 reaches_last : (first : ℕ) (e : Entry) → first ≤ last_in first e
 reaches_last first (One c) = omega arith
 reaches_last first (ClosedRun more) = omega arith
 
 -- the number after the last entry
-pub next_after : (f : ℕ → Option Entry) (first : ℕ) (e : Entry) (next : Option ℕ) → f first ≡ Some e → ((k : ℕ) → first < k → f k ≡ None)
+pub next_after : (f : ℕ → Option Entry) (first : ℕ) (e : Entry) (next : Option ℕ) → f first ≡ Some e
+    → ((k : ℕ) → first < k → f k ≡ None)
     → first ≤ 18446744073709551615 → IsNextIn first e next → IsNextNumber (λ k. connection_at f k) next
 next_after f first e None here none fits is =
-    let l : IsLastUpTo f 18446744073709551615 first e = record { here = here; within = fits; none = λ k lt le. none k lt } in
+    let l : IsLastUpTo f 18446744073709551615 first e =
+    record { here = here; within = fits; none = λ k lt le. none k lt } in
     ap is_some (at_last f 18446744073709551615 first e l) ∙ within_last first 18446744073709551615 e fits is
 next_after f first e (Some n) here none fits is =
     let far = reaches_last first e in

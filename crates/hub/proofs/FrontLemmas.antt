@@ -23,8 +23,10 @@ use Rattle.hub.specs.Feeding.{IsServed, ServesFront}
 use Rattle.hub.specs.declared.front.Served.{Served}
 
 -- a front is refused, and the store is not asked
-pub refusal_serves : (r : Result Served Fault) (rest : List ℕ) (status : Status) (store : Kept) (m : ℕ) (w : Words) → IsFront rest (refused_with status)
-    → IfOk r (λ s. IsReply (front_refused status) m true s.bytes.items) → IfOk r (λ s. s.len ≡ None) → IfOk r (λ s. s.closes ≡ true)
+pub refusal_serves : (r : Result Served Fault) (rest : List ℕ) (status : Status) (store : Kept) (m : ℕ) (w : Words)
+    → IsFront rest (refused_with status)
+    → IfOk r (λ s. IsReply (front_refused status) m true s.bytes.items) → IfOk r (λ s. s.len ≡ None)
+    → IfOk r (λ s. s.closes ≡ true)
     → IfOk r (ServesFront store store m w rest)
 refusal_serves (Err e) rest status store m w front reply len closing = tt
 refusal_serves (Ok s) rest status store m w front reply len closing =
@@ -39,14 +41,16 @@ refusal_serves (Ok s) rest status store m w front reply len closing =
     }
 
 -- what was served is the reply to a whole request
-pub record RequestServed (old new : Kept) (m : ℕ) (w : Words) (p : HeadParts) (body : List ℕ) (s : Served) : Type 0 where
+pub record RequestServed (old new : Kept) (m : ℕ) (w : Words) (p : HeadParts) (body : List ℕ)
+    (s : Served) : Type 0 where
   pub closes : s.closes ≡ request_closes p (asked p body)
   pub reply : IsRequestReply m (request_closes p (asked p body)) (asked p body) s.bytes.items
   pub broker : IsHonestStore new → (b : Broker) → Represents None old.rows b
       → IsServed (request_effect b m w (asked p body)) m (request_closes p (asked p body)) s.bytes.items new.rows
   pub clock : IsHonestStore new → OnOk (asked p body) (HasClock old.rows)
 
-pub request_serves : (r : Result Served Fault) (rest : List ℕ) (len : ℕ) (p : HeadParts) (body : List ℕ) (old new : Kept) (m : ℕ) (w : Words)
+pub request_serves : (r : Result Served Fault) (rest : List ℕ) (len : ℕ) (p : HeadParts) (body : List ℕ)
+    (old new : Kept) (m : ℕ) (w : Words)
     → IsFront rest (whole len p body) → IfOk r (λ s. s.len ≡ Some len)
     → IfOk r (RequestServed old new m w p body) → IfOk r (ServesFront old new m w rest)
 request_serves (Err e) rest len p body old new m w front told served = tt
@@ -66,7 +70,8 @@ pub request_served : (r : Result Served Fault) (old new : Kept) (m : ℕ) (w : W
     → IfOk r (λ s. s.closes ≡ request_closes p (asked p body))
     → IfOk r (λ s. IsRequestReply m (request_closes p (asked p body)) (asked p body) s.bytes.items)
     → (IsHonestStore new → (b : Broker) → Represents None old.rows b
-    → IfOk r (λ s. IsServed (request_effect b m w (asked p body)) m (request_closes p (asked p body)) s.bytes.items new.rows))
+    → IfOk r (λ s. IsServed (request_effect b m w (asked p body)) m
+    (request_closes p (asked p body)) s.bytes.items new.rows))
     → (IsHonestStore new → OnOk r (OnOk (asked p body) (HasClock old.rows)))
     → IfOk r (RequestServed old new m w p body)
 request_served (Err e) old new m w p body closing reply broker clock = tt
@@ -75,13 +80,17 @@ request_served (Ok s) old new m w p body closing reply broker clock =
 
 -- ---- what a request that asks the broker gives
 
-pub asked_served : (b : Broker) (m : ℕ) (w : Words) (p : HeadParts) (x : Result Ask RefusalParts) (ask : Ask) (a : Response) (close : Bool)
+pub asked_served : (b : Broker) (m : ℕ) (w : Words) (p : HeadParts) (x : Result Ask RefusalParts) (ask : Ask)
+    (a : Response) (close : Bool)
     (bytes : List ℕ) (rows : Rows)
-    → x ≡ Ok ask → close ≡ closes p → a ≡ (step b m w ask).response → IsReply a m close bytes → Represents None rows (step b m w ask).next
+    → x ≡ Ok ask → close ≡ closes p → a ≡ (step b m w ask).response → IsReply a m close bytes
+    → Represents None rows (step b m w ask).next
     → IsServed (request_effect b m w x) m (request_closes p x) bytes rows
 asked_served b m w p x ask a close bytes rows is same response reply held =
-    subst (λ (y : Result Ask RefusalParts). IsServed (request_effect b m w y) m (request_closes p y) bytes rows) (sym is)
+    subst (λ (y : Result Ask RefusalParts). IsServed (request_effect b m w y) m (request_closes p y) bytes rows)
+    (sym is)
     (record {
-      reply = subst (λ (c : Bool). IsReply (step b m w ask).response m c bytes) same (subst (λ (t : Response). IsReply t m close bytes) response reply);
+      reply = subst (λ (c : Bool). IsReply (step b m w ask).response m c bytes) same
+          (subst (λ (t : Response). IsReply t m close bytes) response reply);
       broker = held;
     })

@@ -1,5 +1,6 @@
 -- Which faults a call has, and what it leaves of the store.
-use Rattle.std.proofs.Common.{◌≡◌, ◌≢◌, ◌∙◌, ◌||◌, ℕ, Bool, true, false, [], Vec, Result, Ok, Err, IsTrue, MatchResult, refl, sym, ap, subst, arith}
+use Rattle.std.proofs.Common.{◌≡◌, ◌≢◌, ◌∙◌, ◌||◌, ℕ, Bool, true, false, [], Vec, Result, Ok, Err, IsTrue, MatchResult}
+use Rattle.std.proofs.Common.{refl, sym, ap, subst, arith}
 use Rattle.std.specs.declared.alloc.Global.{Global}
 use Rattle.broker_types.specs.declared.fault.Fault.{Fault}
 use Rattle.broker_types.specs.declared.fault.Fault.TheVariants.{Storage}
@@ -31,7 +32,8 @@ keeps_ok seen F W a old new same later =
     }
 
 -- nothing was done
-pub keeps_none : {S A : Type 0} (seen : S → Kept) (F W : Type 0) (a : A) (hub : Hub S) → KeepsStore seen F W (Ok a) hub hub
+pub keeps_none : {S A : Type 0} (seen : S → Kept) (F W : Type 0) (a : A) (hub : Hub S)
+    → KeepsStore seen F W (Ok a) hub hub
 keeps_none seen F W a hub =
     keeps_ok seen F W a hub hub (λ honest. refl) (record { mismatches = omega arith; closes = λ open_. open_ })
 
@@ -50,7 +52,8 @@ keeps_feeding seen F W fault old new k =
       read = λ is. cc is;
       write = λ is. cc is;
       storage = λ is. let same : fault ≡ Storage = cc is in k.storage (ap Err same);
-      stays_open = λ honest other. k.stays_open honest (not_storage (Vec ℕ Global) fault (λ is. other (ap (λ (f : Fault). Broker f) is)));
+      stays_open = λ honest other. k.stays_open honest
+          (not_storage (Vec ℕ Global) fault (λ is. other (ap (λ (f : Fault). Broker f) is)));
       later = k.later;
     }
 
@@ -59,7 +62,8 @@ pub failed_now : (before now : Bool) → now ≡ (before || true) → IsTrue now
 failed_now true now is = is
 failed_now false now is = is
 
-end_allowed : (conn : ℕ) (fault : ConnectionFault) → IsUnanswered conn fault [] → IsAllowed fault × (fault ≢ Broker Storage)
+end_allowed : (conn : ℕ) (fault : ConnectionFault) → IsUnanswered conn fault [] → IsAllowed fault
+    × (fault ≢ Broker Storage)
 end_allowed conn (Broker fault) (e, of, is) = let bad : ⊥ = cc is in absurd bad
 end_allowed conn Read is = (tt, λ bad. cc bad)
 end_allowed conn Write is = (tt, λ bad. cc bad)
@@ -67,7 +71,8 @@ end_allowed conn Write is = (tt, λ bad. cc bad)
 -- ---- one call after another
 
 -- a call that returned, and then the connection was closed since an end failed
-pub keeps_closing : {S A B : Type 0} (seen : S → Kept) (conn : ℕ) (F W G V : Type 0) (fault : ConnectionFault) (a : B) (old mid new : Hub S)
+pub keeps_closing : {S A B : Type 0} (seen : S → Kept) (conn : ℕ) (F W G V : Type 0) (fault : ConnectionFault) (a : B)
+    (old mid new : Hub S)
     → IsUnanswered conn fault [] → (fault ≡ Read → F) → (fault ≡ Write → W) → KeepsStore seen G V (Ok a) old mid
     → hub_store seen new ≡ hub_store seen mid → KeepsStore {A = A} seen F W (Err fault) old new
 keeps_closing seen conn F W G V fault a old mid new none read write k same =
@@ -82,7 +87,8 @@ keeps_closing seen conn F W G V fault a old mid new none read write k same =
     }
 
 -- an event was answered, and writing its reply failed
-pub keeps_writing : {S A : Type 0} (seen : S → Kept) (conn : ℕ) (F W : Type 0) (reply : Vec ℕ Global) (old mid new : Hub S) → W
+pub keeps_writing : {S A : Type 0} (seen : S → Kept) (conn : ℕ) (F W : Type 0) (reply : Vec ℕ Global)
+    (old mid new : Hub S) → W
     → Keeps (hub_store seen old) (hub_store seen mid) (Ok reply) → hub_store seen new ≡ hub_store seen mid
     → KeepsStore {A = A} seen F W (Err Write) old new
 keeps_writing seen conn F W reply old mid new failed k same =
@@ -95,8 +101,10 @@ open_on : {A : Type 0} (r : Result A ConnectionFault) (x m o : Bool)
 open_on (Ok a) x m o same first = same ∙ first
 open_on (Err fault) x m o same first = λ other. same other ∙ first
 
-pub keeps_on : {S A B : Type 0} (seen : S → Kept) (F W G V : Type 0) (a : A) (r : Result B ConnectionFault) (old mid new : Hub S)
-    → (IsHonestStore (hub_store seen mid) → (w : World) → HubRepresents seen old w → (v : World) × HubRepresents seen mid v)
+pub keeps_on : {S A B : Type 0} (seen : S → Kept) (F W G V : Type 0) (a : A) (r : Result B ConnectionFault)
+    (old mid new : Hub S)
+    → (IsHonestStore (hub_store seen mid) → (w : World) → HubRepresents seen old w → (v : World)
+    × HubRepresents seen mid v)
     → KeepsStore seen G V (Ok a) old mid → KeepsStore seen F W r mid new → KeepsStore seen F W r old new
 keeps_on seen F W G V a r old mid new worlds first second =
     let before = honest_before (hub_store seen mid) (hub_store seen new) second.later.mismatches in
@@ -105,7 +113,8 @@ keeps_on seen F W G V a r old mid new worlds first second =
       read = second.read;
       write = second.write;
       storage = second.storage;
-      stays_open = λ honest. open_on r (hub_store seen new).is_open (hub_store seen mid).is_open (hub_store seen old).is_open
+      stays_open = λ honest. open_on r (hub_store seen new).is_open (hub_store seen mid).is_open
+          (hub_store seen old).is_open
           (second.stays_open honest) (first.stays_open (before honest));
       later = later_still (hub_store seen old) (hub_store seen mid) (hub_store seen new) first.later second.later;
     }
@@ -113,7 +122,8 @@ keeps_on seen F W G V a r old mid new worlds first second =
 -- ---- other words
 
 -- the same fault of another call, with another cause of a fault of reading
-pub keeps_err : {S A B : Type 0} (seen : S → Kept) (F G W : Type 0) (fault : ConnectionFault) (old new : Hub S) → (F → G)
+pub keeps_err : {S A B : Type 0} (seen : S → Kept) (F G W : Type 0) (fault : ConnectionFault) (old new : Hub S)
+    → (F → G)
     → KeepsStore {A = A} seen F W (Err fault) old new → KeepsStore {A = B} seen G W (Err fault) old new
 keeps_err seen F G W fault old new causes k =
     record {

@@ -13,8 +13,10 @@ seen_too (Some c) None e t = absurd t
 seen_too (Some c) (Some h) e t = refl
 
 -- the numbers that the hub has seen are those of the connections
-pub next_of : (kept : ℕ → Option Connection) (all : Connections) (n : Option ℕ) → EachRepresents kept all → IsNextNumber kept n → IsNextNumber all n
-next_of kept all None each is = seen_too (kept 18446744073709551615) (all 18446744073709551615) is (each 18446744073709551615)
+pub next_of : (kept : ℕ → Option Connection) (all : Connections) (n : Option ℕ) → EachRepresents kept all
+    → IsNextNumber kept n → IsNextNumber all n
+next_of kept all None each is = seen_too (kept 18446744073709551615) (all 18446744073709551615) is
+    (each 18446744073709551615)
 next_of kept all (Some n) each is =
     record { unseen = λ k le. unseen (kept k) (all k) (is.unseen k le) (each k); last = at is.last }
   where

@@ -1,5 +1,6 @@
 -- What the hub keeps of a connection tells whether a request waits on it.
-use Rattle.std.proofs.Common.{◌≡◌, ◌∙◌, ◌⊎◌, inl, inr, ℕ, Bool, true, false, List, [], Option, Some, None, unwrap_or, refl, sym, ap, subst}
+use Rattle.std.proofs.Common.{◌≡◌, ◌∙◌, ◌⊎◌, inl, inr, ℕ, Bool, true, false, List, [], Option, Some, None, unwrap_or}
+use Rattle.std.proofs.Common.{refl, sym, ap, subst}
 use Rattle.std.proofs.lemmas.Bool.{false≢true}
 use Rattle.http_layer.specs.Front.{IsFront, need, unended}
 use Rattle.http_layer.specs.HeadEndLaws.{HasNoHeadEnd-nil}
@@ -30,7 +31,8 @@ open_answered bytes h p needs =
     subst (λ (l : List ℕ). IsFront l need) (sym same) needs)
 
 -- what has no request is answered
-pub answered_of : (o : Option Connection) (x : Option History) → EntryRepresents o x → HasNoRequest o → AnsweredAt (unwrap_or x new_history)
+pub answered_of : (o : Option Connection) (x : Option History) → EntryRepresents o x → HasNoRequest o
+    → AnsweredAt (unwrap_or x new_history)
 answered_of None None p none = inr (λ rest is. subst (λ (l : List ℕ). IsFront l need) (sym is) nothing_needs)
 answered_of None (Some h) p none = absurd p
 answered_of (Some c) None p none = absurd p
@@ -38,7 +40,8 @@ answered_of (Some (Open bytes)) (Some h) p none = open_answered bytes h p none
 answered_of (Some Closed) (Some h) p none = inl (sym p.closed)
 
 -- and what is answered has none
-pub none_of : (o : Option Connection) (x : Option History) → EntryRepresents o x → AnsweredAt (unwrap_or x new_history) → HasNoRequest o
+pub none_of : (o : Option Connection) (x : Option History) → EntryRepresents o x → AnsweredAt (unwrap_or x new_history)
+    → HasNoRequest o
 none_of None x p answered = tt
 none_of (Some Closed) x p answered = tt
 none_of (Some (Open bytes)) None p answered = absurd p
@@ -63,4 +66,5 @@ is_one (Some (ClosedRun more)) = false
 
 -- only an entry that is one connection can have a request
 pub no_request_at : (f : ℕ → Option Entry) (conn : ℕ) → is_one (f conn) ≡ false → HasNoRequest (connection_at f conn)
-no_request_at f conn none = request_at f conn (connection_at f conn) refl (λ c here. absurd (false≢true (sym none ∙ ap is_one here)))
+no_request_at f conn none = request_at f conn (connection_at f conn) refl
+    (λ c here. absurd (false≢true (sym none ∙ ap is_one here)))

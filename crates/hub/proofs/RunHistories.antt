@@ -51,7 +51,8 @@ EventsAsked-append w (e ∷ es) fs (r ∷ rs) ss [] ks mid after run next = absu
 EventsAsked-append w (e ∷ es) fs (r ∷ rs) ss (h ∷ hs) ks mid after (v, first, run) next =
     (v, first, EventsAsked-append v es fs rs ss hs ks mid after run next)
 
-pub AreAsked-one : (b : Broker) (asking : Option Asking) → ((a : Asking) → asking ≡ Some a → IsAsked b a) → AreAsked b (asking ∷ [])
+pub AreAsked-one : (b : Broker) (asking : Option Asking) → ((a : Asking) → asking ≡ Some a → IsAsked b a)
+    → AreAsked b (asking ∷ [])
 AreAsked-one b None is = tt
 AreAsked-one b (Some a) is = (is a refl, tt)
 

@@ -1,5 +1,6 @@
 -- Turns made of what was read, served and sent.
-use Rattle.std.proofs.Common.{◌≡◌, ◌∙◌, ◌⊎◌, inl, inr, ◌<◌, ◌≤◌, ℕ, List, [], ◌∷◌, ◌++◌, length, Option, Some, None, Result, Ok, Err, MatchResult, refl, sym, ap, subst, take, append-nil}
+use Rattle.std.proofs.Common.{◌≡◌, ◌∙◌, ◌⊎◌, inl, inr, ◌<◌, ◌≤◌, ℕ, List, [], ◌∷◌, ◌++◌, length, Option, Some, None}
+use Rattle.std.proofs.Common.{Result, Ok, Err, MatchResult, refl, sym, ap, subst, take, append-nil}
 use Rattle.std.specs.Io.KnownBytes.{Appends, Consumes, IsAtEnd}
 use Rattle.broker.specs.Kept.{Kept}
 use Rattle.endpoints.specs.Now.{PullsNow}
@@ -18,11 +19,14 @@ use Rattle.hub.proofs.KnownLemmas.{Appends-nil, Consumes-kept}
 
 -- ---- what was sent
 
-pub passes_nothing : (known : Option (List ℕ)) (before after : List ℕ) → before ≡ after → Passes (Appends known known) before after []
-passes_nothing known before after same = record { sent = []; sends = Appends-nil known; whole = append-nil before ∙ same }
+pub passes_nothing : (known : Option (List ℕ)) (before after : List ℕ) → before ≡ after
+    → Passes (Appends known known) before after []
+passes_nothing known before after same =
+    record { sent = []; sends = Appends-nil known; whole = append-nil before ∙ same }
 
 -- a reply in place of nothing, of which something was sent
-pub passes_reply : (Sends : List ℕ → Type 0) (before set after reply : List ℕ) → before ≡ [] → set ≡ reply → Passes Sends set after []
+pub passes_reply : (Sends : List ℕ → Type 0) (before set after reply : List ℕ) → before ≡ [] → set ≡ reply
+    → Passes Sends set after []
     → Passes Sends before after (reply ++ [])
 passes_reply Sends before set after reply none same p = record {
   sent = p.sent;
@@ -38,7 +42,8 @@ said_sending turn (inl is) = subst (λ (t : Turn). Says t []) (sym is) (inl refl
 said_sending turn (inr is) = subst (λ (t : Turn). Says t []) (sym is) refl
 
 -- a call that served at most one event, as a turn
-pub turns_ok : {S : Type 0} {seen : S → Kept} {P Sends : List ℕ → Type 0} {X : List Event → Type 0} {F W : Type 0} {turn : Turn}
+pub turns_ok : {S : Type 0} {seen : S → Kept} {P Sends : List ℕ → Type 0} {X : List Event → Type 0} {F W : Type 0}
+    {turn : Turn}
     {old new : Hub S} (before after : Link) (conn : ℕ) → conn ≡ number_of before → number_of after ≡ number_of before
     → (s : Serves seen conn P (Passes Sends (unsent before) (unsent after)) X F W (Ok turn) old new)
     → length s.served.exchange.events ≤ 1 → Says turn s.served.exchange.replies
@@ -58,7 +63,8 @@ pub turns_err : {S : Type 0} {seen : S → Kept} {P Sends : List ℕ → Type 0}
     {fault : ConnectionFault} {old new : Hub S} (before after : Link) (conn : ℕ) → conn ≡ number_of before
     → number_of after ≡ number_of before
     → (s : Serves {A = Turn} seen conn P (Passes Sends (unsent before) (unsent after)) X F W (Err fault) old new)
-    → length (s.served.exchange.events ++ s.served.last) ≤ 1 → Passes Sends (unsent before) (unsent after) (sent_in s.served.exchange)
+    → length (s.served.exchange.events ++ s.served.last) ≤ 1
+    → Passes Sends (unsent before) (unsent after) (sent_in s.served.exchange)
     → TurnsLink seen before after P Sends X F W (Err fault) old new
 turns_err {seen} {P} {Sends} {X} {fault} {old} {new} before after conn at same s one sent =
     record {
@@ -66,14 +72,16 @@ turns_err {seen} {P} {Sends} {X} {fault} {old} {new} before after conn at same s
           (record { stops = s.served; one = one; written = sent });
       same = same;
       others = λ all represents. subst (λ (k : ℕ). LeavesOthers k all new) at (s.others all represents);
-      gone = subst (λ (k : ℕ). (all : Connections) → ConnectionsRepresent new all → IsGone all k) (at ∙ sym same) s.gone;
+      gone = subst (λ (k : ℕ). (all : Connections) → ConnectionsRepresent new all → IsGone all k)
+          (at ∙ sym same) s.gone;
       keeps = s.keeps;
     }
 
 -- ---- what was read
 
 -- the piece is what was read
-turned_so : {S : Type 0} (seen : S → Kept) (conn : ℕ) (piece : List ℕ) (Q T : List ℕ → Type 0) (X : List Event → Type 0) (old new : Hub S)
+turned_so : {S : Type 0} (seen : S → Kept) (conn : ℕ) (piece : List ℕ) (Q T : List ℕ → Type 0) (X : List Event → Type 0)
+    (old new : Hub S)
     (r : Result Turn ConnectionFault) → Q piece
     → MatchResult r (λ turn. TakesTurn seen turn conn (λ read. read ≡ piece) T X old new)
     (λ fault. TurnStops seen conn (λ read. read ≡ piece) T X fault old new)
@@ -107,12 +115,15 @@ turned_so seen conn piece Q T X old new (Err fault) q t = record {
 }
 
 -- so of a turn
-pub turns_so : {S : Type 0} {seen : S → Kept} {before after : Link} {piece : List ℕ} {Q Sends : List ℕ → Type 0} {X : List Event → Type 0}
+pub turns_so : {S : Type 0} {seen : S → Kept} {before after : Link} {piece : List ℕ} {Q Sends : List ℕ → Type 0}
+    {X : List Event → Type 0}
     {F W : Type 0} {r : Result Turn ConnectionFault} {old new : Hub S} → Q piece
-    → TurnsLink seen before after (λ read. read ≡ piece) Sends X ⊥ W r old new → TurnsLink seen before after Q Sends X F W r old new
+    → TurnsLink seen before after (λ read. read ≡ piece) Sends X ⊥ W r old new
+    → TurnsLink seen before after Q Sends X F W r old new
 turns_so {seen} {before} {after} {piece} {Q} {Sends} {X} {r} {old} {new} q t =
     record {
-      took = turned_so seen (number_of before) piece Q (Passes Sends (unsent before) (unsent after)) X old new r q t.took;
+      took = turned_so seen (number_of before) piece Q
+          (Passes Sends (unsent before) (unsent after)) X old new r q t.took;
       same = t.same;
       others = t.others;
       gone = t.gone;
@@ -126,18 +137,23 @@ turns_so {seen} {before} {after} {piece} {Q} {Sends} {X} {r} {old} {new} q t =
       };
     }
 
-pub pulled_none : (old new : Option (List ℕ)) (got : Option ℕ) (buffer : List ℕ) → got ≡ None → PullsNow old new got buffer → Consumes old new []
+pub pulled_none : (old new : Option (List ℕ)) (got : Option ℕ) (buffer : List ℕ) → got ≡ None
+    → PullsNow old new got buffer → Consumes old new []
 pulled_none old new got buffer is p = Consumes-kept old new (subst (λ (o : Option ℕ). PullsNow old new o buffer) is p)
 
-pub pulled_some : (old new : Option (List ℕ)) (got : Option ℕ) (buffer : List ℕ) (count : ℕ) → got ≡ Some count → PullsNow old new got buffer
+pub pulled_some : (old new : Option (List ℕ)) (got : Option ℕ) (buffer : List ℕ) (count : ℕ) → got ≡ Some count
+    → PullsNow old new got buffer
     → Consumes old new (take count buffer)
 pulled_some old new got buffer count is p = let q = subst (λ (o : Option ℕ). PullsNow old new o buffer) is p in q.0
 
-pub pulled_end : (old new : Option (List ℕ)) (got : Option ℕ) (buffer : List ℕ) (count : ℕ) → got ≡ Some count → count ≡ 0 → PullsNow old new got buffer
+pub pulled_end : (old new : Option (List ℕ)) (got : Option ℕ) (buffer : List ℕ) (count : ℕ) → got ≡ Some count
+    → count ≡ 0 → PullsNow old new got buffer
     → Consumes old new []
 pulled_end old new got buffer count is zero p =
     subst (λ (k : ℕ). Consumes old new (take k buffer)) zero (pulled_some old new got buffer count is p)
 
-pub ends_now : (old new : Option (List ℕ)) (got : Option ℕ) (buffer : List ℕ) (count : ℕ) → got ≡ Some count → count ≡ 0 → 0 < length buffer
+pub ends_now : (old new : Option (List ℕ)) (got : Option ℕ) (buffer : List ℕ) (count : ℕ) → got ≡ Some count → count ≡ 0
+    → 0 < length buffer
     → PullsNow old new got buffer → IsAtEnd new
-ends_now old new got buffer count is zero room p = let q = subst (λ (o : Option ℕ). PullsNow old new o buffer) is p in q.1 zero room
+ends_now old new got buffer count is zero room p = let q = subst (λ (o : Option ℕ). PullsNow old new o buffer) is p in
+    q.1 zero room

@@ -40,9 +40,12 @@ left_by-append b (None ∷ hs) ks = left_by-append b hs ks
 left_by-append b (Some x ∷ hs) ks = left_by-append x.outcome.next hs ks
 
 -- what was asked of the broker that a history left was asked after that history
-pub asked_on : (b mid : Broker) (hs ks : History) → mid ≡ left_by b hs → AreAsked b hs → AreAsked mid ks → AreAsked b (hs ++ ks)
-asked_on b mid hs ks left first second = AreAsked-append b hs ks first (subst (λ (c : Broker). AreAsked c ks) left second)
+pub asked_on : (b mid : Broker) (hs ks : History) → mid ≡ left_by b hs → AreAsked b hs → AreAsked mid ks
+    → AreAsked b (hs ++ ks)
+asked_on b mid hs ks left first second = AreAsked-append b hs ks first
+    (subst (λ (c : Broker). AreAsked c ks) left second)
 
 -- and left what both did
-pub left_on : (b mid after : Broker) (hs ks : History) → mid ≡ left_by b hs → after ≡ left_by mid ks → after ≡ left_by b (hs ++ ks)
+pub left_on : (b mid after : Broker) (hs ks : History) → mid ≡ left_by b hs → after ≡ left_by mid ks
+    → after ≡ left_by b (hs ++ ks)
 left_on b mid after hs ks first second = second ∙ ap (λ (c : Broker). left_by c ks) first ∙ sym (left_by-append b hs ks)

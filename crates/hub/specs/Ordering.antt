@@ -1,6 +1,7 @@
 -- Turns on many lines, in any order: what each line read and sent of one list of steps over all of them (this project's
 -- definition).
-use Rattle.std.specs.Prelude.{◌≡◌, ◌≢◌, ◌<◌, ℕ, Bool, List, [], ◌∷◌, ◌++◌, Option, None, Some, ⊤, IsTrue, filter, length}
+use Rattle.std.specs.Prelude.{◌≡◌, ◌≢◌, ◌<◌, ℕ, Bool, List, [], ◌∷◌, ◌++◌, Option, None, Some, ⊤, IsTrue, filter}
+use Rattle.std.specs.Prelude.{length}
 use Rattle.std.specs.Prelude.{nat_eq}
 use Rattle.std.specs.List.{All, concat, flat_map, slice_index_or}
 use Rattle.std.specs.Io.KnownBytes.{Appends, Consumes}

@@ -28,20 +28,25 @@ told_in_range vs all =
     (All-weaker IsNumbered (λ v. IsToldInRange (version_metadata v))
     (λ v n. record { created = n.in_range.created; deleted = n.in_range.deleted }) vs all)
 
-module _ (forms : Forms) (b : Broker) (sound : SoundSecrets forms b.secrets) (rows : Rows) (told : Tells of_secrets (table_of rows) b) (mount path name : Text)
+module _ (forms : Forms) (b : Broker) (sound : SoundSecrets forms b.secrets) (rows : Rows)
+    (told : Tells of_secrets (table_of rows) b) (mount path name : Text)
     (is : name ≡ secret_name mount path) where
   abbrev here : Option Key
   here = get b.secrets (secret_name mount path)
 
   pub key_told : HasKey (table_of rows) name (option_map key_entry here)
-  key_told = subst (λ q. HasKey (table_of rows) q (option_map key_entry here)) (sym is) (has_key forms b sound (table_of rows) told (secret_name mount path))
+  key_told = subst (λ q. HasKey (table_of rows) q (option_map key_entry here)) (sym is)
+      (has_key forms b sound (table_of rows) told (secret_name mount path))
 
   -- no key, no metadata
-  pub describe_none : (o : Option KeyEntry) → ((k : Option KeyEntry) → HasKey (table_of rows) name k → o ≡ k) → o ≡ None → None ≡ metadata b mount path
-  describe_none o found none = sym (ap (option_map metadata_of) (mapped_none key_entry here (sym (found (option_map key_entry here) key_told) ∙ none)))
+  pub describe_none : (o : Option KeyEntry) → ((k : Option KeyEntry) → HasKey (table_of rows) name k → o ≡ k) → o ≡ None
+      → None ≡ metadata b mount path
+  describe_none o found none = sym (ap (option_map metadata_of)
+      (mapped_none key_entry here (sym (found (option_map key_entry here) key_told) ∙ none)))
 
   -- the metadata that the rows have is that of the key
-  pub describe_some : KeyLaws → (o : Option KeyEntry) (e : KeyEntry) → ((k : Option KeyEntry) → HasKey (table_of rows) name k → o ≡ k) → o ≡ Some e
+  pub describe_some : KeyLaws → (o : Option KeyEntry) (e : KeyEntry)
+      → ((k : Option KeyEntry) → HasKey (table_of rows) name k → o ≡ k) → o ≡ Some e
       → (vs : List (ℕ × Version)) × AreVersions rows name vs × (Some (metadata_with e vs) ≡ metadata b mount path)
   describe_some laws o e found some =
       let k = mapped key_entry here e (sym (found (option_map key_entry here) key_told) ∙ some) in (

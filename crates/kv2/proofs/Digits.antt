@@ -43,7 +43,8 @@ module _ (laws : KeyLaws) where
   pub untold : (n : ℕ) → n < 2 ^ 64 → greatest_version < n → version_of_digits (padded n) ≡ None
   untold n g above = none_of (version_of_digits (padded n)) (λ m e.
       let one = laws.exact (padded n) m e in
-      let met : (n == m) ≡ true = sym (same_digits n m g (wide m one.0)) ∙ ap (λ z. same z (padded m)) one.1 ∙ same_self (padded m) in
+      let met : (n == m) ≡ true = sym (same_digits n m g (wide m one.0)) ∙ ap (λ z. same z (padded m)) one.1
+      ∙ same_self (padded m) in
       let same_number : n ≡ m = eqb-true n m met in
       let few = one.0 in
       absurd (omega (arith, above, few, same_number)))

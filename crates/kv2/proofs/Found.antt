@@ -21,7 +21,8 @@ module _ {X : Type 0} (P : X → Type 0) (row_of : X → Row) (row : Option Row)
       record { in_range = λ y e. subst P (same_Some x y e) in_range; row = some ∙ ap Some is }
 
   -- and of a record that can be read
-  pub some_is : (r : Row) → row ≡ Some r → (o : Option X) → IsRowOf P row_of row o → (x : X) × (o ≡ Some x) × P x × (r ≡ row_of x)
+  pub some_is : (r : Row) → row ≡ Some r → (o : Option X) → IsRowOf P row_of row o → (x : X) × (o ≡ Some x) × P x
+      × (r ≡ row_of x)
   some_is r some o h =
       let x = mapped row_of o r (sym h.row ∙ some) in
       (x.0, x.1, h.in_range x.0 x.1, x.2)

@@ -1,5 +1,6 @@
 -- What stays of a key from one operation to the next.
-use Rattle.std.specs.Prelude.{◌≡◌, ◌≢◌, ◌≤◌, ◌+◌, ◌-◌, ◌==◌, ℕ, List, nat_lt, Bool, true, false, cond, if◌then◌else◌, Option, Some, None, option_map}
+use Rattle.std.specs.Prelude.{◌≡◌, ◌≢◌, ◌≤◌, ◌+◌, ◌-◌, ◌==◌, ℕ, List, nat_lt, Bool, true, false, cond, if◌then◌else◌}
+use Rattle.std.specs.Prelude.{Option, Some, None, option_map}
 use Rattle.std.specs.Prelude.{is_none, Ok, nat_eq, [], not, map}
 use Rattle.std.specs.List.{starts_with}
 use Rattle.std.specs.Option.{option_map_or}
@@ -21,7 +22,8 @@ use Rattle.kv2.specs.Laws.{last_number, version_at, HasNoSecret, custom_metadata
 use Rattle.kv2.specs.Secrets.{Written, secret_name, key_at, with_key, write, set_metadata, remove_key, drop_mount}
 use Rattle.kv2.specs.SoundLaws.{write_is}
 use Rattle.kv2.specs.VersionLaws.{get-change_versions, next_versions}
-use Rattle.kv2.specs.Versions.{Settings, version_of, key_or_new, new_version, with_version, with_changed, is_among, versions_kept, described}
+use Rattle.kv2.specs.Versions.{Settings, version_of, key_or_new, new_version, with_version, with_changed, is_among}
+use Rattle.kv2.specs.Versions.{versions_kept, described}
 use Rattle.kv2.specs.Versions.{soft_deleted, restored, destroyed}
 
 -- ---- changes of versions
@@ -40,7 +42,8 @@ module _ (b : Broker) (mount path : Text) (f : Version → Version) (numbers : K
   pub number_stays : last_number next mount path ≡ last_number b mount path
   number_stays = ap (λ o. option_map_or (λ (k : Key). k.current) o 0) key_after ∙ inner (get b.secrets name)
     where
-      inner : (o : Option Key) → option_map_or (λ (k : Key). k.current) (option_map (λ k. with_changed f (numbers k) k) o) 0
+      inner : (o : Option Key) → option_map_or (λ (k : Key). k.current)
+          (option_map (λ k. with_changed f (numbers k) k) o) 0
           ≡ option_map_or (λ (k : Key). k.current) o 0
       inner None = refl
       inner (Some k) = refl
@@ -52,16 +55,20 @@ module _ (b : Broker) (mount path : Text) (f : Version → Version) (numbers : K
   pub other_stays : (q : Text) → same q name ≡ false → get next.secrets q ≡ get b.secrets q
   other_stays q apart =
       get-change b.secrets name (λ k. with_changed f (numbers k) k) q
-      ∙ ap (λ v. option_map (λ k. if v then with_changed f (numbers k) k else k) (get b.secrets q)) apart ∙ still (get b.secrets q)
+      ∙ ap (λ v. option_map (λ k. if v then with_changed f (numbers k) k else k) (get b.secrets q)) apart
+      ∙ still (get b.secrets q)
 
-  pub nothing_restored : ((v : Version) → v.secret ≡ None → (f v).secret ≡ None) → (n : ℕ) → HasNoSecret (version_at b mount path n)
+  pub nothing_restored : ((v : Version) → v.secret ≡ None → (f v).secret ≡ None) → (n : ℕ)
+      → HasNoSecret (version_at b mount path n)
       → HasNoSecret (version_at next mount path n)
   nothing_restored keeps n h v e = inner (get b.secrets name) refl (sym (ap (λ o. version_of o n) key_after) ∙ e)
     where
-      inner : (o : Option Key) → get b.secrets name ≡ o → version_of (option_map (λ k. with_changed f (numbers k) k) o) n ≡ Some v → v.secret ≡ None
+      inner : (o : Option Key) → get b.secrets name ≡ o
+          → version_of (option_map (λ k. with_changed f (numbers k) k) o) n ≡ Some v → v.secret ≡ None
       inner None is g = absurd (none-some _ g)
       inner (Some k) is g =
-          let x = mapped (λ v. if is_among (numbers k) n then f v else v) (fin.get k.versions n) v (sym (get-change_versions f (is_among
+          let x = mapped (λ v. if is_among (numbers k) n then f v else v) (fin.get k.versions n) v
+          (sym (get-change_versions f (is_among
           (numbers k)) k.versions n) ∙ g) in
           let gone : x.0.secret ≡ None = h x.0 (ap (λ o. version_of o n) is ∙ x.1) in
           subst (λ (z : Version). z.secret ≡ None) (sym x.2)
@@ -71,9 +78,11 @@ module _ (b : Broker) (mount path : Text) (f : Version → Version) (numbers : K
           ])
 
   pub metadata_stay : custom_metadata_at next mount path ≡ custom_metadata_at b mount path
-  metadata_stay = ap (λ o. option_map_or (λ (k : Key). entries k.custom_metadata) o []) key_after ∙ inner (get b.secrets name)
+  metadata_stay = ap (λ o. option_map_or (λ (k : Key). entries k.custom_metadata) o []) key_after
+      ∙ inner (get b.secrets name)
     where
-      inner : (o : Option Key) → option_map_or (λ (k : Key). entries k.custom_metadata) (option_map (λ k. with_changed f (numbers k) k) o) []
+      inner : (o : Option Key) → option_map_or (λ (k : Key). entries k.custom_metadata)
+          (option_map (λ k. with_changed f (numbers k) k) o) []
           ≡ option_map_or (λ (k : Key). entries k.custom_metadata) o []
       inner None = refl
       inner (Some k) = refl
@@ -98,40 +107,49 @@ module _ (b : Broker) (mount path : Text) (given : Settings) where
       inner (Some k) = refl
 
   pub others_kept : (q : Text) → same q own ≡ false → get (set_metadata b mount path given).secrets q ≡ get b.secrets q
-  others_kept q apart = get-put b.secrets own described_key q ∙ ap (λ v. cond v (Some described_key) (get b.secrets q)) apart
+  others_kept q apart = get-put b.secrets own described_key q
+      ∙ ap (λ v. cond v (Some described_key) (get b.secrets q)) apart
 
-  pub versions_kept_as_they_were : (n : ℕ) → version_at (set_metadata b mount path given) mount path n ≡ version_at b mount path n
+  pub versions_kept_as_they_were : (n : ℕ) → version_at (set_metadata b mount path given) mount path n
+      ≡ version_at b mount path n
   versions_kept_as_they_were n = ap (λ o. version_of o n) there ∙ inner (get b.secrets own)
     where
       inner : (o : Option Key) → version_of (Some (described b.clock given (key_or_new b.clock o))) n ≡ version_of o n
       inner None = fin.get-empty nat_cmp n
       inner (Some k) = refl
 
-  pub nothing_brought_back : (n : ℕ) → HasNoSecret (version_at b mount path n) → HasNoSecret (version_at (set_metadata b mount path given) mount path n)
+  pub nothing_brought_back : (n : ℕ) → HasNoSecret (version_at b mount path n)
+      → HasNoSecret (version_at (set_metadata b mount path given) mount path n)
   nothing_brought_back n h v e = h v (sym (versions_kept_as_they_were n) ∙ e)
 
-  pub metadata_replaced : (es : List (Text × Text)) → given.custom_metadata ≡ Some es → is_ascending (map (λ e. e.0) es) ≡ true
+  pub metadata_replaced : (es : List (Text × Text)) → given.custom_metadata ≡ Some es
+      → is_ascending (map (λ e. e.0) es) ≡ true
       → custom_metadata_at (set_metadata b mount path given) mount path ≡ es
   metadata_replaced es is ascend =
       ap (λ o. option_map_or (λ (k : Key). entries k.custom_metadata) o []) there
-      ∙ ap (λ o. entries (option_map_or (fin.from_entries {R = text_cmp}) o (key_or_new b.clock (get b.secrets own)).custom_metadata)) is
+      ∙ ap (λ o. entries (option_map_or (fin.from_entries {R = text_cmp}) o
+      (key_or_new b.clock (get b.secrets own)).custom_metadata)) is
       ∙ listed_entries es ascend
 
-  pub metadata_kept : given.custom_metadata ≡ None → custom_metadata_at (set_metadata b mount path given) mount path ≡ custom_metadata_at b mount path
+  pub metadata_kept : given.custom_metadata ≡ None
+      → custom_metadata_at (set_metadata b mount path given) mount path ≡ custom_metadata_at b mount path
   metadata_kept is =
       ap (λ o. option_map_or (λ (k : Key). entries k.custom_metadata) o []) there
-      ∙ ap (λ o. entries (option_map_or (fin.from_entries {R = text_cmp}) o (key_or_new b.clock (get b.secrets own)).custom_metadata)) is
+      ∙ ap (λ o. entries (option_map_or (fin.from_entries {R = text_cmp}) o
+      (key_or_new b.clock (get b.secrets own)).custom_metadata)) is
       ∙ inner (get b.secrets own)
     where
-      inner : (o : Option Key) → entries (key_or_new b.clock o).custom_metadata ≡ option_map_or (λ (k : Key). entries k.custom_metadata) o []
+      inner : (o : Option Key) → entries (key_or_new b.clock o).custom_metadata
+          ≡ option_map_or (λ (k : Key). entries k.custom_metadata) o []
       inner None = entries-empty
       inner (Some k) = refl
 
 pub deleted_gone : (now : ℕ) (v : Version) → v.secret ≡ None → (soft_deleted now v).secret ≡ None
-deleted_gone now v e = elim (is_none v.deleted) as (λ p. (if p then record v { deleted = Some now } else v).secret ≡ None) [
-  | true ↦ e
-  | false ↦ e
-]
+deleted_gone now v e = elim (is_none v.deleted) as
+    (λ p. (if p then record v { deleted = Some now } else v).secret ≡ None) [
+      | true ↦ e
+      | false ↦ e
+    ]
 
 pub restored_gone : (v : Version) → v.secret ≡ None → (restored v).secret ≡ None
 restored_gone v e = elim (is_none v.secret) as (λ p. (if p then v else record v { deleted = None }).secret ≡ None) [
@@ -157,7 +175,8 @@ dropped_apart b mount q apart =
 
 -- ---- a write
 
-module _ (b : Broker) (mount path : Text) (cas : Option ℕ) (object : Text) (w : Written) (is : write b mount path cas object ≡ Ok w) where
+module _ (b : Broker) (mount path : Text) (cas : Option ℕ) (object : Text) (w : Written)
+    (is : write b mount path cas object ≡ Ok w) where
   abbrev at : Text
   at = secret_name mount path
 
@@ -173,7 +192,8 @@ module _ (b : Broker) (mount path : Text) (cas : Option ℕ) (object : Text) (w 
       let x = write_is b mount path cas object w is in (
         ap (λ (z : Written). z.number) x.3 ∙ ap (λ n. n + 1) (last_is (get b.secrets at)),
         ap (λ (z : Written). last_number z.next mount path) x.3
-            ∙ ap (λ o. option_map_or (λ (k : Key). k.current) o 0) (get-put_self b.secrets at (with_version b.clock (versions_kept x.0 over) object over))
+            ∙ ap (λ o. option_map_or (λ (k : Key). k.current) o 0)
+            (get-put_self b.secrets at (with_version b.clock (versions_kept x.0 over) object over))
             ∙ sym (ap (λ (z : Written). z.number) x.3),
       )
 
@@ -185,7 +205,8 @@ module _ (b : Broker) (mount path : Text) (cas : Option ℕ) (object : Text) (w 
       (get-put_self b.secrets at (with_version b.clock (versions_kept x.0 over) object over))
       ∙ of_new (get b.secrets at)
     where
-      of_new : (o : Option Key) → entries (key_or_new b.clock o).custom_metadata ≡ option_map_or (λ (k : Key). entries k.custom_metadata) o []
+      of_new : (o : Option Key) → entries (key_or_new b.clock o).custom_metadata
+          ≡ option_map_or (λ (k : Key). entries k.custom_metadata) o []
       of_new None = entries-empty
       of_new (Some k) = refl
 
@@ -193,12 +214,15 @@ module _ (b : Broker) (mount path : Text) (cas : Option ℕ) (object : Text) (w 
   others_stay q apart =
       let x = write_is b mount path cas object w is in
       let k = with_version b.clock (versions_kept x.0 over) object over in
-      ap (λ (z : Written). get z.next.secrets q) x.3 ∙ get-put b.secrets at k q ∙ ap (λ v. cond v (Some k) (get b.secrets q)) apart
+      ap (λ (z : Written). get z.next.secrets q) x.3 ∙ get-put b.secrets at k q
+      ∙ ap (λ v. cond v (Some k) (get b.secrets q)) apart
 
   -- a version that is there is not above the current one
-  old_number : (forms : Forms) → SoundSecrets forms b.secrets → (n : ℕ) (v : Version) → version_of (get b.secrets at) n ≡ Some v → n ≤ over.current
+  old_number : (forms : Forms) → SoundSecrets forms b.secrets → (n : ℕ) (v : Version)
+      → version_of (get b.secrets at) n ≡ Some v → n ≤ over.current
   old_number forms sound n v =
-      elim (get b.secrets at) as (λ o. get b.secrets at ≡ o → version_of o n ≡ Some v → n ≤ (key_or_new b.clock o).current) [
+      elim (get b.secrets at) as (λ o. get b.secrets at ≡ o → version_of o n ≡ Some v
+      → n ≤ (key_or_new b.clock o).current) [
         | None ↦ λ _ e. absurd (none-some _ e)
         | Some k ↦ λ some e. ((sound at k some).versions n v e).last
       ] refl
@@ -210,7 +234,8 @@ module _ (b : Broker) (mount path : Text) (cas : Option ℕ) (object : Text) (w 
       let limit = versions_kept x.0 over in
       let k = with_version b.clock limit object over in
       by (nat_lt (over.current + 1 - limit) n) (n == over.current + 1) refl
-      (sym (next_versions b.clock limit object (get b.secrets at) n) ∙ sym (ap (λ o. version_of o n) (get-put_self b.secrets at k))
+      (sym (next_versions b.clock limit object (get b.secrets at) n)
+      ∙ sym (ap (λ o. version_of o n) (get-put_self b.secrets at k))
       ∙ sym (ap (λ (z : Written). version_at z.next mount path n) x.3) ∙ e)
     where
       too_high : (o : Option Version) → version_of (get b.secrets at) n ≡ o → n ≡ over.current + 1 → ⊥
@@ -218,7 +243,9 @@ module _ (b : Broker) (mount path : Text) (cas : Option ℕ) (object : Text) (w 
       too_high (Some v) here above = let low = old_number forms sound n v here in omega (arith, low, above)
 
       by : (a c : Bool) → (n == over.current + 1) ≡ c
-          → cond a (cond c (Some (new_version b.clock object)) (version_of (get b.secrets at) n)) None ≡ Some v → v.secret ≡ None
+          → cond a (cond c (Some (new_version b.clock object)) (version_of (get b.secrets at) n)) None ≡ Some v
+          → v.secret ≡ None
       by false c same g = absurd (none-some _ g)
-      by true true same g = absurd (too_high (version_of (get b.secrets at) n) refl (eqb-true n (over.current + 1) same))
+      by true true same g =
+          absurd (too_high (version_of (get b.secrets at) n) refl (eqb-true n (over.current + 1) same))
       by true false same g = h v g

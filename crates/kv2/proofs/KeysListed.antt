@@ -22,7 +22,8 @@ by_order q [] = refl
 by_order q (t ∷ ts) = λ i. same-text_cmp q t i || by_order q ts i
 
 -- the rows of keys are named by the secrets
-pub secrets_name : (rows : Rows) (b : Broker) → Tells of_secrets (table_of rows) b → AreNames rows kind.KvKey [] (keys b.secrets)
+pub secrets_name : (rows : Rows) (b : Broker) → Tells of_secrets (table_of rows) b
+    → AreNames rows kind.KvKey [] (keys b.secrets)
 secrets_name rows b told q =
     ap is_some (told kind.KvKey q refl ∙ key_rows b q) ∙ some-map (get b.secrets q)
     ∙ contains_key-keys b.secrets q ∙ sym (by_order q (keys b.secrets))

@@ -1,5 +1,6 @@
 -- The oldest of versions in the order of their numbers.
-use Rattle.std.specs.Prelude.{◌≡◌, ◌≢◌, ◌<◌, ◌≤◌, ◌∷◌, [], ℕ, List, map, nat_lt, true, false, cond, if◌then◌else◌, Some, None, T}
+use Rattle.std.specs.Prelude.{◌≡◌, ◌≢◌, ◌<◌, ◌≤◌, ◌∷◌, [], ℕ, List, map, nat_lt, true, false, cond, if◌then◌else◌, Some}
+use Rattle.std.specs.Prelude.{None, T}
 use Rattle.std.specs.Ordering.{nat_cmp, is_lt, eq_by_cmp}
 use Rattle.std.specs.FinMap as fin
 use Rattle.std.specs.FinMap.{is_sorted}
@@ -18,10 +19,12 @@ less : (m n : ℕ) → T (is_lt (nat_cmp m n)) → m < n
 less m n h = grind arith
 
 -- what is found among entries above a number has a number above it
-above : (m n : ℕ) (v : Version) (es : List (ℕ × Version)) → T (below_all nat_cmp m es) → fin.find nat_cmp n es ≡ Some v → m < n
+above : (m n : ℕ) (v : Version) (es : List (ℕ × Version)) → T (below_all nat_cmp m es) → fin.find nat_cmp n es ≡ Some v
+    → m < n
 above m n v [] h is = absurd (none-some v is)
 above m n v (e ∷ es) h is =
-    elim (eq_by_cmp nat_cmp n e.0) as (λ b. eq_by_cmp nat_cmp n e.0 ≡ b → cond b (Some e.1) (fin.find nat_cmp n es) ≡ Some v → m < n) [
+    elim (eq_by_cmp nat_cmp n e.0) as (λ b. eq_by_cmp nat_cmp n e.0 ≡ b
+    → cond b (Some e.1) (fin.find nat_cmp n es) ≡ Some v → m < n) [
       | true ↦ λ met _.
           let one : n ≡ e.0 = eqb-true n e.0 (sym (eq-nat_cmp n e.0) ∙ met) in
           subst (λ z. m < z) (sym one) (less m e.0 (left _ _ h))
@@ -32,7 +35,8 @@ above m n v (e ∷ es) h is =
 first_is_least : (e : ℕ × Version) (es : List (ℕ × Version)) → T (is_sorted nat_cmp (e ∷ es)) → (n : ℕ) (v : Version)
     → fin.find nat_cmp n (e ∷ es) ≡ Some v → e.0 ≤ n
 first_is_least e es s n v is =
-    elim (eq_by_cmp nat_cmp n e.0) as (λ b. eq_by_cmp nat_cmp n e.0 ≡ b → cond b (Some e.1) (fin.find nat_cmp n es) ≡ Some v → e.0 ≤ n) [
+    elim (eq_by_cmp nat_cmp n e.0) as (λ b. eq_by_cmp nat_cmp n e.0 ≡ b
+    → cond b (Some e.1) (fin.find nat_cmp n es) ≡ Some v → e.0 ≤ n) [
       | true ↦ λ met _.
           let one : n ≡ e.0 = eqb-true n e.0 (sym (eq-nat_cmp n e.0) ∙ met) in
           omega (arith, one)
@@ -44,11 +48,13 @@ first_is_there e es none =
     none-some e.1 (sym none ∙ ap (λ b. cond b (Some e.1) (fin.find nat_cmp e.0 es)) (eq-nat_cmp e.0 e.0 ∙ eqb_self e.0))
 
 module _ (k : Key) where
-  at : (es : List (ℕ × Version)) → fin.entries k.versions ≡ es → T (is_sorted nat_cmp es) → IsOldest k (oldest_of (map version_metadata es))
+  at : (es : List (ℕ × Version)) → fin.entries k.versions ≡ es → T (is_sorted nat_cmp es)
+      → IsOldest k (oldest_of (map version_metadata es))
   at [] is s = record {
     smallest = λ n v here. omega arith;
     kept = λ some. absurd (some refl);
-    first = λ n v _ here. absurd (none-some v (sym (ap (fin.find nat_cmp n) is) ∙ sym (fin.get-entries k.versions n) ∙ here));
+    first = λ n v _ here. absurd
+        (none-some v (sym (ap (fin.find nat_cmp n) is) ∙ sym (fin.get-entries k.versions n) ∙ here));
   }
   at (e ∷ es) is s =
       elim (nat_lt 1 e.0) as (λ b. nat_lt 1 e.0 ≡ b → IsOldest k (if b then e.0 else 0)) [

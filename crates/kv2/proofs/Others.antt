@@ -1,5 +1,6 @@
 -- The rows that an edit of secrets leaves as they were.
-use Rattle.std.specs.Prelude.{◌≡◌, ◌==◌, ◌&&◌, ◌∷◌, ◌++◌, [], ◌+◌, ◌-◌, ℕ, List, nat_eq, nat_lt, Bool, true, false, if◌then◌else◌, Option, Some, None}
+use Rattle.std.specs.Prelude.{◌≡◌, ◌==◌, ◌&&◌, ◌∷◌, ◌++◌, [], ◌+◌, ◌-◌, ℕ, List, nat_eq, nat_lt, Bool, true, false}
+use Rattle.std.specs.Prelude.{if◌then◌else◌, Option, Some, None}
 use Rattle.std.specs.Prelude.{unwrap_or}
 use Rattle.std.specs.List.{starts_with}
 use Rattle.std.specs.Ordering.{is_le}
@@ -19,7 +20,8 @@ use Rattle.records.specs.Rows.{version_key}
 use Rattle.records.specs.Splits.{line_feed}
 use Rattle.records.specs.SplitLaws.{eqb_self}
 use Rattle.records.specs.Table.{Table, with_row, is_at}
-use Rattle.kv2.specs.SecretRows.{AreChanged, KeepsOtherNames, KeepsOtherMounts, is_key_of, versions_prefix, with_version, without_key, without_names}
+use Rattle.kv2.specs.SecretRows.{AreChanged, KeepsOtherNames, KeepsOtherMounts, is_key_of, versions_prefix}
+use Rattle.kv2.specs.SecretRows.{with_version, without_key, without_names}
 use Rattle.kv2.specs.SecretRows.{with_settings, without_upto, new_entry, next_entry, described_entry, with_description}
 use Rattle.kv2.specs.Versions.{Settings, new_version}
 use Rattle.kv2.proofs.Changed.{key_is_among}
@@ -35,43 +37,55 @@ both_false false a b h from = refl
 
 module _ (name : Text) (t : Table) where
   -- changes of versions
-  pub changed_keeps : (f : Version → Version) (ns : List ℕ) (new : Table) → AreChanged f ns name t new → KeepsOtherNames name t new
+  pub changed_keeps : (f : Version → Version) (ns : List ℕ) (new : Table) → AreChanged f ns name t new
+      → KeepsOtherNames name t new
   changed_keeps f ns new h k q not_key apart =
-      h.others k q (both_false (kind_number k == kind_number kind.KvVersion) (starts_with nat_eq q (versions_prefix name)) (is_key_of ns name q) apart (λ e.
-      let m = key_is_among name ns q e in ap (λ z. starts_with nat_eq z (versions_prefix name)) m.2 ∙ key_begins name _))
+      h.others k q (both_false (kind_number k == kind_number kind.KvVersion)
+      (starts_with nat_eq q (versions_prefix name)) (is_key_of ns name q) apart (λ e.
+      let m = key_is_among name ns q e in ap (λ z. starts_with nat_eq z (versions_prefix name)) m.2
+      ∙ key_begins name _))
 
   -- a write
-  pub written_keeps : (e : KeyEntry) (limit now : ℕ) (object : Text) → KeepsOtherNames name t (with_version t name e limit now object)
+  pub written_keeps : (e : KeyEntry) (limit now : ℕ) (object : Text)
+      → KeepsOtherNames name t (with_version t name e limit now object)
   written_keeps e limit now object k q not_key apart =
       pruned_apart (nat_lt limit (e.current + 1))
-      ∙ ap (λ b. if b then Some (key_entry_row (next_entry now e)) else (if own k q then Some (version_row (new_version now object)) else t k q)) not_key
+      ∙ ap (λ b. if b then Some (key_entry_row (next_entry now e)) else
+      (if own k q then Some (version_row (new_version now object)) else t k q)) not_key
       ∙ ap (λ b. if b then Some (version_row (new_version now object)) else t k q)
-      (both_false (kind_number k == kind_number kind.KvVersion) (starts_with nat_eq q (versions_prefix name)) (same q (version_key name
+      (both_false (kind_number k == kind_number kind.KvVersion) (starts_with nat_eq q (versions_prefix name))
+      (same q (version_key name
       (e.current + 1))) apart (λ one.
-      ap (λ z. starts_with nat_eq z (versions_prefix name)) (same_true q (version_key name (e.current + 1)) one) ∙ key_begins name _))
+      ap (λ z. starts_with nat_eq z (versions_prefix name)) (same_true q (version_key name (e.current + 1)) one)
+      ∙ key_begins name _))
     where
       own : Kind → Text → Bool
       own k q = is_at kind.KvVersion (version_key name (e.current + 1)) k q
 
       before : Table
-      before = with_row (with_row t kind.KvVersion (version_key name (e.current + 1)) (version_row (new_version now object)))
+      before = with_row (with_row t kind.KvVersion (version_key name (e.current + 1))
+          (version_row (new_version now object)))
           kind.KvKey name (key_entry_row (next_entry now e))
 
       pruned_apart : (p : Bool) → (if p then without_upto before kind.KvVersion (versions_prefix name) (version_key name
           (e.current + 1 - limit)) else before) k q
           ≡ before k q
-      pruned_apart true = ap (λ b. if b && is_le (text_cmp q (version_key name (e.current + 1 - limit))) then None else before k q) apart
+      pruned_apart true = ap
+          (λ b. if b && is_le (text_cmp q (version_key name (e.current + 1 - limit))) then None else before k q) apart
       pruned_apart false = refl
 
   -- settings of a secret
-  pub described_keeps : (now : ℕ) (given : Settings) (o : Option KeyEntry) → KeepsOtherNames name t (with_description t name now given o)
+  pub described_keeps : (now : ℕ) (given : Settings) (o : Option KeyEntry)
+      → KeepsOtherNames name t (with_description t name now given o)
   described_keeps now given o k q not_key apart =
-      ap (λ b. if b then Some (key_entry_row (described_entry now given (unwrap_or o (new_entry now)))) else t k q) not_key
+      ap (λ b. if b then Some (key_entry_row (described_entry now given (unwrap_or o (new_entry now)))) else t k q)
+      not_key
 
   -- a removal
   pub removed_keeps : KeepsOtherNames name t (without_key t name)
   removed_keeps k q not_key apart =
-      ap (λ b. if b then None else (if is_at kind.KvKey name k q then None else t k q)) apart ∙ ap (λ b. if b then None else t k q) not_key
+      ap (λ b. if b then None else (if is_at kind.KvKey name k q then None else t k q)) apart
+      ∙ ap (λ b. if b then None else t k q) not_key
 
 -- a mount dropped
 pub dropped_keeps : (prefix : Text) (t : Table) → KeepsOthers of_secrets t (without_names t prefix)

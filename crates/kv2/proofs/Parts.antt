@@ -31,7 +31,8 @@ secrets_by t b keys versions kind.Policy q p = absurd (false≢true p)
 secrets_by t b keys versions kind.Role q p = absurd (false≢true p)
 
 -- a table that has the rows of mounts
-pub mounts_by : (t : Table) (b : Broker) → ((q : Text) → t kind.Mount q ≡ option_map mount_row (get b.mounts q)) → Tells of_mounts t b
+pub mounts_by : (t : Table) (b : Broker) → ((q : Text) → t kind.Mount q ≡ option_map mount_row (get b.mounts q))
+    → Tells of_mounts t b
 mounts_by t b mounts kind.Clock q p = absurd (false≢true p)
 mounts_by t b mounts kind.Used q p = absurd (false≢true p)
 mounts_by t b mounts kind.Token q p = absurd (false≢true p)

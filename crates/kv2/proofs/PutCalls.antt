@@ -14,13 +14,17 @@ use Rattle.records.specs.Transaction.{Rows}
 use Rattle.kv2.specs.SecretRows.{pruned, with_version, next_entry}
 use Rattle.kv2.specs.Versions.{new_version}
 
-pub put_by_calls : (r0 r1 r2 : Rows) (new : Table) (name place object : Text) (e : KeyEntry) (limit now number : ℕ) (vrow krow : Row)
-    → r1 ≡ map.insert r0 (kind.KvVersion, place) vrow → r2 ≡ map.insert r1 (kind.KvKey, name) krow → new ≡ pruned (table_of r2) name number limit
-    → number ≡ e.current + 1 → place ≡ version_key name number → vrow ≡ version_row (new_version now object) → krow ≡ key_entry_row (next_entry now e)
+pub put_by_calls : (r0 r1 r2 : Rows) (new : Table) (name place object : Text) (e : KeyEntry) (limit now number : ℕ)
+    (vrow krow : Row)
+    → r1 ≡ map.insert r0 (kind.KvVersion, place) vrow → r2 ≡ map.insert r1 (kind.KvKey, name) krow
+    → new ≡ pruned (table_of r2) name number limit
+    → number ≡ e.current + 1 → place ≡ version_key name number → vrow ≡ version_row (new_version now object)
+    → krow ≡ key_entry_row (next_entry now e)
     → new ≡ with_version (table_of r0) name e limit now object
 put_by_calls r0 r1 r2 new name place object e limit now number vrow krow one two rest n p v k =
     rest
     ∙ ap (λ t. pruned t name number limit) (
     ap table_of two ∙ table_of-insert r1 kind.KvKey name krow
     ∙ ap (λ t. with_row t kind.KvKey name krow) (ap table_of one ∙ table_of-insert r0 kind.KvVersion place vrow))
-    ∙ (λ i. pruned (with_row (with_row (table_of r0) kind.KvVersion ((p ∙ ap (version_key name) n) i) (v i)) kind.KvKey name (k i)) name (n i) limit)
+    ∙ (λ i. pruned (with_row (with_row (table_of r0) kind.KvVersion ((p ∙ ap (version_key name) n) i) (v i)) kind.KvKey
+    name (k i)) name (n i) limit)

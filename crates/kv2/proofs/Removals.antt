@@ -1,5 +1,6 @@
 -- To take out what is listed under a prefix up to another key, one row after another.
-use Rattle.std.specs.Prelude.{◌≡◌, ◌&&◌, List, [], ◌∷◌, nat_eq, Bool, true, false, cond, if◌then◌else◌, Option, Some, None, filter}
+use Rattle.std.specs.Prelude.{◌≡◌, ◌&&◌, List, [], ◌∷◌, nat_eq, Bool, true, false, cond, if◌then◌else◌, Option, Some}
+use Rattle.std.specs.Prelude.{None, filter}
 use Rattle.std.specs.Ordering.{eq_by_cmp, is_le}
 use Rattle.std.specs.FinMap.{get, remove, entries, find, get-remove, get-entries}
 use Rattle.std.specs.FinMap.Entries.{find-where_key}
@@ -23,13 +24,15 @@ gone : (o : Option Row) → unless o None ≡ None
 gone None = refl
 gone (Some r) = refl
 
-get-without : (rows : Rows) (es : List (RowKey × Row)) (q : RowKey) → get (without_listed rows es) q ≡ unless (find key_cmp q es) (get rows q)
+get-without : (rows : Rows) (es : List (RowKey × Row)) (q : RowKey)
+    → get (without_listed rows es) q ≡ unless (find key_cmp q es) (get rows q)
 get-without rows [] q = refl
 get-without rows (e ∷ es) q =
     get-without (remove rows e.0) es q ∙ ap (unless (find key_cmp q es)) (get-remove key_cmp_total rows e.0 q)
     ∙ met (eq_by_cmp key_cmp q e.0)
   where
-    met : (b : Bool) → unless (find key_cmp q es) (cond b None (get rows q)) ≡ unless (cond b (Some e.1) (find key_cmp q es)) (get rows q)
+    met : (b : Bool) → unless (find key_cmp q es) (cond b None (get rows q))
+        ≡ unless (cond b (Some e.1) (find key_cmp q es)) (get rows q)
     met true = gone (find key_cmp q es)
     met false = refl
 
@@ -50,13 +53,15 @@ pub table_of-without_upto : (rows : Rows) (kind : Kind) (prefix last : Text)
     → table_of (without_listed rows (rows_upto rows kind prefix last)) ≡ without_upto (table_of rows) kind prefix last
 table_of-without_upto rows kind prefix last = λ i k q. at k q i
   where
-    at : (k : Kind) (q : Text) → get (without_listed rows (rows_upto rows kind prefix last)) (k, q) ≡ without_upto (table_of rows) kind prefix last k q
+    at : (k : Kind) (q : Text) → get (without_listed rows (rows_upto rows kind prefix last)) (k, q)
+        ≡ without_upto (table_of rows) kind prefix last k q
     at k q =
         get-without rows (rows_upto rows kind prefix last) (k, q)
         ∙ ap (λ o. unless o (get rows (k, q))) (
         find-where_key key_cmp (within last) (k, q) (λ x e. ap (within last) (sym (key_cmp_exact (k, q) x e))) (filter
         (λ e. under kind prefix e.0) (entries rows))
         ∙ ap (λ o. cond (within last (k, q)) o None) (
-        find-where_key key_cmp (under kind prefix) (k, q) (λ x e. ap (under kind prefix) (sym (key_cmp_exact (k, q) x e))) (entries rows)
+        find-where_key key_cmp (under kind prefix) (k, q)
+        (λ x e. ap (under kind prefix) (sym (key_cmp_exact (k, q) x e))) (entries rows)
         ∙ ap (λ o. cond (under kind prefix (k, q)) o None) (sym (get-entries rows (k, q)))))
         ∙ taken (under kind prefix (k, q)) (within last (k, q)) (get rows (k, q))

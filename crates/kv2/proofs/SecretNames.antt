@@ -17,7 +17,8 @@ use Rattle.kv2.proofs.Digits.{KeyLaws, name_lacks}
 a_path : IsPathText (97 ∷ [])
 a_path = record {
   good = refl;
-  utf8 = IsUtf8-from_ascii (97 ∷ []) (IsAscii-from_all (97 ∷ []) (All-cons (λ b. b < 128) 97 [] (lit< tt) (All-nil (λ b. b < 128))));
+  utf8 = IsUtf8-from_ascii (97 ∷ [])
+      (IsAscii-from_all (97 ∷ []) (All-cons (λ b. b < 128) 97 [] (lit< tt) (All-nil (λ b. b < 128))));
 }
 
 -- how the names of a mount's secrets begin has no line feed

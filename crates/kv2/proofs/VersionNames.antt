@@ -16,33 +16,41 @@ swap_eq : (x y : ℕ) → (x == y) ≡ (y == x)
 swap_eq x y = grind arith
 
 -- a prefix that lacks the byte is one of what comes before it
-pub starts-front : (c : ℕ) (front rest prefix : Text) → lacks c prefix ≡ true → starts_with nat_eq (front ++ c ∷ rest) prefix ≡ starts_with nat_eq front prefix
+pub starts-front : (c : ℕ) (front rest prefix : Text) → lacks c prefix ≡ true
+    → starts_with nat_eq (front ++ c ∷ rest) prefix ≡ starts_with nat_eq front prefix
 starts-front c front rest [] h = refl
 starts-front c [] rest (x ∷ p) h = ap (λ b. b && starts_with nat_eq rest p) (not-true _ (and_parts _ _ h).0)
 starts-front c (y ∷ front) rest (x ∷ p) h = ap (λ b. (x == y) && b) (starts-front c front rest p (and_parts _ _ h).1)
 
 -- a name and the byte begin just the texts of this name
-pub starts-name : (c : ℕ) (front rest name : Text) → lacks c front ≡ true → lacks c name ≡ true → starts_with nat_eq (front ++ c ∷ rest) (name ++ c ∷ [])
+pub starts-name : (c : ℕ) (front rest name : Text) → lacks c front ≡ true → lacks c name ≡ true
+    → starts_with nat_eq (front ++ c ∷ rest) (name ++ c ∷ [])
     ≡ same front name
 unfolding same
 starts-name c [] rest [] g h = ap (λ b. b && true) (eqb_self c)
 starts-name c (y ∷ front) rest [] g h = ap (λ b. b && true) (swap_eq c y ∙ not-true _ (and_parts _ _ g).0)
-starts-name c [] rest (x ∷ name) g h = ap (λ b. b && starts_with nat_eq rest (name ++ c ∷ [])) (not-true _ (and_parts _ _ h).0)
-starts-name c (y ∷ front) rest (x ∷ name) g h = λ i. swap_eq x y i && starts-name c front rest name (and_parts _ _ g).1 (and_parts _ _ h).1 i
+starts-name c [] rest (x ∷ name) g h = ap (λ b. b && starts_with nat_eq rest (name ++ c ∷ []))
+    (not-true _ (and_parts _ _ h).0)
+starts-name c (y ∷ front) rest (x ∷ name) g h = λ i. swap_eq x y i
+    && starts-name c front rest name (and_parts _ _ g).1 (and_parts _ _ h).1 i
 
 -- ---- the order of keys of one name
 
 pub cmp-same_front : (front r s : Text) → text_cmp (front ++ r) (front ++ s) ≡ text_cmp r s
 cmp-same_front [] r s = refl
-cmp-same_front (x ∷ front) r s = ap (λ o. ordering_then o (text_cmp (front ++ r) (front ++ s))) (sym (nat_cmp_is x x Equal refl)) ∙ cmp-same_front front r s
+cmp-same_front (x ∷ front) r s = ap (λ o. ordering_then o (text_cmp (front ++ r) (front ++ s)))
+    (sym (nat_cmp_is x x Equal refl)) ∙ cmp-same_front front r s
 
 -- texts with the byte are one where both parts are
-pub same-parts : (c : ℕ) (front rest name end : Text) → lacks c front ≡ true → lacks c name ≡ true → same (front ++ c ∷ rest) (name ++ c ∷ end)
+pub same-parts : (c : ℕ) (front rest name end : Text) → lacks c front ≡ true → lacks c name ≡ true
+    → same (front ++ c ∷ rest) (name ++ c ∷ end)
     ≡ (same front name && same rest end)
 unfolding same
 same-parts c [] rest [] end g h = ap (λ b. b && bytes_eq rest end) (eqb_self c)
-same-parts c (y ∷ front) rest [] end g h = ap (λ b. b && bytes_eq (front ++ c ∷ rest) end) (not-true _ (and_parts _ _ g).0)
-same-parts c [] rest (x ∷ name) end g h = ap (λ b. b && bytes_eq rest (name ++ c ∷ end)) (swap_eq c x ∙ not-true _ (and_parts _ _ h).0)
+same-parts c (y ∷ front) rest [] end g h =
+    ap (λ b. b && bytes_eq (front ++ c ∷ rest) end) (not-true _ (and_parts _ _ g).0)
+same-parts c [] rest (x ∷ name) end g h =
+    ap (λ b. b && bytes_eq rest (name ++ c ∷ end)) (swap_eq c x ∙ not-true _ (and_parts _ _ h).0)
 same-parts c (y ∷ front) rest (x ∷ name) end g h =
     ap (λ b. (y == x) && b) (same-parts c front rest name end (and_parts _ _ g).1 (and_parts _ _ h).1)
     ∙ regroup (y == x) (bytes_eq front name) (bytes_eq rest end)

@@ -1,5 +1,6 @@
 -- Rows of versions by the two parts of their keys: edits of a table as edits at these parts.
-use Rattle.std.specs.Prelude.{◌≡◌, ◌&&◌, ◌∷◌, [], ◌++◌, nat_eq, Bool, true, false, if◌then◌else◌, Option, Some, None, option_and_then}
+use Rattle.std.specs.Prelude.{◌≡◌, ◌&&◌, ◌∷◌, [], ◌++◌, nat_eq, Bool, true, false, if◌then◌else◌, Option, Some, None}
+use Rattle.std.specs.Prelude.{option_and_then}
 use Rattle.std.specs.Ordering.{is_le}
 use Rattle.std.specs.List.{starts_with}
 use Rattle.std.proofs.Common.{refl, sym, ◌∙◌, ap}
@@ -33,7 +34,8 @@ without_folder rows folder = λ p. if starts_with nat_eq p.0 folder then None el
 
 -- by cases on the parts
 pub by_parts : (q : Text) (P : Option (Text × Text) → Type 0) → (split_once line_feed q ≡ None → P None)
-    → ((p : Text × Text) → split_once line_feed q ≡ Some p → q ≡ p.0 ++ line_feed ∷ p.1 → lacks line_feed p.0 ≡ true → P (Some p)) → P (split_once line_feed q)
+    → ((p : Text × Text) → split_once line_feed q ≡ Some p → q ≡ p.0 ++ line_feed ∷ p.1 → lacks line_feed p.0 ≡ true
+    → P (Some p)) → P (split_once line_feed q)
 by_parts q P none some =
     elim (split_once line_feed q) as (λ o. split_once line_feed q ≡ o → P o) [
       | None ↦ none
@@ -41,28 +43,36 @@ by_parts q P none some =
     ] refl
 
 module _ (rows : ByParts) (name : Text) (h : lacks line_feed name ≡ true) where
-  pub at_parts-with_part : (digits : Text) (row : Row) (q : Text) → (if same q (name ++ line_feed ∷ digits) then Some row else at_parts rows q)
+  pub at_parts-with_part : (digits : Text) (row : Row) (q : Text)
+      → (if same q (name ++ line_feed ∷ digits) then Some row else at_parts rows q)
       ≡ at_parts (with_part rows name digits row) q
   at_parts-with_part digits row q =
-      by_parts q (λ o. (if same q (name ++ line_feed ∷ digits) then Some row else option_and_then rows o) ≡ option_and_then (with_part rows name digits row) o)
+      by_parts q (λ o. (if same q (name ++ line_feed ∷ digits) then Some row else option_and_then rows o)
+      ≡ option_and_then (with_part rows name digits row) o)
       (λ none. ap (λ b. if b then Some row else None) (false_from_ne_true _ (λ e.
-      absurd (none-some _ (sym none ∙ ap (split_once line_feed) (same_true q (name ++ line_feed ∷ digits) e) ∙ split-lacking line_feed name digits h)))))
+      absurd (none-some _ (sym none ∙ ap (split_once line_feed) (same_true q (name ++ line_feed ∷ digits) e)
+      ∙ split-lacking line_feed name digits h)))))
       (λ p _ is front. ap (λ b. if b then Some row else rows p) (ap (λ z. same z (name ++ line_feed ∷ digits)) is
       ∙ same-parts line_feed p.0 p.1 name digits front h))
 
   pub at_parts-without_to : (last : Text) (q : Text)
-      → (if starts_with nat_eq q (name ++ line_feed ∷ []) && is_le (text_cmp q (name ++ line_feed ∷ last)) then None else at_parts rows q)
+      → (if starts_with nat_eq q (name ++ line_feed ∷ [])
+      && is_le (text_cmp q (name ++ line_feed ∷ last)) then None else at_parts rows q)
       ≡ at_parts (without_parts_to rows name last) q
   at_parts-without_to last q =
       by_parts q (λ o. (if starts_with nat_eq q (name ++ line_feed ∷ []) && is_le (text_cmp q
-      (name ++ line_feed ∷ last)) then None else option_and_then rows o) ≡ option_and_then (without_parts_to rows name last) o)
+      (name ++ line_feed ∷ last)) then None else option_and_then rows o)
+      ≡ option_and_then (without_parts_to rows name last) o)
       (λ none. neither (starts_with nat_eq q (name ++ line_feed ∷ []) && is_le (text_cmp q (name ++ line_feed ∷ last))))
       (λ p _ is front. ap (λ b. if b then None else rows p) (
       ap (λ z. starts_with nat_eq z (name ++ line_feed ∷ []) && is_le (text_cmp z (name ++ line_feed ∷ last))) is
-      ∙ ap (λ b. b && is_le (text_cmp (p.0 ++ line_feed ∷ p.1) (name ++ line_feed ∷ last))) (starts-name line_feed p.0 p.1 name front h)
-      ∙ elim (same p.0 name) as (λ b. same p.0 name ≡ b → (b && is_le (text_cmp (p.0 ++ line_feed ∷ p.1) (name ++ line_feed ∷ last)))
+      ∙ ap (λ b. b && is_le (text_cmp (p.0 ++ line_feed ∷ p.1) (name ++ line_feed ∷ last)))
+      (starts-name line_feed p.0 p.1 name front h)
+      ∙ elim (same p.0 name) as (λ b. same p.0 name ≡ b
+      → (b && is_le (text_cmp (p.0 ++ line_feed ∷ p.1) (name ++ line_feed ∷ last)))
       ≡ (b && is_le (text_cmp p.1 last))) [
-        | true ↦ λ e. ap is_le (ap (λ z. text_cmp (z ++ line_feed ∷ p.1) (name ++ line_feed ∷ last)) (same_true p.0 name e)
+        | true ↦ λ e. ap is_le
+            (ap (λ z. text_cmp (z ++ line_feed ∷ p.1) (name ++ line_feed ∷ last)) (same_true p.0 name e)
             ∙ cmp-same_front name (line_feed ∷ p.1) (line_feed ∷ last))
         | false ↦ λ _. refl
       ] refl))
@@ -71,10 +81,12 @@ module _ (rows : ByParts) (name : Text) (h : lacks line_feed name ≡ true) wher
       neither true = refl
       neither false = refl
 
-  pub at_parts-without_name : (q : Text) → (if starts_with nat_eq q (name ++ line_feed ∷ []) then None else at_parts rows q)
+  pub at_parts-without_name : (q : Text)
+      → (if starts_with nat_eq q (name ++ line_feed ∷ []) then None else at_parts rows q)
       ≡ at_parts (without_name rows name) q
   at_parts-without_name q =
-      by_parts q (λ o. (if starts_with nat_eq q (name ++ line_feed ∷ []) then None else option_and_then rows o) ≡ option_and_then (without_name rows name) o)
+      by_parts q (λ o. (if starts_with nat_eq q (name ++ line_feed ∷ []) then None else option_and_then rows o)
+      ≡ option_and_then (without_name rows name) o)
       (λ none. neither (starts_with nat_eq q (name ++ line_feed ∷ [])))
       (λ p _ is front. ap (λ b. if b then None else rows p) (ap (λ z. starts_with nat_eq z (name ++ line_feed ∷ [])) is
       ∙ starts-name line_feed p.0 p.1 name front h))
@@ -84,11 +96,14 @@ module _ (rows : ByParts) (name : Text) (h : lacks line_feed name ≡ true) wher
       neither false = refl
 
   -- the name as the front of names
-  pub at_parts-without_folder : (q : Text) → (if starts_with nat_eq q name then None else at_parts rows q) ≡ at_parts (without_folder rows name) q
+  pub at_parts-without_folder : (q : Text) → (if starts_with nat_eq q name then None else at_parts rows q)
+      ≡ at_parts (without_folder rows name) q
   at_parts-without_folder q =
-      by_parts q (λ o. (if starts_with nat_eq q name then None else option_and_then rows o) ≡ option_and_then (without_folder rows name) o)
+      by_parts q (λ o. (if starts_with nat_eq q name then None else option_and_then rows o)
+      ≡ option_and_then (without_folder rows name) o)
       (λ none. neither (starts_with nat_eq q name))
-      (λ p _ is front. ap (λ b. if b then None else rows p) (ap (λ z. starts_with nat_eq z name) is ∙ starts-front line_feed p.0 p.1 name h))
+      (λ p _ is front. ap (λ b. if b then None else rows p)
+      (ap (λ z. starts_with nat_eq z name) is ∙ starts-front line_feed p.0 p.1 name h))
     where
       neither : (b : Bool) → (if b then None else option_and_then rows None) ≡ None
       neither true = refl

@@ -81,7 +81,8 @@ pub record NumbersStay (b : Broker) (mount path : Text) (ns : List ℕ) : Type 0
   pub versions_deleted : last_number (delete_versions b mount path ns) mount path ≡ last_number b mount path
   pub restored : last_number (undelete b mount path ns) mount path ≡ last_number b mount path
   pub destroyed : last_number (destroy b mount path ns) mount path ≡ last_number b mount path
-  pub described : (given : Settings) → last_number (set_metadata b mount path given) mount path ≡ last_number b mount path
+  pub described : (given : Settings) → last_number (set_metadata b mount path given) mount path
+      ≡ last_number b mount path
 
 -- a write of one key changes no other
 abbrev pub OthersStay : Type 0

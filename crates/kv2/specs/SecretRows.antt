@@ -1,6 +1,7 @@
 -- Versioned secrets as rows: a key has one at its name, and each version one at the name, a line feed and twenty digits
 -- (this project's row format).
-use Rattle.std.specs.Prelude.{◌≡◌, ◌<◌, ◌+◌, ◌-◌, ◌^◌, ◌&&◌, ◌||◌, ◌==◌, ◌++◌, ℕ, List, [], ◌∷◌, nat_lt, Bool, true, false}
+use Rattle.std.specs.Prelude.{◌≡◌, ◌<◌, ◌+◌, ◌-◌, ◌^◌, ◌&&◌, ◌||◌, ◌==◌, ◌++◌, ℕ, List, [], ◌∷◌, nat_lt, Bool, true}
+use Rattle.std.specs.Prelude.{false}
 use Rattle.std.specs.Prelude.{◌≢◌, if◌then◌else◌, Option, Some, None, option_map, unwrap_or, Result, Ok}
 use Rattle.std.specs.Prelude.{◌≤◌, map, All}
 use Rattle.std.specs.List.{list_any}

@@ -180,10 +180,10 @@ fn write_named<T: RecordsTx>(
 
 /// Writes the compact text of an object as the next version of the secret at a path of a mount, and answers that
 /// version, with the secret's custom metadata. `cas` is the version that the write follows, 0 for a secret without
-/// versions. It is refused, in this order, if the mount is not there, if `cas` is missing though the secret or the mount
-/// requires it, if it is not the current version, and if there is no number for one more version. It fails as `Damaged`
-/// if a row that it reads is not one of a mount or of a key, and also if memory runs out or the storage fails (Vault's
-/// documentation, "KV secrets engine - version 2 (API)", create/update secret).
+/// versions. It is refused, in this order, if the mount is not there, if `cas` is missing though the secret or the
+/// mount requires it, if it is not the current version, and if there is no number for one more version. It fails as
+/// `Damaged` if a row that it reads is not one of a mount or of a key, and also if memory runs out or the storage
+/// fails (Vault's documentation, "KV secrets engine - version 2 (API)", create/update secret).
 pub fn write<T: RecordsTx>(
     alloc: Global,
     tx: &mut T,

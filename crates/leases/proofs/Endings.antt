@@ -1,5 +1,6 @@
 -- Leases that end, from the rows that are taken out to those that are left, and to the broker.
-use Rattle.std.specs.Prelude.{◌≡◌, ◌≢◌, ◌∷◌, [], List, get_or, Contains, Bool, true, false, if◌then◌else◌, Option, Some, None, option_and_then}
+use Rattle.std.specs.Prelude.{◌≡◌, ◌≢◌, ◌∷◌, [], List, get_or, Contains, Bool, true, false, if◌then◌else◌, Option, Some}
+use Rattle.std.specs.Prelude.{None, option_and_then}
 use Rattle.std.specs.FinMap as fin
 use Rattle.std.specs.List.{AllByRecursion}
 use Rattle.std.proofs.Common.{refl, sym, ◌∙◌, ap, subst, inl, inr, arith}
@@ -43,23 +44,28 @@ removed_at id row old new h k q = ap (λ (t : Table). t k q) (removed_table id r
 -- ---- one after another
 
 -- rows of other kinds stay
-pub others_after : (es : List (RowKey × Row)) (old new : Rows) → RemovesEach es old new → KeepsOthers of_leases (table_of old) (table_of new)
+pub others_after : (es : List (RowKey × Row)) (old new : Rows) → RemovesEach es old new
+    → KeepsOthers of_leases (table_of old) (table_of new)
 others_after [] old new h k q o = ap (λ (r : Rows). table_of r k q) h
-others_after (e ∷ es) old new h k q o = others_after es h.0 new h.2 k q o ∙ removed_at e.0.1 e.1 old h.0 h.1 k q ∙ apart k o
+others_after (e ∷ es) old new h k q o = others_after es h.0 new h.2 k q o ∙ removed_at e.0.1 e.1 old h.0 h.1 k q
+    ∙ apart k o
   where
     apart : (k : Kind) → of_leases k ≡ false
-        → without_row (without_row (table_of old) kind.Credential h.1.lease.credential) kind.Lease e.0.1 k q ≡ table_of old k q
+        → without_row (without_row (table_of old) kind.Credential h.1.lease.credential) kind.Lease e.0.1 k q
+        ≡ table_of old k q
     apart kind.Lease o = absurd (false≢true (sym o))
     apart kind.Credential o = absurd (false≢true (sym o))
     apart _ o = refl
 
 -- a row that is gone stays so
-gone_after : (es : List (RowKey × Row)) (old new : Rows) → RemovesEach es old new → (k : Kind) (q : Text) → table_of old k q ≡ None
+gone_after : (es : List (RowKey × Row)) (old new : Rows) → RemovesEach es old new → (k : Kind) (q : Text)
+    → table_of old k q ≡ None
     → table_of new k q ≡ None
 gone_after [] old new h k q none = ap (λ (r : Rows). table_of r k q) h ∙ none
 gone_after (e ∷ es) old new h k q none =
     gone_after es h.0 new h.2 k q (removed_at e.0.1 e.1 old h.0 h.1 k q
-    ∙ ap (λ o. if is_at kind.Lease e.0.1 k q then None else (if is_at kind.Credential h.1.lease.credential k q then None else o)) none
+    ∙ ap (λ o. if is_at kind.Lease e.0.1 k q then None else
+    (if is_at kind.Credential h.1.lease.credential k q then None else o)) none
     ∙ still (is_at kind.Lease e.0.1 k q) (is_at kind.Credential h.1.lease.credential k q))
   where
     still : (v w : Bool) → ◌≡◌ {A = Option Row} (if v then None else (if w then None else None)) None
@@ -73,7 +79,8 @@ pub record WasEnded (new : Table) (e : RowKey × Row) : Type 0 where
   pub lease : new kind.Lease e.0.1 ≡ None
   pub credential : new kind.Credential row.0.credential ≡ None
 
-each_after : (es : List (RowKey × Row)) (old new : Rows) → RemovesEach es old new → AllByRecursion (WasEnded (table_of new)) es
+each_after : (es : List (RowKey × Row)) (old new : Rows) → RemovesEach es old new
+    → AllByRecursion (WasEnded (table_of new)) es
 each_after [] old new h = tt
 each_after (e ∷ es) old new h = (
   record {
@@ -82,31 +89,37 @@ each_after (e ∷ es) old new h = (
         ∙ ap (λ v. if v then None else table_of old kind.Lease e.0.1) (same_self e.0.1));
     credential = gone_after es h.0 new h.2 kind.Credential h.1.lease.credential
         (removed_at e.0.1 e.1 old h.0 h.1 kind.Credential h.1.lease.credential
-        ∙ ap (λ v. if v then None else table_of old kind.Credential h.1.lease.credential) (same_self h.1.lease.credential));
+        ∙ ap (λ v. if v then None else table_of old kind.Credential h.1.lease.credential)
+        (same_self h.1.lease.credential));
   },
   each_after es h.0 new h.2,
 )
 
 -- a lease that is none of the entries is as it was
-lease_after : (es : List (RowKey × Row)) (old new : Rows) → RemovesEach es old new → (q : Text) → AllByRecursion (λ e. e.0.1 ≢ q) es
+lease_after : (es : List (RowKey × Row)) (old new : Rows) → RemovesEach es old new → (q : Text)
+    → AllByRecursion (λ e. e.0.1 ≢ q) es
     → table_of new kind.Lease q ≡ table_of old kind.Lease q
 lease_after [] old new h q apart = ap (λ (r : Rows). table_of r kind.Lease q) h
 lease_after (e ∷ es) old new h q apart =
     lease_after es h.0 new h.2 q apart.1 ∙ removed_at e.0.1 e.1 old h.0 h.1 kind.Lease q
-    ∙ ap (λ v. if v then None else table_of old kind.Lease q) (false_from_ne_true _ (λ is. apart.0 (sym (same_true q e.0.1 is))))
+    ∙ ap (λ v. if v then None else table_of old kind.Lease q)
+    (false_from_ne_true _ (λ is. apart.0 (sym (same_true q e.0.1 is))))
 
 -- and so is a credential of none of them
 credential_after : (es : List (RowKey × Row)) (old new : Rows) → RemovesEach es old new → (q : Text)
-    → AllByRecursion (λ e. (r : IsLeaseRow e.1) → r.0.credential ≢ q) es → table_of new kind.Credential q ≡ table_of old kind.Credential q
+    → AllByRecursion (λ e. (r : IsLeaseRow e.1) → r.0.credential ≢ q) es
+    → table_of new kind.Credential q ≡ table_of old kind.Credential q
 credential_after [] old new h q apart = ap (λ (r : Rows). table_of r kind.Credential q) h
 credential_after (e ∷ es) old new h q apart =
     credential_after es h.0 new h.2 q apart.1 ∙ removed_at e.0.1 e.1 old h.0 h.1 kind.Credential q
     ∙ ap (λ v. if v then None else table_of old kind.Credential q)
-    (false_from_ne_true _ (λ is. apart.0 (h.1.lease, h.1.in_range, h.1.row_is) (sym (same_true q h.1.lease.credential is))))
+    (false_from_ne_true _
+    (λ is. apart.0 (h.1.lease, h.1.in_range, h.1.row_is) (sym (same_true q h.1.lease.credential is))))
 
 -- ---- the leases that end
 
-module _ (ends : Ending) (es : List (RowKey × Row)) (old new : Rows) (those : AreThoseThatEnd ends (table_of old) es) where
+module _ (ends : Ending) (es : List (RowKey × Row)) (old new : Rows)
+    (those : AreThoseThatEnd ends (table_of old) es) where
   -- their rows are read if those that end are
   pub each_readable : AreReadable ends (table_of old) → AllByRecursion (λ e. IsLeaseRow e.1) es
   each_readable readable = recursion_from_All (λ e. IsLeaseRow e.1) es (λ k d below.
@@ -114,13 +127,15 @@ module _ (ends : Ending) (es : List (RowKey × Row)) (old new : Rows) (those : A
 
   module _ (h : RemovesEach es old new) where
     -- what is known of a lease that ends
-    entry : (q : Text) (row : Row) → table_of old kind.Lease q ≡ Some row → ends q row ≡ true → WasEnded (table_of new) ((kind.Lease, q), row)
+    entry : (q : Text) (row : Row) → table_of old kind.Lease q ≡ Some row → ends q row ≡ true
+        → WasEnded (table_of new) ((kind.Lease, q), row)
     entry q row is goes =
         All-contains (WasEnded (table_of new)) es ((kind.Lease, q), row)
         (All-from_recursion (WasEnded (table_of new)) es (each_after es old new h)) (those.whole q row is goes)
 
     -- a lease that stays is none of the entries
-    apart : (q : Text) (row : Row) → table_of old kind.Lease q ≡ Some row → ends q row ≡ false → AllByRecursion (λ e. e.0.1 ≢ q) es
+    apart : (q : Text) (row : Row) → table_of old kind.Lease q ≡ Some row → ends q row ≡ false
+        → AllByRecursion (λ e. e.0.1 ≢ q) es
     apart q row is stays = recursion_from_All (λ e. e.0.1 ≢ q) es (λ k d below key.
         let e = those.each k d below in
         let one : row ≡ (get_or es k d).1 = same_Some _ _ (sym is ∙ ap (table_of old kind.Lease) (sym key) ∙ e.0) in
@@ -130,7 +145,8 @@ module _ (ends : Ending) (es : List (RowKey × Row)) (old new : Rows) (those : A
     lease_left q = elim (found_or_not (table_of old kind.Lease q)) [
       | inl none ↦ gone_after es old new h kind.Lease q none ∙ sym (ap (unless_ended ends q) none)
       | inr row ↦
-          elim (ends q row.0) as (λ v. ends q row.0 ≡ v → table_of new kind.Lease q ≡ unless_ended ends q (table_of old kind.Lease q)) [
+          elim (ends q row.0) as (λ v. ends q row.0 ≡ v
+          → table_of new kind.Lease q ≡ unless_ended ends q (table_of old kind.Lease q)) [
             | true ↦ λ goes.
                 (entry q row.0 row.1 goes).lease
                 ∙ sym (ap (unless_ended ends q) row.1 ∙ ap (λ v. if v then None else Some row.0) goes)
@@ -146,10 +162,12 @@ module _ (ends : Ending) (es : List (RowKey × Row)) (old new : Rows) (those : A
       leases = lease_left;
       credentials_gone = λ q w.
           let e = entry w.lease_id (lease_row w.owner w.lease) w.row w.goes in
-          let one : e.row.0.credential ≡ q = credential_told w.owner w.owner e.row.0 w.lease (sym e.row.2) ∙ w.credential_is in
+          let one : e.row.0.credential ≡ q = credential_told w.owner w.owner e.row.0 w.lease (sym e.row.2)
+          ∙ w.credential_is in
           ap (table_of new kind.Credential) (sym one) ∙ e.credential;
       credentials_left = λ q none.
-          credential_after es old new h q (recursion_from_All (λ e. (r : IsLeaseRow e.1) → r.0.credential ≢ q) es (λ k d below r is.
+          credential_after es old new h q
+          (recursion_from_All (λ e. (r : IsLeaseRow e.1) → r.0.credential ≢ q) es (λ k d below r is.
           let e = get_or es k d in
           let p = those.each k d below in
           none (record {
@@ -166,7 +184,8 @@ module _ (ends : Ending) (es : List (RowKey × Row)) (old new : Rows) (those : A
 -- ---- one lease by its id
 
 -- the row of a lease alone
-pub one_ended : (id : Text) (row : Row) (old new : Rows) → table_of old kind.Lease id ≡ Some row → RemovesLease id row old new
+pub one_ended : (id : Text) (row : Row) (old new : Rows) → table_of old kind.Lease id ≡ Some row
+    → RemovesLease id row old new
     → EndsLeases (is_named id) (table_of old) (table_of new)
 one_ended id row old new is removed = leases_ended (is_named id) (e ∷ []) old new those (new, removed, refl)
   where
@@ -175,32 +194,39 @@ one_ended id row old new is removed = leases_ended (is_named id) (e ∷ []) old 
 
     those : AreThoseThatEnd (is_named id) (table_of old) (e ∷ [])
     those = record {
-      each = All-from_recursion (λ e. (table_of old kind.Lease e.0.1 ≡ Some e.1) × (same e.0.1 id ≡ true)) (e ∷ []) ((is, same_self id), tt);
+      each = All-from_recursion (λ e. (table_of old kind.Lease e.0.1 ≡ Some e.1) × (same e.0.1 id ≡ true)) (e ∷ [])
+          ((is, same_self id), tt);
       whole = λ q r at goes.
           let key : id ≡ q = sym (same_true q id goes) in
           let one : row ≡ r = same_Some _ _ (sym is ∙ ap (table_of old kind.Lease) key ∙ at) in
-          subst (Contains (e ∷ [])) (λ i. ((kind.Lease, key i), one i)) (All-contains_itself (e ∷ []) 0 e (omega arith));
+          subst (Contains (e ∷ [])) (λ i. ((kind.Lease, key i), one i))
+          (All-contains_itself (e ∷ []) 0 e (omega arith));
     }
 
 -- no row, none
-pub none_ended : (id : Text) (rows : Rows) → table_of rows kind.Lease id ≡ None → EndsLeases (is_named id) (table_of rows) (table_of rows)
+pub none_ended : (id : Text) (rows : Rows) → table_of rows kind.Lease id ≡ None
+    → EndsLeases (is_named id) (table_of rows) (table_of rows)
 none_ended id rows none =
     leases_ended (is_named id) [] rows rows (record {
       each = All-from_recursion (λ e. (table_of rows kind.Lease e.0.1 ≡ Some e.1) × (same e.0.1 id ≡ true)) [] tt;
-      whole = λ q r at goes. absurd (none-some _ (sym none ∙ ap (table_of rows kind.Lease) (sym (same_true q id goes)) ∙ at));
+      whole = λ q r at goes. absurd
+          (none-some _ (sym none ∙ ap (table_of rows kind.Lease) (sym (same_true q id goes)) ∙ at));
     }) refl
 
 -- ---- to the broker
 
-module _ (ends : Ending) (old new : Table) (b c : Broker) (represents : RepresentsLeases old b) (ended : EndsLeases ends old new)
+module _ (ends : Ending) (old new : Table) (b c : Broker) (represents : RepresentsLeases old b)
+    (ended : EndsLeases ends old new)
     (leaves : Leaves ends b c) where
   was : AreLeases old b
   was = are_leases b represents.one_place old represents.tells
 
   -- a lease of c is one of b, and stays
-  of_before : (t q : Text) (l : Lease) → lease_of c t q ≡ Some l → (lease_of b t q ≡ Some l) × (ends q (lease_row t l) ≡ false)
+  of_before : (t q : Text) (l : Lease) → lease_of c t q ≡ Some l → (lease_of b t q ≡ Some l)
+      × (ends q (lease_row t l) ≡ false)
   of_before t q l is = elim (found_or_not (lease_of b t q)) [
-    | inl none ↦ absurd (none-some _ (sym (leaves t q ∙ ap (option_and_then (λ l. if ends q (lease_row t l) then None else Some l)) none) ∙ is))
+    | inl none ↦ absurd (none-some _
+        (sym (leaves t q ∙ ap (option_and_then (λ l. if ends q (lease_row t l) then None else Some l)) none) ∙ is))
     | inr m ↦
         elim (ends q (lease_row t m.0)) as (λ v. ends q (lease_row t m.0) ≡ v → (if v then None else Some m.0) ≡ Some l
         → (lease_of b t q ≡ Some l) × (ends q (lease_row t l) ≡ false)) [
@@ -221,17 +247,20 @@ module _ (ends : Ending) (old new : Table) (b c : Broker) (represents : Represen
   row_left q r is = elim (found_or_not (old kind.Lease q)) [
     | inl none ↦ absurd (none-some _ (sym (ended.leases q ∙ ap (unless_ended ends q) none) ∙ is))
     | inr s ↦
-        elim (ends q s.0) as (λ v. ends q s.0 ≡ v → (if v then None else Some s.0) ≡ Some r → (old kind.Lease q ≡ Some r) × (ends q r ≡ false)) [
+        elim (ends q s.0) as (λ v. ends q s.0 ≡ v → (if v then None else Some s.0) ≡ Some r
+        → (old kind.Lease q ≡ Some r) × (ends q r ≡ false)) [
           | true ↦ λ _ none. absurd (none-some _ none)
           | false ↦ λ stays some. (s.1 ∙ some, ap (ends q) (sym (same_Some _ _ some)) ∙ stays)
         ] refl (sym (ended.leases q ∙ ap (unless_ended ends q) s.1) ∙ is)
   ]
 
   -- the credential of a lease that stays is that of no other
-  own : (t q : Text) (l : Lease) → lease_of b t q ≡ Some l → ends q (lease_row t l) ≡ false → EndsWith ends old l.credential → ⊥
+  own : (t q : Text) (l : Lease) → lease_of b t q ≡ Some l → ends q (lease_row t l) ≡ false
+      → EndsWith ends old l.credential → ⊥
   own t q l is stays w =
       let m = was.leases w.lease_id (lease_row w.owner w.lease) w.row in
-      let credential : m.1.credential ≡ l.credential = sym (credential_told w.owner m.0 w.lease m.1 m.3) ∙ w.credential_is in
+      let credential : m.1.credential ≡ l.credential = sym (credential_told w.owner m.0 w.lease m.1 m.3)
+      ∙ w.credential_is in
       let one = one_credential b represents.one_place m.0 t w.lease_id q m.1 l m.2 is credential in
       let row : lease_row w.owner w.lease ≡ lease_row t l =
       same_Some _ _ (sym w.row ∙ ap (old kind.Lease) one.1 ∙ was.each_lease t q l is) in
@@ -245,7 +274,8 @@ module _ (ends : Ending) (old new : Table) (b c : Broker) (represents : Represen
         (l.0, l.1, still l.0 q l.1 l.2 (ap (ends q) (sym l.3) ∙ left.1), l.3);
     each_lease = λ t q l is.
         let before = of_before t q l is in
-        ended.leases q ∙ ap (unless_ended ends q) (was.each_lease t q l before.0) ∙ ap (λ v. if v then None else Some (lease_row t l)) before.1;
+        ended.leases q ∙ ap (unless_ended ends q) (was.each_lease t q l before.0)
+        ∙ ap (λ v. if v then None else Some (lease_row t l)) before.1;
     credentials = λ q r is. credential q r is;
     each_credential = λ t q l is.
         let before = of_before t q l is in
@@ -259,10 +289,12 @@ module _ (ends : Ending) (old new : Table) (b c : Broker) (represents : Represen
             absurd (none-some _ (sym (ended.credentials_left q (λ w.
             let m = was.leases w.lease_id (lease_row w.owner w.lease) w.row in
             let credential : m.1.credential ≡ q = sym (credential_told w.owner m.0 w.lease m.1 m.3) ∙ w.credential_is in
-            none-some _ (sym none ∙ ap (old kind.Credential) (sym credential) ∙ was.each_credential m.0 w.lease_id m.1 m.2)) ∙ none) ∙ is))
+            none-some _ (sym none ∙ ap (old kind.Credential) (sym credential)
+            ∙ was.each_credential m.0 w.lease_id m.1 m.2)) ∙ none) ∙ is))
         | inr s ↦
             let l = was.credentials q s.0 s.1 in
-            elim (ends l.1 (lease_row l.0 l.2)) as (λ v. ends l.1 (lease_row l.0 l.2) ≡ v → old kind.Credential q ≡ Some r) [
+            elim (ends l.1 (lease_row l.0 l.2)) as (λ v. ends l.1 (lease_row l.0 l.2) ≡ v
+            → old kind.Credential q ≡ Some r) [
               | true ↦ λ goes. absurd (none-some _ (sym (ended.credentials_gone q (record {
                 lease_id = l.1;
                 owner = l.0;
@@ -272,17 +304,20 @@ module _ (ends : Ending) (old new : Table) (b c : Broker) (represents : Represen
                 credential_is = l.4;
               })) ∙ is))
               | false ↦ λ stays.
-                  sym (ap (old kind.Credential) l.4) ∙ sym (ended.credentials_left l.2.credential (own l.0 l.1 l.2 l.3 stays))
+                  sym (ap (old kind.Credential) l.4)
+                  ∙ sym (ended.credentials_left l.2.credential (own l.0 l.1 l.2 l.3 stays))
                   ∙ ap (new kind.Credential) l.4 ∙ is
             ] refl
       ]
 
       credential : (q : Text) (r : Row) → new kind.Credential q ≡ Some r
-          → (t : Text) × (id : Text) × (l : Lease) × (lease_of c t id ≡ Some l) × (l.credential ≡ q) × (r ≡ credential_row id)
+          → (t : Text) × (id : Text) × (l : Lease) × (lease_of c t id ≡ Some l) × (l.credential ≡ q)
+          × (r ≡ credential_row id)
       credential q r is =
           let l = was.credentials q r (before q r is) in
           elim (ends l.1 (lease_row l.0 l.2)) as (λ v. ends l.1 (lease_row l.0 l.2) ≡ v
-          → (t : Text) × (id : Text) × (l : Lease) × (lease_of c t id ≡ Some l) × (l.credential ≡ q) × (r ≡ credential_row id)) [
+          → (t : Text) × (id : Text) × (l : Lease) × (lease_of c t id ≡ Some l) × (l.credential ≡ q)
+          × (r ≡ credential_row id)) [
             | true ↦ λ goes. absurd (none-some _ (sym (ended.credentials_gone q (record {
               lease_id = l.1;
               owner = l.0;

@@ -17,7 +17,8 @@ use Rattle.records.specs.RowForms.{lease_row, credential_row}
 use Rattle.records.specs.Table.{Table}
 use Rattle.leases.specs.LeaseRows.{Held, IsLeaseAt, IsReadableCredential, RepresentsLeases}
 use Rattle.leases.specs.Leases.{find, verify}
-use Rattle.leases.specs.TellLaws.{holds, holds_credential, lease_at, credential_at, lease_rows, credential_rows, lease_in, is_there, are_leases}
+use Rattle.leases.specs.TellLaws.{holds, holds_credential, lease_at, credential_at, lease_rows, credential_rows}
+use Rattle.leases.specs.TellLaws.{lease_in, is_there, are_leases}
 
 -- the record of a row that is there
 pub at_is : (rows : Table) (q : Text) (o : Option Held) (r : Row) → IsLeaseAt rows q o → rows kind.Lease q ≡ Some r
@@ -31,10 +32,14 @@ pub at_none : (rows : Table) (q : Text) (o : Option Held) → IsLeaseAt rows q o
 at_none rows q o at none = mapped_none (λ (h : Held). lease_row h.0 h.1) o (sym at.row ∙ none)
 
 -- a row that was read
-pub at_read : (rows : Table) (q : Text) (r : Row) (l : Lease) → rows kind.Lease q ≡ Some r → IsLeaseInRange l → r ≡ lease_row r.owner l
+pub at_read : (rows : Table) (q : Text) (r : Row) (l : Lease) → rows kind.Lease q ≡ Some r → IsLeaseInRange l
+    → r ≡ lease_row r.owner l
     → IsLeaseAt rows q (Some (r.owner, l))
 at_read rows q r l is in_range row =
-    record { in_range = λ h e. subst (λ (h : Held). IsLeaseInRange h.1) (same_Some _ _ e) in_range; row = is ∙ ap Some row }
+    record {
+      in_range = λ h e. subst (λ (h : Held). IsLeaseInRange h.1) (same_Some _ _ e) in_range;
+      row = is ∙ ap Some row;
+    }
 
 -- ---- of a broker
 
@@ -56,18 +61,21 @@ module _ (rows : Table) (b : Broker) (represents : RepresentsLeases rows b) (q :
       one t None = refl
       one t (Some l) = refl
 
-      inner : (o : Option (Text × Token)) → option_and_then (λ (e : Text × Token). get e.1.leases q) o ≡ option_map (λ h. h.1) (option_and_then in_token o)
+      inner : (o : Option (Text × Token)) → option_and_then (λ (e : Text × Token). get e.1.leases q) o
+          ≡ option_map (λ h. h.1) (option_and_then in_token o)
       inner None = refl
       inner (Some e) = one e.0 (get e.1.leases q)
 
   row_held : rows kind.Lease q ≡ option_map (λ h. lease_row h.0 h.1) held
   row_held = represents.tells kind.Lease q refl ∙ lease_rows b q ∙ inner found
     where
-      one : (t : Text) (o : Option Lease) → option_map (λ l. lease_row t l) o ≡ option_map (λ (h : Held). lease_row h.0 h.1) (option_map (λ l. (t, l)) o)
+      one : (t : Text) (o : Option Lease) → option_map (λ l. lease_row t l) o
+          ≡ option_map (λ (h : Held). lease_row h.0 h.1) (option_map (λ l. (t, l)) o)
       one t None = refl
       one t (Some l) = refl
 
-      inner : (o : Option (Text × Token)) → option_and_then (lease_at q) o ≡ option_map (λ (h : Held). lease_row h.0 h.1) (option_and_then in_token o)
+      inner : (o : Option (Text × Token)) → option_and_then (lease_at q) o
+          ≡ option_map (λ (h : Held). lease_row h.0 h.1) (option_and_then in_token o)
       inner None = refl
       inner (Some e) = one e.0 (get e.1.leases q)
 
@@ -77,11 +85,15 @@ module _ (rows : Table) (b : Broker) (represents : RepresentsLeases rows b) (q :
     | inr e ↦
         let at = first_where_is (holds q) b.tokens e.0 e.1 in
         let l = mapped (λ l. (e.0.0, l)) (get e.0.1.leases q) h (sym (ap (option_and_then in_token) e.1) ∙ is) in
-        (λ i. lease_of b ((l.2 i).0) q) ∙ lease_in b e.0.0 q e.0.1 at.0 ∙ l.1 ∙ ap Some (sym (ap (λ (h : Held). h.1) l.2))
+        (λ i. lease_of b ((l.2 i).0) q) ∙ lease_in b e.0.0 q e.0.1 at.0 ∙ l.1
+        ∙ ap Some (sym (ap (λ (h : Held). h.1) l.2))
   ]
 
   pub held_at : IsLeaseAt rows q held
-  held_at = record { in_range = λ h is. lease_in_range q h.1 (represents.sound h.0 q h.1 (held_of h is)); row = row_held }
+  held_at = record {
+    in_range = λ h is. lease_in_range q h.1 (represents.sound h.0 q h.1 (held_of h is));
+    row = row_held;
+  }
 
   -- no row, no lease
   pub find_none : rows kind.Lease q ≡ None → find b q ≡ None
@@ -89,21 +101,23 @@ module _ (rows : Table) (b : Broker) (represents : RepresentsLeases rows b) (q :
 
   -- a row is that of the lease
   pub find_some : (r : Row) → rows kind.Lease q ≡ Some r
-      → (h : Held) × IsLeaseInRange h.1 × (r ≡ lease_row h.0 h.1) × (find b q ≡ Some h.1) × (lease_of b h.0 q ≡ Some h.1)
+      → (h : Held) × IsLeaseInRange h.1 × (r ≡ lease_row h.0 h.1) × (find b q ≡ Some h.1)
+      × (lease_of b h.0 q ≡ Some h.1)
   find_some r is =
       let h = at_is rows q held r held_at is in
       (h.0, h.2, h.3, find_is ∙ ap (option_map (λ (h : Held). h.1)) h.1, held_of h.0 h.1)
 
   -- a credential has a row exactly if some lease has it
   pub verify_told : is_some (rows kind.Credential q) ≡ verify b q
-  verify_told = ap is_some (represents.tells kind.Credential q refl ∙ credential_rows b q) ∙ elim (found_or_not (first_where (holds_credential q) b.tokens)) [
-    | inl none ↦ ap (λ o. is_some (option_and_then (credential_at q) o)) none ∙ sym (ap is_some none)
-    | inr e ↦
-        let l = is_there _ (first_where_is (holds_credential q) b.tokens e.0 e.1).1 in
-        ap (λ o. is_some (option_and_then (credential_at q) o)) e.1
-        ∙ ap (λ o. is_some (option_map (λ (l : Text × Lease). credential_row l.0) o)) l.1
-        ∙ sym (ap is_some e.1)
-  ]
+  verify_told = ap is_some (represents.tells kind.Credential q refl ∙ credential_rows b q)
+      ∙ elim (found_or_not (first_where (holds_credential q) b.tokens)) [
+        | inl none ↦ ap (λ o. is_some (option_and_then (credential_at q) o)) none ∙ sym (ap is_some none)
+        | inr e ↦
+            let l = is_there _ (first_where_is (holds_credential q) b.tokens e.0 e.1).1 in
+            ap (λ o. is_some (option_and_then (credential_at q) o)) e.1
+            ∙ ap (λ o. is_some (option_map (λ (l : Text × Lease). credential_row l.0) o)) l.1
+            ∙ sym (ap is_some e.1)
+      ]
 
   -- and its row can be read
   pub credential_readable : IsReadableCredential rows q

@@ -1,5 +1,6 @@
 -- The rows of leases after one is made or renewed.
-use Rattle.std.specs.Prelude.{◌≡◌, ◌≢◌, ◌&&◌, Bool, true, false, cond, if◌then◌else◌, Option, Some, None, option_map, option_and_then}
+use Rattle.std.specs.Prelude.{◌≡◌, ◌≢◌, ◌&&◌, Bool, true, false, cond, if◌then◌else◌, Option, Some, None, option_map}
+use Rattle.std.specs.Prelude.{option_and_then}
 use Rattle.std.proofs.Common.{refl, sym, ◌∙◌, ap}
 use Rattle.std.proofs.lemmas.Bool.{false≢true, and_from, false_from_ne_true}
 use Rattle.std.proofs.lemmas.Option.{same_Some}
@@ -30,7 +31,8 @@ pub lease_of-issue : (b : Broker) (t id : Text) (l : Lease) → get b.tokens t �
     → lease_of (issue b t id l) u q ≡ (if same u t && same q id then Some l else lease_of b u q)
 lease_of-issue b t id l here u q =
     lease_of-edited b (λ u m. if same u t then put m id l else m) u q
-    ∙ elim (same u t) as (λ v. same u t ≡ v → option_and_then (λ (x : Token). get (if v then put x.leases id l else x.leases) q) (get b.tokens u)
+    ∙ elim (same u t) as (λ v. same u t ≡ v
+    → option_and_then (λ (x : Token). get (if v then put x.leases id l else x.leases) q) (get b.tokens u)
     ≡ (if v && same q id then Some l else lease_of b u q)) [
       | true ↦ λ is. there (get b.tokens u) (λ none. here (ap (get b.tokens) (sym (same_true u t is)) ∙ none))
       | false ↦ λ _. refl
@@ -45,18 +47,21 @@ lease_of-issue b t id l here u q =
     there None n = absurd (n refl)
     there (Some x) n = get-put x.leases id l q ∙ chosen (same q id) (get x.leases q)
 
-module _ (old : Table) (b : Broker) (t id : Text) (l : Lease) (represents : RepresentsLeases old b) (here : get b.tokens t ≢ None) (all_used : AllUsed b)
+module _ (old : Table) (b : Broker) (t id : Text) (l : Lease) (represents : RepresentsLeases old b)
+    (here : get b.tokens t ≢ None) (all_used : AllUsed b)
     (new_id : IsNew b (lease_identifier id)) (new_credential : IsNew b l.credential) where
   was : AreLeases old b
   was = are_leases b represents.one_place old represents.tells
 
   -- nobody had the id, nor the credential
   no_id : (u : Text) (m : Lease) → lease_of b u id ≡ Some m → ⊥
-  no_id u m is = all_used (lease u id) (lease_identifier id) (ap (option_map (λ (m : Lease). lease_identifier id)) is) new_id
+  no_id u m is = all_used (lease u id) (lease_identifier id)
+      (ap (option_map (λ (m : Lease). lease_identifier id)) is) new_id
 
   no_credential : (u q : Text) (m : Lease) → lease_of b u q ≡ Some m → m.credential ≡ l.credential → ⊥
   no_credential u q m is same_credential =
-      all_used (credential u q) l.credential (ap (option_map (λ (m : Lease). m.credential)) is ∙ ap Some same_credential) new_credential
+      all_used (credential u q) l.credential
+      (ap (option_map (λ (m : Lease). m.credential)) is ∙ ap Some same_credential) new_credential
 
   other_id : (u q : Text) (m : Lease) → lease_of b u q ≡ Some m → same q id ≡ false
   other_id u q m is = false_from_ne_true _ (λ at. no_id u m (ap (lease_of b u) (sym (same_true q id at)) ∙ is))
@@ -72,7 +77,8 @@ module _ (old : Table) (b : Broker) (t id : Text) (l : Lease) (represents : Repr
       ∙ ap (λ v. if v then Some l else lease_of b u q) (and_false (same u t) (same q id) (other_id u q m is)) ∙ is
 
   made : lease_of (issue b t id l) t id ≡ Some l
-  made = lease_of-issue b t id l here t id ∙ ap (λ v. if v then Some l else lease_of b t id) (and_from _ _ (same_self t) (same_self id))
+  made = lease_of-issue b t id l here t id ∙ ap (λ v. if v then Some l else lease_of b t id)
+      (and_from _ _ (same_self t) (same_self id))
 
   pub are_issued : AreLeases (with_issued old t id l) (issue b t id l)
   are_issued = record {
@@ -83,20 +89,27 @@ module _ (old : Table) (b : Broker) (t id : Text) (l : Lease) (represents : Repr
           | false ↦ λ _ e. let m = was.leases q r e in (m.0, m.1, still m.0 q m.1 m.2, m.3)
         ] refl is;
     each_lease = λ u q m is. lease_cases b t id l u q m (with_issued old t id l kind.Lease q ≡ Some (lease_row u m)) is
-        (λ ut qid ml. ap (λ v. if v then Some (lease_row t l) else old kind.Lease q) (ap (λ z. same z id) qid ∙ same_self id)
+        (λ ut qid ml. ap (λ v. if v then Some (lease_row t l) else old kind.Lease q)
+        (ap (λ z. same z id) qid ∙ same_self id)
         ∙ (λ i. Some (lease_row (sym ut i) (sym ml i))))
-        (λ before. ap (λ v. if v then Some (lease_row t l) else old kind.Lease q) (other_id u q m before) ∙ was.each_lease u q m before);
+        (λ before. ap (λ v. if v then Some (lease_row t l) else old kind.Lease q) (other_id u q m before)
+        ∙ was.each_lease u q m before);
     credentials = λ q r is.
-        elim (same q l.credential) as (λ v. same q l.credential ≡ v → (if v then Some (credential_row id) else old kind.Credential q) ≡ Some r
-        → (u : Text) × (p : Text) × (m : Lease) × (lease_of (issue b t id l) u p ≡ Some m) × (m.credential ≡ q) × (r ≡ credential_row p)) [
+        elim (same q l.credential) as (λ v. same q l.credential ≡ v
+        → (if v then Some (credential_row id) else old kind.Credential q) ≡ Some r
+        → (u : Text) × (p : Text) × (m : Lease) × (lease_of (issue b t id l) u p ≡ Some m) × (m.credential ≡ q)
+        × (r ≡ credential_row p)) [
           | true ↦ λ at e. (t, id, l, made, sym (same_true q l.credential at), sym (same_Some _ _ e))
           | false ↦ λ _ e. let m = was.credentials q r e in (m.0, m.1, m.2, still m.0 m.1 m.2 m.3, m.4, m.5)
         ] refl is;
-    each_credential = λ u q m is. lease_cases b t id l u q m (with_issued old t id l kind.Credential m.credential ≡ Some (credential_row q)) is
+    each_credential = λ u q m is. lease_cases b t id l u q m
+        (with_issued old t id l kind.Credential m.credential ≡ Some (credential_row q)) is
         (λ ut qid ml. ap (λ v. if v then Some (credential_row id) else old kind.Credential m.credential)
-        (ap (λ (z : Lease). same z.credential l.credential) ml ∙ same_self l.credential) ∙ ap (λ z. Some (credential_row z)) (sym qid))
+        (ap (λ (z : Lease). same z.credential l.credential) ml ∙ same_self l.credential)
+        ∙ ap (λ z. Some (credential_row z)) (sym qid))
         (λ before. ap (λ v. if v then Some (credential_row id) else old kind.Credential m.credential)
-        (false_from_ne_true _ (λ at. no_credential u q m before (same_true m.credential l.credential at))) ∙ was.each_credential u q m before);
+        (false_from_ne_true _ (λ at. no_credential u q m before (same_true m.credential l.credential at)))
+        ∙ was.each_credential u q m before);
   }
 
   pub issued_told : Tells of_leases (with_issued old t id l) (issue b t id l)
@@ -143,14 +156,16 @@ module _ (b : Broker) (id : Text) (f : Lease → Lease) where
             | true ↦ λ at e. (
               t,
               f l,
-              lease_of-changed t q ∙ ap (option_map (λ m. if same q id then f m else m)) (ap (lease_of b t) (same_true q id at) ∙ its)
+              lease_of-changed t q ∙ ap (option_map (λ m. if same q id then f m else m))
+                  (ap (lease_of b t) (same_true q id at) ∙ its)
                   ∙ ap (λ v. Some (if v then f l else l)) at,
               sym (same_Some _ _ e),
             )
             | false ↦ λ apart e. let m = had.leases q r e in (
               m.0,
               m.1,
-              lease_of-changed m.0 q ∙ ap (option_map (λ m. if same q id then f m else m)) m.2 ∙ ap (λ v. Some (if v then f m.1 else m.1)) apart,
+              lease_of-changed m.0 q ∙ ap (option_map (λ m. if same q id then f m else m)) m.2
+                  ∙ ap (λ v. Some (if v then f m.1 else m.1)) apart,
               m.3,
             )
           ] refl is;
@@ -176,7 +191,8 @@ module _ (b : Broker) (id : Text) (f : Lease → Lease) where
           );
       each_credential = λ u q m is.
           let k = mapped (λ m. if same q id then f m else m) (lease_of b u q) m (sym (lease_of-changed u q) ∙ is) in
-          ap (λ (z : Lease). old kind.Credential z.credential) k.2 ∙ ap (old kind.Credential) (credential_kept (same q id) k.0)
+          ap (λ (z : Lease). old kind.Credential z.credential) k.2
+          ∙ ap (old kind.Credential) (credential_kept (same q id) k.0)
           ∙ had.each_credential u q k.0 k.1;
     }
 

@@ -34,9 +34,14 @@ those_passing rows ends p tells = record {
   each = λ k d below.
       let e = get_or (leases_among listed) k d in
       let lease = same_kind _ kind.Lease (filter_passes is_lease listed k d below) in
-      let row = All-filter is_lease (λ e. (get rows e.0 ≡ Some e.1) × (p e ≡ true)) listed (passing_each rows p) k d below in
-      ((λ i. get rows (sym lease i, e.0.1)) ∙ row.0, sym (tells e.0.1 e.1) ∙ (λ i. p ((sym lease i, e.0.1), e.1)) ∙ row.1);
-  whole = λ q row at goes. Contains-filter is_lease listed ((kind.Lease, q), row) (passing_whole rows p (kind.Lease, q) row at (tells q row ∙ goes)) refl;
+      let row = All-filter is_lease (λ e. (get rows e.0 ≡ Some e.1) × (p e ≡ true)) listed
+      (passing_each rows p) k d below in (
+        (λ i. get rows (sym lease i, e.0.1)) ∙ row.0,
+        sym (tells e.0.1 e.1) ∙ (λ i. p ((sym lease i, e.0.1), e.1))
+            ∙ row.1,
+      );
+  whole = λ q row at goes. Contains-filter is_lease listed ((kind.Lease, q), row)
+      (passing_whole rows p (kind.Lease, q) row at (tells q row ∙ goes)) refl;
 }
   where
     listed : List (RowKey × Row)
@@ -59,4 +64,5 @@ those_due rows now list still = record {
 -- what is due now is so still
 pub still_due : (rows same : Rows) (now : ℕ) (list : List (RowKey × Row)) → same ≡ rows → AreDue rows now list
     → AreStillDue now list (table_of same)
-still_due rows same now list is due = record { asked = rows; due = due; same = λ q. ap (λ (r : Rows). table_of r kind.Lease q) is }
+still_due rows same now list is due =
+    record { asked = rows; due = due; same = λ q. ap (λ (r : Rows). table_of r kind.Lease q) is }

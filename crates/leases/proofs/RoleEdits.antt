@@ -1,5 +1,6 @@
 -- Rows of roles, edited.
-use Rattle.std.specs.Prelude.{◌≡◌, nat_eq, Bool, true, false, not, cond, if◌then◌else◌, Option, Some, None, option_map, Ok}
+use Rattle.std.specs.Prelude.{◌≡◌, nat_eq, Bool, true, false, not, cond, if◌then◌else◌, Option, Some, None, option_map}
+use Rattle.std.specs.Prelude.{Ok}
 use Rattle.std.specs.List.{starts_with}
 use Rattle.std.proofs.Common.{refl, sym, ◌∙◌, ap, subst}
 use Rattle.std.proofs.lemmas.Bool.{false≢true}
@@ -26,11 +27,13 @@ unfolding rows_of
 role_rows b q = refl
 
 -- the row of a role
-pub role_told : (t : Table) (b : Broker) → Tells of_roles t b → (q : Text) → t kind.Role q ≡ option_map role_row (get b.roles q)
+pub role_told : (t : Table) (b : Broker) → Tells of_roles t b → (q : Text)
+    → t kind.Role q ≡ option_map role_row (get b.roles q)
 role_told t b told q = told kind.Role q refl ∙ role_rows b q
 
 -- a table that has the rows of roles
-pub roles_by : (t : Table) (b : Broker) → ((q : Text) → t kind.Role q ≡ option_map role_row (get b.roles q)) → Tells of_roles t b
+pub roles_by : (t : Table) (b : Broker) → ((q : Text) → t kind.Role q ≡ option_map role_row (get b.roles q))
+    → Tells of_roles t b
 roles_by t b roles kind.Clock q h = absurd (false≢true h)
 roles_by t b roles kind.Used q h = absurd (false≢true h)
 roles_by t b roles kind.Token q h = absurd (false≢true h)
@@ -61,24 +64,32 @@ module _ (old : Table) (b : Broker) (told : Tells of_roles old b) where
       → ((q : Text) → get roles q ≡ cond (met q) o (get b.roles q)) → Tells of_roles new (record b { roles = roles })
   edited_told new roles met o rows map =
       roles_by new (record b { roles = roles }) (λ q.
-      rows q ∙ ap (λ z. if met q then option_map role_row o else z) (role_told old b told q) ∙ inner (met q) (get b.roles q)
+      rows q ∙ ap (λ z. if met q then option_map role_row o else z) (role_told old b told q)
+      ∙ inner (met q) (get b.roles q)
       ∙ ap (option_map role_row) (sym (map q)))
     where
-      inner : (v : Bool) (p : Option Role) → (if v then option_map role_row o else option_map role_row p) ≡ option_map role_row (cond v o p)
+      inner : (v : Bool) (p : Option Role) → (if v then option_map role_row o else option_map role_row p)
+          ≡ option_map role_row (cond v o p)
       inner true p = refl
       inner false p = refl
 
-  pub put_told : (key : Text) (r : Role) → Tells of_roles (with_row old kind.Role key (role_row r)) (record b { roles = put b.roles key r })
-  put_told key r = edited_told (with_row old kind.Role key (role_row r)) (put b.roles key r) (λ q. same q key) (Some r) (λ q. refl) (get-put b.roles key r)
+  pub put_told : (key : Text) (r : Role)
+      → Tells of_roles (with_row old kind.Role key (role_row r)) (record b { roles = put b.roles key r })
+  put_told key r = edited_told (with_row old kind.Role key (role_row r)) (put b.roles key r) (λ q. same q key) (Some r)
+      (λ q. refl) (get-put b.roles key r)
 
-  pub gone_told : (key : Text) → Tells of_roles (without_row old kind.Role key) (record b { roles = without b.roles key })
-  gone_told key = edited_told (without_row old kind.Role key) (without b.roles key) (λ q. same q key) None (λ q. refl) (get-without b.roles key)
+  pub gone_told : (key : Text) → Tells of_roles (without_row old kind.Role key)
+      (record b { roles = without b.roles key })
+  gone_told key = edited_told (without_row old kind.Role key) (without b.roles key) (λ q. same q key) None (λ q. refl)
+      (get-without b.roles key)
 
   pub dropped_told : (prefix : Text) → Tells of_roles (without_under old kind.Role prefix)
       (record b { roles = keep (λ q. not (starts_with nat_eq q prefix)) b.roles })
   dropped_told prefix =
-      edited_told (without_under old kind.Role prefix) (keep (λ q. not (starts_with nat_eq q prefix)) b.roles) (λ q. starts_with nat_eq q prefix) None
-      (λ q. refl) (λ q. get-keep (λ q. not (starts_with nat_eq q prefix)) b.roles q ∙ turned (starts_with nat_eq q prefix) (get b.roles q))
+      edited_told (without_under old kind.Role prefix) (keep (λ q. not (starts_with nat_eq q prefix)) b.roles)
+      (λ q. starts_with nat_eq q prefix) None
+      (λ q. refl) (λ q. get-keep (λ q. not (starts_with nat_eq q prefix)) b.roles q
+      ∙ turned (starts_with nat_eq q prefix) (get b.roles q))
     where
       turned : (v : Bool) (o : Option Role) → cond (not v) o None ≡ cond v None o
       turned true o = refl

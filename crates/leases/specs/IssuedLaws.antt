@@ -143,7 +143,8 @@ longest_bound r = min-le_right _ longest_ttl
 
 -- nor longer than a role with a longest time says
 role_bound : (n : ℕ) → n ≢ 0 → min (or_if_zero n longest_ttl) longest_ttl ≤ n
-role_bound n not_zero = subst (λ b. min (if b then longest_ttl else n) longest_ttl ≤ n) (sym is_none) (min-le_left n longest_ttl)
+role_bound n not_zero = subst (λ b. min (if b then longest_ttl else n) longest_ttl ≤ n) (sym is_none)
+    (min-le_left n longest_ttl)
   where
     is_none : (n == 0) ≡ false
     is_none = grind (arith, nat_tests)

@@ -1,12 +1,14 @@
 -- Where a text is cut.
-use Rattle.std.specs.Prelude.{◌≡◌, ◌<◌, ◌+◌, ℕ, suc, [], ◌∷◌, length, take, drop, true, false, not, cond, ◌==◌, Option, Some, None}
+use Rattle.std.specs.Prelude.{◌≡◌, ◌<◌, ◌+◌, ℕ, suc, [], ◌∷◌, length, take, drop, true, false, not, cond, ◌==◌, Option}
+use Rattle.std.specs.Prelude.{Some, None}
 use Rattle.std.specs.List.{position_or_len, prefix_len, before_first, after_first}
 use Rattle.std.proofs.Common.{refl, sym, ◌∙◌, ap, arith, Bor}
 use Rattle.std.proofs.lemmas.Str.Pattern.{IsSplitOnceResult, split_once_first}
 use Rattle.broker_types.specs.Text.{Text}
 use Rattle.records.specs.Splits.{split_once, split_step}
 
-found_later : (c x : ℕ) (s : Text) → (x == c) ≡ false → position_or_len (λ b. b == c) (x ∷ s) ≡ suc (position_or_len (λ b. b == c) s)
+found_later : (c x : ℕ) (s : Text) → (x == c) ≡ false
+    → position_or_len (λ b. b == c) (x ∷ s) ≡ suc (position_or_len (λ b. b == c) s)
 found_later c x s h = ap (λ b. cond (not b) (1 + prefix_len (λ x'. not (x' == c)) s) 0) h ∙ omega arith
 
 found_here : (c x : ℕ) (s : Text) → (x == c) ≡ true → position_or_len (λ b. b == c) (x ∷ s) ≡ 0
@@ -17,7 +19,8 @@ split_none c [] h = refl
 split_none c (x ∷ s) h =
     elim (x == c) as (λ b. (x == c) ≡ b → split_step b x s (split_once c s) ≡ None) [
       | true ↦ λ is. let e = found_here c x s is in absurd (omega (arith, e, h))
-      | false ↦ λ is. let e = found_later c x s is in let k : position_or_len (λ b. b == c) s ≡ length s = omega (arith, e, h) in ap (split_step false x s)
+      | false ↦ λ is. let e = found_later c x s is in let k : position_or_len (λ b. b == c) s ≡ length s =
+          omega (arith, e, h) in ap (split_step false x s)
           (split_none c s k)
     ] refl
 
@@ -43,7 +46,8 @@ split_some c (x ∷ s) h =
     ] refl
 
 -- what `split_once` of the code answers is what `split_once` of the definition does
-module _ (c : ℕ) (small : c < 128) (path : Text) (r : Option (Bor Text × Bor Text)) (split : IsSplitOnceResult c path r) where
+module _ (c : ℕ) (small : c < 128) (path : Text) (r : Option (Bor Text × Bor Text))
+    (split : IsSplitOnceResult c path r) where
   pub cut_none : r ≡ None → split_once c path ≡ None
   cut_none is = split_none c path (rw is at (split_once_first c path r split small))
 

@@ -8,7 +8,8 @@ use Rattle.broker_types.specs.Text.{Text}
 use Rattle.records.specs.SplitLaws.{eqb_self}
 use Rattle.records.specs.Splits.{slash, lacks}
 use Rattle.mounts.specs.Forms.{Ending, nothing, segment, segments}
-use Rattle.mounts.proofs.FormSearch.{fits_form, is_nothing, is_segment, is_segments, FormOf, Has, after, keys_at, first_of_keys, segment_key, search}
+use Rattle.mounts.proofs.FormSearch.{fits_form, is_nothing, is_segment, is_segments, FormOf, Has, after, keys_at}
+use Rattle.mounts.proofs.FormSearch.{first_of_keys, segment_key, search}
 use Rattle.mounts.proofs.FormSearch.{after_has, after_was, Ends, ends_is, ends_none, fits_cons, cons_fits, slash_or_not}
 
 -- the key is that of a form that the path has, and no such form has a longer text
@@ -31,7 +32,8 @@ nothing_at nothing h = refl
 nothing_at segment h = absurd (false≢true h)
 nothing_at segments h = absurd (false≢true h)
 
-at_segment : (b : ℕ) (path : Text) (g : Ending) → has_slash (b ∷ path) ≡ false → is_segment g ≡ true → fits_form [] g (b ∷ path) ≡ true
+at_segment : (b : ℕ) (path : Text) (g : Ending) → has_slash (b ∷ path) ≡ false → is_segment g ≡ true
+    → fits_form [] g (b ∷ path) ≡ true
 at_segment b path nothing none h = absurd (false≢true h)
 at_segment b path segment none h = lacking (lacks slash (b ∷ path)) (sym (slash_or_not (b ∷ path)) ∙ none)
   where
@@ -52,7 +54,8 @@ module _ {K : Type 0} where
   nothing_of (Some k) p h = absurd (none-some k (sym h))
 
   -- if the search finds none, the path has none of the forms
-  pub found_none : (es : List (FormOf K)) (path : Text) → search es path ≡ None → (l : Text) (g : Ending) (k : K) → Has l g k es
+  pub found_none : (es : List (FormOf K)) (path : Text) → search es path ≡ None → (l : Text) (g : Ending) (k : K)
+      → Has l g k es
       → fits_form l g path ≡ true → ⊥
   found_none es [] h [] g k has form = ends_none is_nothing es g k has (nothing_at g form) h
   found_none es [] h (x ∷ l) g k has form = false≢true form
@@ -64,13 +67,16 @@ module _ {K : Type 0} where
       let none : has_slash (b ∷ path) ≡ false = slash_or_not (b ∷ path) ∙ not_from_true _ form in
       ends_none is_segment es segment k has refl
       (sym (ap (λ v. segment_key v (keys_at is_segment es)) none)
-      ∙ (nothing_of (segment_key (has_slash (b ∷ path)) (keys_at is_segment es)) _ (nothing_of (search (after b es) path) _ h).1).0)
+      ∙ (nothing_of (segment_key (has_slash (b ∷ path)) (keys_at is_segment es)) _
+      (nothing_of (search (after b es) path) _ h).1).0)
   found_none es (b ∷ path) h [] segments k has form =
       ends_none is_segments es segments k has refl
-      (nothing_of (segment_key (has_slash (b ∷ path)) (keys_at is_segment es)) _ (nothing_of (search (after b es) path) _ h).1).1
+      (nothing_of (segment_key (has_slash (b ∷ path)) (keys_at is_segment es)) _
+      (nothing_of (search (after b es) path) _ h).1).1
 
   -- an empty text, where no form goes on with the path's first byte
-  shortest : (es : List (FormOf K)) (b : ℕ) (path : Text) (k : K) (g : Ending) → search (after b es) path ≡ None → Has [] g k es
+  shortest : (es : List (FormOf K)) (b : ℕ) (path : Text) (k : K) (g : Ending) → search (after b es) path ≡ None
+      → Has [] g k es
       → fits_form [] g (b ∷ path) ≡ true → Found es (b ∷ path) k
   shortest es b path k g none has form = record { literal = []; ending = g; has = has; form = form; longest = longest }
     where
@@ -91,7 +97,8 @@ module _ {K : Type 0} where
       longest (x ∷ l) g j has is = absurd (false≢true is)
   found_is es (b ∷ path) k h =
       elim (search (after b es) path) as (λ o. search (after b es) path ≡ o
-      → or_else o (or_else (segment_key (has_slash (b ∷ path)) (keys_at is_segment es)) (first_of_keys (keys_at is_segments es))) ≡ Some k
+      → or_else o (or_else (segment_key (has_slash (b ∷ path)) (keys_at is_segment es))
+      (first_of_keys (keys_at is_segments es))) ≡ Some k
       → Found es (b ∷ path) k) [
         | Some j ↦ λ is e. goes_on (found_is (after b es) path k (is ∙ e))
         | None ↦ λ none e. ends none e
@@ -107,7 +114,8 @@ module _ {K : Type 0} where
             longest = longest;
           }
         where
-          longest : (l : Text) (g : Ending) (j : K) → Has l g j es → fits_form l g (b ∷ path) ≡ true → length l ≤ length (b ∷ r.literal)
+          longest : (l : Text) (g : Ending) (j : K) → Has l g j es → fits_form l g (b ∷ path) ≡ true
+              → length l ≤ length (b ∷ r.literal)
           longest [] g j has is = zero-le
           longest (x ∷ l) g j has is =
               let parts = fits_cons x b l g path is in
@@ -117,11 +125,13 @@ module _ {K : Type 0} where
       any none r = shortest es b path k r.ending none r.has (at_segments b path r.ending r.passes)
 
       ends : search (after b es) path ≡ None
-          → or_else (segment_key (has_slash (b ∷ path)) (keys_at is_segment es)) (first_of_keys (keys_at is_segments es)) ≡ Some k
+          → or_else (segment_key (has_slash (b ∷ path)) (keys_at is_segment es))
+          (first_of_keys (keys_at is_segments es)) ≡ Some k
           → Found es (b ∷ path) k
       ends none e =
           elim (has_slash (b ∷ path)) as (λ v. has_slash (b ∷ path) ≡ v
-          → or_else (segment_key v (keys_at is_segment es)) (first_of_keys (keys_at is_segments es)) ≡ Some k → Found es (b ∷ path) k) [
+          → or_else (segment_key v (keys_at is_segment es)) (first_of_keys (keys_at is_segments es)) ≡ Some k
+          → Found es (b ∷ path) k) [
             | true ↦ λ _ z. any none (ends_is is_segments es k z)
             | false ↦ λ lacking z.
                 elim (first_of_keys (keys_at is_segment es)) as (λ o. first_of_keys (keys_at is_segment es) ≡ o

@@ -8,7 +8,8 @@ use Rattle.matchit.specs.Seek.{first}
 use Rattle.broker_types.specs.OptionLaws.{mapped, mapped_none}
 use Rattle.broker_types.specs.Text.{Text, same}
 use Rattle.broker_types.specs.TextLaws.{same_true}
-use Rattle.mounts.specs.Forms.{Ending, nothing, segment, segments, Form, form_of, has_form, is_ending, is_literal, are_bytes}
+use Rattle.mounts.specs.Forms.{Ending, nothing, segment, segments, Form, form_of, has_form, is_ending, is_literal}
+use Rattle.mounts.specs.Forms.{are_bytes}
 use Rattle.mounts.specs.Laws.{IsForm}
 use Rattle.mounts.specs.Patterns.{Router, router_of, pattern_found, fits, is_in_order, has_pattern}
 use Rattle.mounts.specs.RouteRow.{RouteRow}
@@ -37,12 +38,14 @@ literal_by segment (b ∷ rest) h = refl
 literal_by segments [] h = absurd (false≢true h)
 literal_by segments (b ∷ rest) h = refl
 
-alike : (f g : Form) (path : Text) → has_form f path ≡ true → has_form g path ≡ true → length f.literal ≡ length g.literal → AreAlike f g
+alike : (f g : Form) (path : Text) → has_form f path ≡ true → has_form g path ≡ true
+    → length f.literal ≡ length g.literal → AreAlike f g
 alike f g path is_f is_g long =
     let of_f = and_parts _ _ is_f in
     let of_g = and_parts _ _ is_g in
     record {
-      literal = begun_by f.literal path of_f.0 ∙ ap (λ (n : ℕ). take n path) long ∙ sym (begun_by g.literal path of_g.0);
+      literal = begun_by f.literal path of_f.0 ∙ ap (λ (n : ℕ). take n path) long
+          ∙ sym (begun_by g.literal path of_g.0);
       ending =
           literal_by f.ending (drop (length f.literal) path) of_f.1 ∙ ap (λ (n : ℕ). is_empty (drop n path)) long
           ∙ sym (literal_by g.ending (drop (length g.literal) path) of_g.1);
@@ -50,7 +53,8 @@ alike f g path is_f is_g long =
 
 -- ---- the pattern that a path finds
 
-module _ (table : List RouteRow) (path : Text) (ordered : is_in_order table ≡ true) (bytes : are_bytes path ≡ true) where
+module _ (table : List RouteRow) (path : Text) (ordered : is_in_order table ≡ true)
+    (bytes : are_bytes path ≡ true) where
   router_is : IsLast table [] (router_of table)
   unfolding router_of
   router_is =
@@ -60,7 +64,8 @@ module _ (table : List RouteRow) (path : Text) (ordered : is_in_order table ≡ 
   unfolding router_of fits
   apart =
       let tests = and_parts (fits table) _ ordered in
-      last_apart None table [] (and_parts _ _ tests.1).0 tests.0 tt (λ q is. absurd (none-some q is)) (λ p q none _ _. absurd none)
+      last_apart None table [] (and_parts _ _ tests.1).0 tests.0 tt (λ q is. absurd (none-some q is))
+      (λ p q none _ _. absurd none)
 
   searched : first (router_of table) path ≡ search (forms_of (router_of table)) path
   searched =
@@ -85,14 +90,18 @@ module _ (table : List RouteRow) (path : Text) (ordered : is_in_order table ≡ 
         longest = λ other listed form.
             let there = is_has (router_of table) other (router_is.listed other listed) in
             let least = found.longest (form_of other).literal (form_of other).ending there.0 there.1 form in
-            subst (λ (n : ℕ). length (form_of other).literal ≤ n) (ap length of.literal ∙ ap (λ q. length (form_of q).literal) (sym key.2)) least;
+            subst (λ (n : ℕ). length (form_of other).literal ≤ n)
+            (ap length of.literal ∙ ap (λ q. length (form_of q).literal) (sym key.2)) least;
         only = λ other has is long.
-            apart other p (router_is.listed other has) (router_is.listed p listed) (alike (form_of other) (form_of p) path is form long);
+            apart other p (router_is.listed other has) (router_is.listed p listed)
+            (alike (form_of other) (form_of p) path is form long);
       }
 
-  pub none_by_form : (p : Text) → pattern_found table path ≡ None → has_pattern table p ≡ true → has_form (form_of p) path ≡ false
+  pub none_by_form : (p : Text) → pattern_found table path ≡ None → has_pattern table p ≡ true
+      → has_form (form_of p) path ≡ false
   none_by_form p h listed =
       let none = mapped_none (λ (r : Keys). r.value) (first (router_of table) path) h in
       let there = is_has (router_of table) p (router_is.listed p listed) in
       false_from_ne_true (has_form (form_of p) path)
-      (λ form. found_none (forms_of (router_of table)) path (sym searched ∙ none) (form_of p).literal (form_of p).ending there.0 there.1 form)
+      (λ form. found_none (forms_of (router_of table)) path (sym searched ∙ none) (form_of p).literal
+      (form_of p).ending there.0 there.1 form)

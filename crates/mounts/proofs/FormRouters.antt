@@ -1,5 +1,6 @@
 -- The router of rows has the tokens of their patterns' forms, and no others.
-use Rattle.std.specs.Prelude.{◌≡◌, ◌⊎◌, ℕ, List, [], ◌∷◌, true, false, cond, Option, Some, None, Result, Ok, Err, if◌then◌else◌}
+use Rattle.std.specs.Prelude.{◌≡◌, ◌⊎◌, ℕ, List, [], ◌∷◌, true, false, cond, Option, Some, None, Result, Ok, Err}
+use Rattle.std.specs.Prelude.{if◌then◌else◌}
 use Rattle.std.specs.List.{list_all}
 use Rattle.std.proofs.Common.{refl, sym, ◌∙◌, ap, subst, inl, inr}
 use Rattle.std.proofs.lemmas.Bool.{and_parts, and_from, false≢true, or_left, or_right, or_cases}
@@ -12,7 +13,8 @@ use Rattle.matchit.specs.declared.error.InsertError.{InsertError}
 use Rattle.broker_types.specs.Text.{Text, same}
 use Rattle.broker_types.specs.TextLaws.{same_self, same_true}
 use Rattle.mounts.specs.Forms.{Ending, form_of, are_bytes}
-use Rattle.mounts.specs.Patterns.{Router, with_next, placed_as, is_again, router_behind, tokens, is_read_as, reads_as_form}
+use Rattle.mounts.specs.Patterns.{Router, with_next, placed_as, is_again, router_behind, tokens, is_read_as}
+use Rattle.mounts.specs.Patterns.{reads_as_form}
 use Rattle.mounts.specs.Patterns.{has_pattern}
 use Rattle.mounts.specs.RouteRow.{RouteRow}
 use Rattle.mounts.proofs.FormSearch.{FormOf, Has}
@@ -63,9 +65,11 @@ has_is (e ∷ es) l g k (inl is) =
       ending = (λ i. (is i).1) ∙ ap (λ (z : Keys). (form_of z.value).ending) (sym key);
       has = inl (ap (λ (z : Keys). z.value) (sym key));
     }
-has_is (e ∷ es) l g k (inr later) = let r = has_is es l g k later in record { literal = r.literal; ending = r.ending; has = inr r.has }
+has_is (e ∷ es) l g k (inr later) = let r = has_is es l g k later in
+    record { literal = r.literal; ending = r.ending; has = inr r.has }
 
-pub is_has : (router : Router) (p : Text) → HasPattern p router → (k : Keys) × Has (form_of p).literal (form_of p).ending k (forms_of router)
+pub is_has : (router : Router) (p : Text) → HasPattern p router → (k : Keys)
+    × Has (form_of p).literal (form_of p).ending k (forms_of router)
 is_has [] p has = absurd has
 is_has (e ∷ es) p (inl is) = (e.1, inl (ap (λ (q : Text). ((form_of q).literal, (form_of q).ending, e.1)) (sym is)))
 is_has (e ∷ es) p (inr later) = let r = is_has es p later in (r.0, inr r.1)
@@ -97,14 +101,17 @@ module _ (t : List ℕ) (k : Keys) where
         | false ↦ kept (placed_keeps es p) has
       ]
     where
-      kept : (HasPattern p es → HasPattern p (placed (t, k) es)) → HasPattern p (e ∷ es) → HasPattern p (e ∷ placed (t, k) es)
+      kept : (HasPattern p es → HasPattern p (placed (t, k) es)) → HasPattern p (e ∷ es)
+          → HasPattern p (e ∷ placed (t, k) es)
       kept deeper (inl is) = inl is
       kept deeper (inr later) = inr (deeper later)
 
-  pub placed_from : (router : Router) (p : Text) → HasPattern p (placed (t, k) router) → (k.value ≡ p) ⊎ HasPattern p router
+  pub placed_from : (router : Router) (p : Text) → HasPattern p (placed (t, k) router) → (k.value ≡ p)
+      ⊎ HasPattern p router
   placed_from [] p has = has
   placed_from (e ∷ es) p has =
-      elim (comes_before t e.0) as (λ v. HasPattern p (cond v ((t, k) ∷ e ∷ es) (e ∷ placed (t, k) es)) → (k.value ≡ p) ⊎ HasPattern p (e ∷ es)) [
+      elim (comes_before t e.0) as (λ v. HasPattern p (cond v ((t, k) ∷ e ∷ es) (e ∷ placed (t, k) es)) → (k.value ≡ p)
+      ⊎ HasPattern p (e ∷ es)) [
         | true ↦ λ h. h
         | false ↦ λ h. later (placed_from es p) h
       ] has
@@ -130,12 +137,14 @@ pub record IsNext (p : Text) (router next : Router) : Type 0 where
 abbrev pub IsBefore : Option Text → Router → Type 0
 IsBefore before router = (q : Text) → before ≡ Some q → HasPattern q router
 
-next_placed : (p : Text) (router : Router) (r : Result Scan InsertError) → are_bytes (form_of p).literal ≡ true → is_read_as (tokens (form_of p)) r ≡ true
+next_placed : (p : Text) (router : Router) (r : Result Scan InsertError) → are_bytes (form_of p).literal ≡ true
+    → is_read_as (tokens (form_of p)) r ≡ true
     → AreRoutes router → IsNext p router (placed_as r p router)
 next_placed p router (Err e) bytes read are = absurd (false≢true read)
 next_placed p router (Ok s) bytes read are =
     let k : Keys = route_from s p in
-    let new : IsRoute s.pattern k = record { tokens_are = same_true s.pattern (tokens (form_of p)) read; bytes = bytes } in
+    let new : IsRoute s.pattern k =
+    record { tokens_are = same_true s.pattern (tokens (form_of p)) read; bytes = bytes } in
     record {
       are = placed_routes s.pattern k router new are;
       here = placed_here s.pattern k router;
@@ -143,13 +152,20 @@ next_placed p router (Ok s) bytes read are =
       from = λ q has. placed_from s.pattern k router q has;
     }
 
-pub next_is : (before : Option Text) (p : Text) (router : Router) → reads_as_form p ≡ true → AreRoutes router → IsBefore before router
+pub next_is : (before : Option Text) (p : Text) (router : Router) → reads_as_form p ≡ true → AreRoutes router
+    → IsBefore before router
     → IsNext p router (with_next before p router)
 next_is before p router reads are known =
     let parts = and_parts _ _ reads in
-    elim (is_again before p) as (λ v. is_again before p ≡ v → IsNext p router (if v then router else placed_as (parse_route p) p router)) [
+    elim (is_again before p) as (λ v. is_again before p ≡ v
+    → IsNext p router (if v then router else placed_as (parse_route p) p router)) [
       | false ↦ λ _. next_placed p router (parse_route p) parts.0 parts.1 are
-      | true ↦ λ again. record { are = are; here = again_here before known again; keeps = λ q has. has; from = λ q has. inr has }
+      | true ↦ λ again. record {
+        are = are;
+        here = again_here before known again;
+        keeps = λ q has. has;
+        from = λ q has. inr has;
+      }
     ] refl
   where
     again_here : (o : Option Text) → IsBefore o router → is_again o p ≡ true → HasPattern p router
@@ -163,7 +179,8 @@ pub record IsLast (table : List RouteRow) (router last : Router) : Type 0 where
   pub keeps : (p : Text) → HasPattern p router → HasPattern p last
   pub from : (p : Text) → HasPattern p last → (has_pattern table p ≡ true) ⊎ HasPattern p router
 
-pub last_is : (before : Option Text) (table : List RouteRow) (router : Router) → list_all (λ (r : RouteRow). reads_as_form r.pattern) table ≡ true → AreRoutes router
+pub last_is : (before : Option Text) (table : List RouteRow) (router : Router)
+    → list_all (λ (r : RouteRow). reads_as_form r.pattern) table ≡ true → AreRoutes router
     → IsBefore before router → IsLast table router (router_behind before table router)
 unfolding router_behind
 last_is before [] router reads are known =
@@ -176,14 +193,16 @@ last_is before (r ∷ table) router reads are known =
     record {
       are = last.are;
       listed = λ p h. elim (or_cases (same r.pattern p) (has_pattern table p) h) [
-        | inl is ↦ last.keeps p (subst (λ q. HasPattern q (with_next before r.pattern router)) (same_true r.pattern p is) next.here)
+        | inl is ↦ last.keeps p
+            (subst (λ q. HasPattern q (with_next before r.pattern router)) (same_true r.pattern p is) next.here)
         | inr later ↦ last.listed p later
       ];
       keeps = λ p has. last.keeps p (next.keeps p has);
       from = λ p has. elim (last.from p has) [
         | inl later ↦ inl (or_right (same r.pattern p) (has_pattern table p) later)
         | inr here ↦ elim (next.from p here) [
-          | inl is ↦ inl (or_left (same r.pattern p) (has_pattern table p) (ap (same r.pattern) (sym is) ∙ same_self r.pattern))
+          | inl is ↦ inl (or_left (same r.pattern p) (has_pattern table p)
+              (ap (same r.pattern) (sym is) ∙ same_self r.pattern))
           | inr old ↦ inr old
         ]
       ];

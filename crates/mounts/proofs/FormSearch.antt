@@ -81,18 +81,22 @@ module _ {K : Type 0} where
 
   -- ---- the forms that begin with a byte
 
-  more : (o : Option Text) (l : Text) (g h : Ending) (k j : K) (es : List (FormOf K)) → Has l g k es → Has l g k (go_on o h j es)
+  more : (o : Option Text) (l : Text) (g h : Ending) (k j : K) (es : List (FormOf K)) → Has l g k es
+      → Has l g k (go_on o h j es)
   more None l g h k j es has = has
   more (Some m) l g h k j es has = inr has
 
-  pub after_has : (b x : ℕ) (l : Text) (g : Ending) (k : K) (es : List (FormOf K)) → (x == b) ≡ true → Has (x ∷ l) g k es → Has l g k (after b es)
+  pub after_has : (b x : ℕ) (l : Text) (g : Ending) (k : K) (es : List (FormOf K)) → (x == b) ≡ true
+      → Has (x ∷ l) g k es → Has l g k (after b es)
   after_has b x l g k [] at has = absurd has
   after_has b x l g k (e ∷ es) at (inl is) =
       subst (λ (z : FormOf K). Has l g k (go_on (behind b z.0) z.1 z.2 (after b es))) is
       (subst (λ v. Has l g k (go_on (cond v (Some l) None) g k (after b es))) (sym at) (inl refl))
-  after_has b x l g k (e ∷ es) at (inr later) = more (behind b e.0) l g e.1 k e.2 (after b es) (after_has b x l g k es at later)
+  after_has b x l g k (e ∷ es) at (inr later) =
+      more (behind b e.0) l g e.1 k e.2 (after b es) (after_has b x l g k es at later)
 
-  one_after : (b : ℕ) (l m : Text) (g h : Ending) (k j : K) (es : List (FormOf K)) → Has l g k (go_on (behind b m) h j es)
+  one_after : (b : ℕ) (l m : Text) (g h : Ending) (k j : K) (es : List (FormOf K))
+      → Has l g k (go_on (behind b m) h j es)
       → (◌≡◌ {A = FormOf K} (b ∷ l, g, k) (m, h, j)) ⊎ Has l g k es
   one_after b l [] g h k j es has = inr has
   one_after b l (y ∷ m) g h k j es has =
@@ -102,11 +106,13 @@ module _ {K : Type 0} where
         | true ↦ λ at. here at
       ] refl has
     where
-      here : (y == b) ≡ true → Has l g k ((m, h, j) ∷ es) → (◌≡◌ {A = FormOf K} (b ∷ l, g, k) (y ∷ m, h, j)) ⊎ Has l g k es
+      here : (y == b) ≡ true → Has l g k ((m, h, j) ∷ es) → (◌≡◌ {A = FormOf K} (b ∷ l, g, k) (y ∷ m, h, j))
+          ⊎ Has l g k es
       here at (inr later) = inr later
       here at (inl is) = inl (λ i. (sym (eqb-true y b at) i ∷ (is i).0, (is i).1, (is i).2))
 
-  pub after_was : (b : ℕ) (l : Text) (g : Ending) (k : K) (es : List (FormOf K)) → Has l g k (after b es) → Has (b ∷ l) g k es
+  pub after_was : (b : ℕ) (l : Text) (g : Ending) (k : K) (es : List (FormOf K)) → Has l g k (after b es)
+      → Has (b ∷ l) g k es
   after_was b l g k [] has = absurd has
   after_was b l g k (e ∷ es) has = elim (one_after b l e.0 g e.1 k e.2 (after b es) has) [
     | inl is ↦ inl is
@@ -127,12 +133,14 @@ module _ {K : Type 0} where
       let r = later e in
       record { ending = r.ending; passes = r.passes; has = inr r.has }
   ends_one test es k [] g j later e =
-      elim (test g) as (λ v. test g ≡ v → first_of_keys (with_key v j (keys_at test es)) ≡ Some k → Ends test (([], g, j) ∷ es) k) [
+      elim (test g) as (λ v. test g ≡ v → first_of_keys (with_key v j (keys_at test es)) ≡ Some k
+      → Ends test (([], g, j) ∷ es) k) [
         | false ↦ λ _ z. let r = later z in record { ending = r.ending; passes = r.passes; has = inr r.has }
         | true ↦ λ passes z. record { ending = g; passes = passes; has = inl (λ i. ([], g, sym (same_Some j k z) i)) }
       ] refl e
 
-  pub ends_is : (test : Ending → Bool) (es : List (FormOf K)) (k : K) → first_of_keys (keys_at test es) ≡ Some k → Ends test es k
+  pub ends_is : (test : Ending → Bool) (es : List (FormOf K)) (k : K) → first_of_keys (keys_at test es) ≡ Some k
+      → Ends test es k
   ends_is test [] k h = absurd (none-some _ h)
   ends_is test (e ∷ es) k h = ends_one test es k e.0 e.1 e.2 (ends_is test es k) h
 
@@ -145,19 +153,22 @@ module _ {K : Type 0} where
       ∙ ap (λ (z : FormOf K). first_of_keys (with_key (is_end test z.0 z.1) z.2 (keys_at test es))) is ∙ h))
   ends_none test (e ∷ es) g k (inr later) passes h = ends_none test es g k later passes (gone (is_end test e.0 e.1) h)
     where
-      gone : (v : Bool) → first_of_keys (with_key v e.2 (keys_at test es)) ≡ None → first_of_keys (keys_at test es) ≡ None
+      gone : (v : Bool) → first_of_keys (with_key v e.2 (keys_at test es)) ≡ None
+          → first_of_keys (keys_at test es) ≡ None
       gone true z = absurd (none-some _ (sym z))
       gone false z = z
 
 -- ---- what forms fit
 
-pub fits_cons : (x b : ℕ) (l : Text) (g : Ending) (path : Text) → fits_form (x ∷ l) g (b ∷ path) ≡ true → ((x == b) ≡ true) × (fits_form l g path ≡ true)
+pub fits_cons : (x b : ℕ) (l : Text) (g : Ending) (path : Text) → fits_form (x ∷ l) g (b ∷ path) ≡ true
+    → ((x == b) ≡ true) × (fits_form l g path ≡ true)
 fits_cons x b l g path h =
     let outer = and_parts _ _ h in
     let inner = and_parts _ _ outer.0 in
     (inner.0, and_from _ _ inner.1 outer.1)
 
-pub cons_fits : (b : ℕ) (l : Text) (g : Ending) (path : Text) → (b == b) ≡ true → fits_form l g path ≡ true → fits_form (b ∷ l) g (b ∷ path) ≡ true
+pub cons_fits : (b : ℕ) (l : Text) (g : Ending) (path : Text) → (b == b) ≡ true → fits_form l g path ≡ true
+    → fits_form (b ∷ l) g (b ∷ path) ≡ true
 cons_fits b l g path at h =
     let parts = and_parts _ _ h in
     and_from _ _ (and_from _ _ at parts.0) parts.1

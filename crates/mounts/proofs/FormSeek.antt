@@ -1,5 +1,6 @@
 -- The search of `matchit` among the tokens of forms is a search among the forms.
-use Rattle.std.specs.Prelude.{◌≡◌, ◌-◌, ◌==◌, ◌&&◌, ℕ, zero, suc, List, [], ◌∷◌, ◌++◌, length, Bool, true, false, cond, nat_lt, Some, None}
+use Rattle.std.specs.Prelude.{◌≡◌, ◌-◌, ◌==◌, ◌&&◌, ℕ, zero, suc, List, [], ◌∷◌, ◌++◌, length, Bool, true, false, cond}
+use Rattle.std.specs.Prelude.{nat_lt, Some, None}
 use Rattle.std.proofs.Common.{refl, sym, ◌∙◌, ap, arith}
 use Rattle.std.proofs.lemmas.Bool.{and_parts, and_from, false_from_ne_true, false≢true, eqb-true}
 use Rattle.matchit.specs.Rows.{RowsOf, param_token, catch_all_token}
@@ -7,7 +8,8 @@ use Rattle.matchit.specs.Seek.{own, step, or_else, seek, param_step, has_slash, 
 use Rattle.broker_types.specs.Text.{Text}
 use Rattle.mounts.specs.Forms.{Ending, nothing, segment as one_segment, segments, are_bytes}
 use Rattle.mounts.specs.Patterns.{ending_tokens}
-use Rattle.mounts.proofs.FormSearch.{is_nothing, is_segment, is_segments, behind, FormOf, go_on, after, with_key, is_end, keys_at, first_of_keys}
+use Rattle.mounts.proofs.FormSearch.{is_nothing, is_segment, is_segments, behind, FormOf, go_on, after, with_key}
+use Rattle.mounts.proofs.FormSearch.{is_end, keys_at, first_of_keys}
 use Rattle.mounts.proofs.FormSearch.{segment_key, search}
 
 -- a byte is neither of the two tokens of parameters
@@ -37,13 +39,17 @@ module _ {K : Type 0} where
 
   -- ---- one step
 
-  step_one : (b : ℕ) → nat_lt b 256 ≡ true → (l : Text) (g : Ending) (k : K) (rest : RowsOf K) (es : List (FormOf K)) → step b rest ≡ rows es
+  step_one : (b : ℕ) → nat_lt b 256 ≡ true → (l : Text) (g : Ending) (k : K) (rest : RowsOf K) (es : List (FormOf K))
+      → step b rest ≡ rows es
       → step b ((l ++ ending_tokens g, k) ∷ rest) ≡ rows (go_on (behind b l) g k es)
   step_one b small [] nothing k rest es h = h
-  step_one b small [] one_segment k rest es h = ap (λ v. cond v (([], k) ∷ step b rest) (step b rest)) (apart b param_token small refl) ∙ h
-  step_one b small [] segments k rest es h = ap (λ v. cond v (([], k) ∷ step b rest) (step b rest)) (apart b catch_all_token small refl) ∙ h
+  step_one b small [] one_segment k rest es h =
+      ap (λ v. cond v (([], k) ∷ step b rest) (step b rest)) (apart b param_token small refl) ∙ h
+  step_one b small [] segments k rest es h =
+      ap (λ v. cond v (([], k) ∷ step b rest) (step b rest)) (apart b catch_all_token small refl) ∙ h
   step_one b small (x ∷ l) g k rest es h =
-      elim (x == b) as (λ v. cond v ((l ++ ending_tokens g, k) ∷ step b rest) (step b rest) ≡ rows (go_on (cond v (Some l) None) g k es)) [
+      elim (x == b) as (λ v. cond v ((l ++ ending_tokens g, k) ∷ step b rest) (step b rest)
+      ≡ rows (go_on (cond v (Some l) None) g k es)) [
         | true ↦ ap (λ rs. (l ++ ending_tokens g, k) ∷ rs) h
         | false ↦ h
       ]
@@ -58,7 +64,8 @@ module _ {K : Type 0} where
       let parts = and_parts _ _ h in
       one e.0 e.1 e.2 (after b es) parts.0 (bytes_after b es parts.1)
     where
-      one : (l : Text) (g : Ending) (k : K) (fs : List (FormOf K)) → are_bytes l ≡ true → all_bytes fs ≡ true → all_bytes (go_on (behind b l) g k fs) ≡ true
+      one : (l : Text) (g : Ending) (k : K) (fs : List (FormOf K)) → are_bytes l ≡ true → all_bytes fs ≡ true
+          → all_bytes (go_on (behind b l) g k fs) ≡ true
       one [] g k fs good more = more
       one (x ∷ l) g k fs good more =
           elim (x == b) as (λ v. all_bytes (go_on (cond v (Some l) None) g k fs) ≡ true) [
@@ -84,13 +91,15 @@ module _ {K : Type 0} where
   own_bare (k ∷ ks) = refl
 
   -- the rows of a token of parameters
-  segment_rows : (es : List (FormOf K)) → all_bytes es ≡ true → step param_token (rows es) ≡ bare (keys_at is_segment es)
+  segment_rows : (es : List (FormOf K)) → all_bytes es ≡ true
+      → step param_token (rows es) ≡ bare (keys_at is_segment es)
   segment_rows [] h = refl
   segment_rows (e ∷ es) h =
       let parts = and_parts _ _ h in
       one e.0 e.1 e.2 (rows es) (keys_at is_segment es) parts.0 (segment_rows es parts.1)
     where
-      one : (l : Text) (g : Ending) (k : K) (rest : RowsOf K) (ks : List K) → are_bytes l ≡ true → step param_token rest ≡ bare ks
+      one : (l : Text) (g : Ending) (k : K) (rest : RowsOf K) (ks : List K) → are_bytes l ≡ true
+          → step param_token rest ≡ bare ks
           → step param_token ((l ++ ending_tokens g, k) ∷ rest) ≡ bare (with_key (is_end is_segment l g) k ks)
       one [] nothing k rest ks good z = z
       one [] one_segment k rest ks good z = ap (λ rs. ([], k) ∷ rs) z
@@ -99,13 +108,15 @@ module _ {K : Type 0} where
           ap (λ v. cond v ((l ++ ending_tokens g, k) ∷ step param_token rest) (step param_token rest))
           (apart_back x param_token (and_parts _ _ good).0 refl) ∙ z
 
-  segments_rows : (es : List (FormOf K)) → all_bytes es ≡ true → step catch_all_token (rows es) ≡ bare (keys_at is_segments es)
+  segments_rows : (es : List (FormOf K)) → all_bytes es ≡ true
+      → step catch_all_token (rows es) ≡ bare (keys_at is_segments es)
   segments_rows [] h = refl
   segments_rows (e ∷ es) h =
       let parts = and_parts _ _ h in
       one e.0 e.1 e.2 (rows es) (keys_at is_segments es) parts.0 (segments_rows es parts.1)
     where
-      one : (l : Text) (g : Ending) (k : K) (rest : RowsOf K) (ks : List K) → are_bytes l ≡ true → step catch_all_token rest ≡ bare ks
+      one : (l : Text) (g : Ending) (k : K) (rest : RowsOf K) (ks : List K) → are_bytes l ≡ true
+          → step catch_all_token rest ≡ bare ks
           → step catch_all_token ((l ++ ending_tokens g, k) ∷ rest) ≡ bare (with_key (is_end is_segments l g) k ks)
       one [] nothing k rest ks good z = z
       one [] one_segment k rest ks good z = z
@@ -132,23 +143,27 @@ module _ {K : Type 0} where
   unfolding seek
   seek_none k [] = refl
   seek_none (suc k) (b ∷ p) = seek_none k p
-  seek_none zero (b ∷ p) = simp (seek_none 0 p, param_step_none (b ∷ p), seek_none (((param_step {K = K} [] (b ∷ p)).0) - 1) p)
+  seek_none zero (b ∷ p) =
+      simp (seek_none 0 p, param_step_none (b ∷ p), seek_none (((param_step {K = K} [] (b ∷ p)).0) - 1) p)
 
   seek_all : (rs : RowsOf K) (p : List ℕ) → seek (length p) rs p ≡ own rs
   unfolding seek
   seek_all rs [] = refl
   seek_all rs (b ∷ p) = seek_all rs p
 
-  param_step_bare : (ks : List K) (p : List ℕ) → param_step (bare ks) p ≡ cond {A = ℕ × RowsOf K} (has_slash p) (0, []) (length p, bare ks)
+  param_step_bare : (ks : List K) (p : List ℕ)
+      → param_step (bare ks) p ≡ cond {A = ℕ × RowsOf K} (has_slash p) (0, []) (length p, bare ks)
   unfolding param_step
   param_step_bare ks p = rw (no_suffix (segment p) ks) refl
 
   one_segment_key : (ks : List K) (b : ℕ) (path : Text)
-      → seek ((param_step (bare ks) (b ∷ path)).0 - 1) (param_step (bare ks) (b ∷ path)).1 path ≡ segment_key (has_slash (b ∷ path)) ks
+      → seek ((param_step (bare ks) (b ∷ path)).0 - 1) (param_step (bare ks) (b ∷ path)).1 path
+      ≡ segment_key (has_slash (b ∷ path)) ks
   one_segment_key ks b path =
       ap (λ (z : ℕ × RowsOf K). seek (z.0 - 1) z.1 path) (param_step_bare ks (b ∷ path))
       ∙ elim (has_slash (b ∷ path)) as (λ v.
-      (let z = cond {A = ℕ × RowsOf K} v (0, []) (length (b ∷ path), bare ks) in seek (z.0 - 1) z.1 path) ≡ segment_key v ks) [
+      (let z = cond {A = ℕ × RowsOf K} v (0, []) (length (b ∷ path), bare ks) in seek (z.0 - 1) z.1 path)
+      ≡ segment_key v ks) [
         | true ↦ seek_none (0 - 1) path
         | false ↦
             let short : length (b ∷ path) - 1 ≡ length path = omega arith in
@@ -157,7 +172,8 @@ module _ {K : Type 0} where
 
   -- ---- the whole search
 
-  pub seek_search : (es : List (FormOf K)) (path : Text) → all_bytes es ≡ true → are_bytes path ≡ true → seek 0 (rows es) path ≡ search es path
+  pub seek_search : (es : List (FormOf K)) (path : Text) → all_bytes es ≡ true → are_bytes path ≡ true
+      → seek 0 (rows es) path ≡ search es path
   unfolding seek
   seek_search es [] h good = own_rows es
   seek_search es (b ∷ path) h good =

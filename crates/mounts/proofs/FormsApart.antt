@@ -1,5 +1,6 @@
 -- In a table in order no two patterns have one text and both a parameter, nor one text and both none.
-use Rattle.std.specs.Prelude.{◌≡◌, ◌==◌, ◌&&◌, ◌||◌, ◌++◌, ◌+◌, ℕ, List, [], ◌∷◌, length, get_or, true, false, cond, if◌then◌else◌}
+use Rattle.std.specs.Prelude.{◌≡◌, ◌==◌, ◌&&◌, ◌||◌, ◌++◌, ◌+◌, ℕ, List, [], ◌∷◌, length, get_or, true, false, cond}
+use Rattle.std.specs.Prelude.{if◌then◌else◌}
 use Rattle.std.specs.Prelude.{Option, Some, None, is_none, Result, Ok, Err}
 use Rattle.std.specs.List.{list_all}
 use Rattle.std.proofs.Common.{refl, sym, ◌∙◌, ap, subst, inl, inr, add-one}
@@ -16,7 +17,8 @@ use Rattle.broker_types.specs.Text.{Text}
 use Rattle.broker_types.specs.TextLaws.{same_true}
 use Rattle.records.specs.SplitLaws.{eqb_self}
 use Rattle.mounts.specs.Forms.{Ending, nothing, segment, segments, Form, form_of, is_literal}
-use Rattle.mounts.specs.Patterns.{Router, with_next, placed_as, is_again, is_free, can_follow, fits_behind, router_behind, ending_tokens, tokens}
+use Rattle.mounts.specs.Patterns.{Router, with_next, placed_as, is_again, is_free, can_follow, fits_behind}
+use Rattle.mounts.specs.Patterns.{router_behind, ending_tokens, tokens}
 use Rattle.mounts.specs.Patterns.{is_read_as, reads_as_form}
 use Rattle.mounts.specs.RouteRow.{RouteRow}
 use Rattle.mounts.proofs.FormRouters.{Keys, AreRoutes, HasPattern, IsBefore, placed_from, next_is}
@@ -31,7 +33,8 @@ pub record AreAlike (f g : Form) : Type 0 where
 common_text : (l : Text) (x y : ℕ) → (x == y) ≡ false → common_len (l ++ x ∷ []) (l ++ y ∷ []) ≡ length l
 common_text [] x y apart = ap (λ v. cond v 1 0) apart
 common_text (b ∷ l) x y apart =
-    ap (λ v. cond v (common_len (l ++ x ∷ []) (l ++ y ∷ []) + 1) 0) (eqb_self b) ∙ ap (λ n. n + 1) (common_text l x y apart)
+    ap (λ v. cond v (common_len (l ++ x ∷ []) (l ++ y ∷ []) + 1) 0) (eqb_self b)
+    ∙ ap (λ n. n + 1) (common_text l x y apart)
     ∙ add-one (length l)
 
 last_at : (l : Text) (x : ℕ) → get_or (l ++ x ∷ []) (length l) 0 ≡ x
@@ -47,7 +50,8 @@ wild l x y apart clash =
     ap (λ m. wild_clash (get_or a m 0) (get_or b m 0)) n ∙ (λ i. wild_clash (last_at l x i) (last_at l y i)) ∙ clash in
     or_left _ _ (or_right (common_len a b == length a && common_len a b == length b) _ w)
 
-ends_conflict : (l : Text) (g h : Ending) → is_literal g ≡ is_literal h → conflicts (l ++ ending_tokens g) (l ++ ending_tokens h) ≡ true
+ends_conflict : (l : Text) (g h : Ending) → is_literal g ≡ is_literal h
+    → conflicts (l ++ ending_tokens g) (l ++ ending_tokens h) ≡ true
 ends_conflict l nothing nothing e = conflicts-self (l ++ [])
 ends_conflict l segment segment e = conflicts-self (l ++ param_token ∷ [])
 ends_conflict l segments segments e = conflicts-self (l ++ catch_all_token ∷ [])
@@ -68,7 +72,8 @@ none_apart : (p : List ℕ) (best : Option Keys × ℕ) (q : Text) (router : Rou
     → conflicts p (tokens (form_of q)) ≡ true → nearest_from p best router ≡ None → ⊥
 none_apart p best q [] are has c none = has
 none_apart p best q ((t, k) ∷ router) are (inl is) c none =
-    let here : conflicts p t ≡ true = ap (conflicts p) (are.0.tokens_are ∙ ap (λ (z : Text). tokens (form_of z)) is) ∙ c in
+    let here : conflicts p t ≡ true = ap (conflicts p) (are.0.tokens_are ∙ ap (λ (z : Text). tokens (form_of z)) is)
+    ∙ c in
     let y = nearer-some best (common_len p t) k in
     from-some p (nearer best (common_len p t) k) router y.0 y.1 (near-yes p t k best router None none here)
 none_apart p best q ((t, k) ∷ router) are (inr later) c none =
@@ -83,7 +88,8 @@ no_nearest : (o : Option Keys) → is_none o ≡ true → o ≡ None
 no_nearest None h = refl
 no_nearest (Some k) h = absurd (false≢true h)
 
-placed_apart : (p : Text) (router : Router) (r : Result Scan InsertError) → is_read_as (tokens (form_of p)) r ≡ true → is_free r router ≡ true
+placed_apart : (p : Text) (router : Router) (r : Result Scan InsertError) → is_read_as (tokens (form_of p)) r ≡ true
+    → is_free r router ≡ true
     → AreRoutes router → AreApart router → AreApart (placed_as r p router)
 placed_apart p router (Err e) read free are apart a b has_a has_b alike = absurd (false≢true read)
 placed_apart p router (Ok s) read free are apart a b has_a has_b alike =
@@ -102,20 +108,25 @@ placed_apart p router (Ok s) read free are apart a b has_a has_b alike =
     new_one : (q : Text) → HasPattern q router → AreAlike (form_of p) (form_of q) → ⊥
     new_one q has alike =
         none_apart s.pattern (None, 0) q router are has
-        (ap (λ (t : List ℕ). conflicts t (tokens (form_of q))) (same_true s.pattern (tokens (form_of p)) read) ∙ alike_conflict (form_of p) (form_of q) alike)
+        (ap (λ (t : List ℕ). conflicts t (tokens (form_of q))) (same_true s.pattern (tokens (form_of p)) read)
+        ∙ alike_conflict (form_of p) (form_of q) alike)
         (no_nearest (nearest s.pattern router) free)
 
-next_apart : (before : Option Text) (p : Text) (router : Router) → reads_as_form p ≡ true → can_follow before p router ≡ true → AreRoutes router
+next_apart : (before : Option Text) (p : Text) (router : Router) → reads_as_form p ≡ true
+    → can_follow before p router ≡ true → AreRoutes router
     → AreApart router → AreApart (with_next before p router)
 next_apart before p router reads follows are apart =
-    elim (is_again before p) as (λ v. (v || is_free (parse_route p) router) ≡ true → AreApart (if v then router else placed_as (parse_route p) p router)) [
+    elim (is_again before p) as (λ v. (v || is_free (parse_route p) router) ≡ true
+    → AreApart (if v then router else placed_as (parse_route p) p router)) [
       | true ↦ λ _. apart
       | false ↦ λ free. placed_apart p router (parse_route p) (and_parts _ _ reads).1 free are apart
     ] follows
 
 -- the patterns of rows that can stand together
-pub last_apart : (before : Option Text) (table : List RouteRow) (router : Router) → list_all (λ (r : RouteRow). reads_as_form r.pattern) table ≡ true
-    → fits_behind before table router ≡ true → AreRoutes router → IsBefore before router → AreApart router → AreApart (router_behind before table router)
+pub last_apart : (before : Option Text) (table : List RouteRow) (router : Router)
+    → list_all (λ (r : RouteRow). reads_as_form r.pattern) table ≡ true
+    → fits_behind before table router ≡ true → AreRoutes router → IsBefore before router → AreApart router
+    → AreApart (router_behind before table router)
 unfolding router_behind fits_behind
 last_apart before [] router reads fit are known apart = apart
 last_apart before (r ∷ table) router reads fit are known apart =

@@ -1,5 +1,6 @@
 -- Rows of mounts, edited.
-use Rattle.std.specs.Prelude.{◌≡◌, ◌==◌, ◌&&◌, Bool, true, false, if◌then◌else◌, cond, Option, Some, None, option_map, is_some, Result, Ok}
+use Rattle.std.specs.Prelude.{◌≡◌, ◌==◌, ◌&&◌, Bool, true, false, if◌then◌else◌, cond, Option, Some, None, option_map}
+use Rattle.std.specs.Prelude.{is_some, Result, Ok}
 use Rattle.std.proofs.Common.{refl, sym, ◌∙◌, ap, subst}
 use Rattle.std.proofs.lemmas.Bool.{false≢true}
 use Rattle.std.proofs.lemmas.Option.{none-some, same_Some}
@@ -58,11 +59,13 @@ module _ (old new : Table) (name : Text) where
   one_of mounts q true m good at = (λ x is. subst IsMountInRange (same_Some m x is) good, refl)
   one_of mounts q false m good at = (at.in_range, at.row)
 
-  pub mounts_put : (mounts : Map Mount) (m : Mount) → IsMountInRange m → new ≡ with_row old kind.Mount name (mount_row m) → AreMounts old mounts
+  pub mounts_put : (mounts : Map Mount) (m : Mount) → IsMountInRange m
+      → new ≡ with_row old kind.Mount name (mount_row m) → AreMounts old mounts
       → AreMounts new (put mounts name m)
   mounts_put mounts m good e are q =
       let one = one_of mounts q (same q name) m good (are q) in
-      subst (λ o. IsMountAt new q o) (sym (get-put mounts name m q)) (record { in_range = one.0; row = (λ i. e i kind.Mount q) ∙ one.1 })
+      subst (λ o. IsMountAt new q o) (sym (get-put mounts name m q))
+      (record { in_range = one.0; row = (λ i. e i kind.Mount q) ∙ one.1 })
 
   none_of : (mounts : Map Mount) (q : Text) (v : Bool) → IsMountAt old q (get mounts q)
       → (in_range : IsSomeIn IsMountInRange (cond v None (get mounts q)))
@@ -70,14 +73,17 @@ module _ (old new : Table) (name : Text) where
   none_of mounts q true at = (λ x is. absurd (none-some x is), refl)
   none_of mounts q false at = (at.in_range, at.row)
 
-  pub mounts_gone : (mounts : Map Mount) → new ≡ without_row old kind.Mount name → AreMounts old mounts → AreMounts new (without mounts name)
+  pub mounts_gone : (mounts : Map Mount) → new ≡ without_row old kind.Mount name → AreMounts old mounts
+      → AreMounts new (without mounts name)
   mounts_gone mounts e are q =
       let one = none_of mounts q (same q name) (are q) in
-      subst (λ o. IsMountAt new q o) (sym (get-without mounts name q)) (record { in_range = one.0; row = (λ i. e i kind.Mount q) ∙ one.1 })
+      subst (λ o. IsMountAt new q o) (sym (get-without mounts name q))
+      (record { in_range = one.0; row = (λ i. e i kind.Mount q) ∙ one.1 })
 
 -- ---- a mount that is there or not, and then the mounts with it
 
-pub ends_then : {X Y : Type 0} (r : Result Mount Refusal) (m : Mount) (P : X → Y → Type 0) (x : X) (f : Mount → Y) → r ≡ Ok m → P x (f m)
+pub ends_then : {X Y : Type 0} (r : Result Mount Refusal) (m : Mount) (P : X → Y → Type 0) (x : X) (f : Mount → Y)
+    → r ≡ Ok m → P x (f m)
     → EndsOk P x (r >>= (λ z. Ok (f z)))
 ends_then r m P x f is p = subst (λ z. EndsOk P x (z >>= (λ z. Ok (f z)))) (sym is) p
 

@@ -24,27 +24,34 @@ use Rattle.mounts.specs.declared.mount_type.MountType.TheVariants as mount
 use Rattle.mounts.specs.MountRows.{AreMounts, at_mount, placed, in_places}
 use Rattle.mounts.specs.Mounts.{typed, printed, with_type, listed, plain_mount}
 
-entries-fold : (types : Map MountType) (ms : List (Text × MountType)) → entries (fold with_type types ms) ≡ fold placed (entries types) ms
+entries-fold : (types : Map MountType) (ms : List (Text × MountType))
+    → entries (fold with_type types ms) ≡ fold placed (entries types) ms
 entries-fold types [] = refl
 entries-fold types (m ∷ ms) =
-    entries-fold (with_type types m) ms ∙ ap (λ es. fold placed es ms) (fin.entries-insert nat_list_cmp_total types (printed m.0) m.1)
+    entries-fold (with_type types m) ms ∙ ap (λ es. fold placed es ms)
+    (fin.entries-insert nat_list_cmp_total types (printed m.0) m.1)
 
 -- the list is that of the mounts with rows, and two more put in their places
 pub listed_is : (mounts : Map Mount) → listed mounts
-    ≡ placed (placed (in_places (map typed (entries mounts))) (codes "cubbyhole", mount.Cubbyhole)) (codes "sys", mount.System)
+    ≡ placed (placed (in_places (map typed (entries mounts))) (codes "cubbyhole", mount.Cubbyhole))
+    (codes "sys", mount.System)
 listed_is mounts =
     let types : Map MountType = fold with_type empty (map typed (entries mounts)) in
-    fin.entries-insert nat_list_cmp_total (with_type types (codes "cubbyhole", mount.Cubbyhole)) (printed (codes "sys")) mount.System
-    ∙ ap (λ es. placed es (codes "sys", mount.System)) (fin.entries-insert nat_list_cmp_total types (printed (codes "cubbyhole")) mount.Cubbyhole
+    fin.entries-insert nat_list_cmp_total (with_type types (codes "cubbyhole", mount.Cubbyhole))
+    (printed (codes "sys")) mount.System
+    ∙ ap (λ es. placed es (codes "sys", mount.System))
+    (fin.entries-insert nat_list_cmp_total types (printed (codes "cubbyhole")) mount.Cubbyhole
     ∙ ap (λ es. placed es (codes "cubbyhole", mount.Cubbyhole)) (entries-fold empty (map typed (entries mounts))
     ∙ ap (λ es. fold placed es (map typed (entries mounts))) entries-empty))
 
 -- the rows of mounts are those of the entries, in their order
-pub rows_are : (rows : Rows) (mounts : Map Mount) → AreMounts (table_of rows) mounts → rows_under rows kind.Mount [] ≡ map at_mount (entries mounts)
+pub rows_are : (rows : Rows) (mounts : Map Mount) → AreMounts (table_of rows) mounts
+    → rows_under rows kind.Mount [] ≡ map at_mount (entries mounts)
 rows_are rows mounts are = rows_under-listing kind.Mount (λ q. mount_row) rows mounts (λ q. (are q).row)
 
 -- and each mount is in range
-pub each_in_range : (rows : Rows) (mounts : Map Mount) → AreMounts (table_of rows) mounts → All (λ (m : Text × Mount). IsMountInRange m.1) (entries mounts)
+pub each_in_range : (rows : Rows) (mounts : Map Mount) → AreMounts (table_of rows) mounts
+    → All (λ (m : Text × Mount). IsMountInRange m.1) (entries mounts)
 each_in_range rows mounts are = each_entry (λ m. IsMountInRange m.1) mounts (λ t x h. (are t).in_range x h)
 
 -- ---- rows read, one after another
@@ -65,6 +72,8 @@ module _ (rows : List (RowKey × Row)) (mounts : List (Text × Mount)) (i : ℕ)
 
 -- one more mount put in its place
 pub one_placed : (mounts : List (Text × Mount)) (i : ℕ) → i < length mounts
-    → in_places (map typed (take (i + 1) mounts)) ≡ placed (in_places (map typed (take i mounts))) (typed (get_or mounts i none))
+    → in_places (map typed (take (i + 1) mounts)) ≡ placed (in_places (map typed (take i mounts)))
+    (typed (get_or mounts i none))
 one_placed mounts i inside =
-    ap in_places (map_more typed mounts i none inside) ∙ fold-append placed [] (map typed (take i mounts)) (typed (get_or mounts i none) ∷ [])
+    ap in_places (map_more typed mounts i none inside)
+    ∙ fold-append placed [] (map typed (take i mounts)) (typed (get_or mounts i none) ∷ [])

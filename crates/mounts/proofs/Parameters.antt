@@ -1,5 +1,6 @@
 -- What an operation takes from a path is a path.
-use Rattle.std.specs.Prelude.{◌≡◌, ◌<◌, ◌||◌, ◌++◌, ℕ, List, [], ◌∷◌, suc, length, drop, get_or, Bool, true, false, not, cond, nat_eq, if◌then◌else◌}
+use Rattle.std.specs.Prelude.{◌≡◌, ◌<◌, ◌||◌, ◌++◌, ℕ, List, [], ◌∷◌, suc, length, drop, get_or, Bool, true, false, not}
+use Rattle.std.specs.Prelude.{cond, nat_eq, if◌then◌else◌}
 use Rattle.std.specs.Prelude.{Some, None, option_map, Ok, is_ok}
 use Rattle.std.specs.List.{list_all, find, starts_with}
 use Rattle.std.proofs.Common.{refl, sym, ◌∙◌, ap, inl, inr}
@@ -14,7 +15,8 @@ use Rattle.broker_types.specs.declared.refusal.Refusal.TheVariants as refusal
 use Rattle.records.specs.Splits.{slash}
 use Rattle.records.specs.ValueLaws.{ok_inj}
 use Rattle.mounts.specs.declared.operation.Operation.{Operation}
-use Rattle.mounts.specs.Forms.{Ending, nothing, segment, segments, form_of, is_ending, is_literal, ends_segment, has_parameter, parameter, are_bytes}
+use Rattle.mounts.specs.Forms.{Ending, nothing, segment, segments, form_of, is_ending, is_literal, ends_segment}
+use Rattle.mounts.specs.Forms.{has_parameter, parameter, are_bytes}
 use Rattle.mounts.specs.Table.{takes_parameter}
 use Rattle.mounts.specs.Patterns.{fits, is_in_order, is_row, reads_as_form, tells, differ, pattern_found}
 use Rattle.mounts.specs.Route.{Route, operation_for, methods_of, route_by}
@@ -39,7 +41,8 @@ joined : (a rest : Text) → (a ++ slash ∷ []) ++ rest ≡ a ++ slash ∷ rest
 joined [] rest = refl
 joined (x ∷ a) rest = ap (λ l. x ∷ l) (joined a rest)
 
-behind_is_path : (literal rest : Text) → ends_segment literal ≡ true → is_path (literal ++ rest) ≡ true → is_path rest ≡ true
+behind_is_path : (literal rest : Text) → ends_segment literal ≡ true → is_path (literal ++ rest) ≡ true
+    → is_path rest ≡ true
 behind_is_path [] rest ends good = good
 behind_is_path (x ∷ t) rest ends good =
     let r = front x t ends in
@@ -51,12 +54,15 @@ not_empty nothing some h = false≢true some
 not_empty segment some h = false≢true h
 not_empty segments some h = false≢true h
 
-form_is_path : (q literal : Text) (g : Ending) → IsRest q → ends_segment literal ≡ true → not (is_literal g) ≡ true → starts_with nat_eq q literal ≡ true
+form_is_path : (q literal : Text) (g : Ending) → IsRest q → ends_segment literal ≡ true → not (is_literal g) ≡ true
+    → starts_with nat_eq q literal ≡ true
     → is_ending g (drop (length literal) q) ≡ true → is_path (drop (length literal) q) ≡ true
 form_is_path q literal g (inr good) ends some begins ending =
     behind_is_path literal (drop (length literal) q) ends (ap is_path (sym (begun literal q begins)) ∙ good)
-form_is_path q [] g (inl none) ends some begins ending = absurd (not_empty g some (ap (is_ending g) (sym none) ∙ ending))
-form_is_path q (x ∷ t) g (inl none) ends some begins ending = absurd (false≢true (ap (λ z. starts_with nat_eq z (x ∷ t)) (sym none) ∙ begins))
+form_is_path q [] g (inl none) ends some begins ending =
+    absurd (not_empty g some (ap (is_ending g) (sym none) ∙ ending))
+form_is_path q (x ∷ t) g (inl none) ends some begins ending =
+    absurd (false≢true (ap (λ z. starts_with nat_eq z (x ∷ t)) (sym none) ∙ begins))
 
 -- ---- the table
 
@@ -64,15 +70,18 @@ both_of : (a b : Bool) → a ≡ true → (not a || b) ≡ true → b ≡ true
 both_of true b e h = h
 both_of false b e h = absurd (false≢true e)
 
-pattern_has : (rows : List RouteRow) (pattern : Text) (v : Verb) (o : Operation) → list_all tells rows ≡ true → operation_for rows pattern v ≡ Some o
+pattern_has : (rows : List RouteRow) (pattern : Text) (v : Verb) (o : Operation) → list_all tells rows ≡ true
+    → operation_for rows pattern v ≡ Some o
     → takes_parameter o ≡ true → has_parameter (form_of pattern) ≡ true
 pattern_has [] pattern v o all e takes = absurd (none-some _ e)
 pattern_has (r ∷ rows) pattern v o all e takes =
-    elim (is_row pattern v r) as (λ b. is_row pattern v r ≡ b → option_map (λ (x : RouteRow). x.operation) (cond b (Some r) (find (is_row pattern v) rows)) ≡ Some o
+    elim (is_row pattern v r) as (λ b. is_row pattern v r ≡ b
+    → option_map (λ (x : RouteRow). x.operation) (cond b (Some r) (find (is_row pattern v) rows)) ≡ Some o
     → has_parameter (form_of pattern) ≡ true) [
       | true ↦ λ is k.
           let here : has_parameter (form_of r.pattern) ≡ true =
-          both_of (takes_parameter r.operation) _ (ap takes_parameter (same_Some _ _ k) ∙ takes) (and_parts _ _ all).0 in
+          both_of (takes_parameter r.operation) _ (ap takes_parameter (same_Some _ _ k) ∙ takes)
+          (and_parts _ _ all).0 in
           ap (λ p. has_parameter (form_of p)) (sym (same_true r.pattern pattern (and_parts _ _ is).0)) ∙ here
       | false ↦ λ _ k. pattern_has rows pattern v o (and_parts _ _ all).1 k takes
     ] refl e
@@ -82,17 +91,21 @@ pattern_has (r ∷ rows) pattern v o all e takes =
 abbrev made : Text → Text → Text → Operation → Route
 made mount pattern q o = record { operation = o; mount = mount; parameter = parameter pattern q }
 
-pub parameter_is_path : (rows : List RouteRow) → is_in_order rows ≡ true → (v : Verb) (mount q pattern : Text) (r : Route) → IsRest q → are_bytes q ≡ true
-    → pattern_found rows q ≡ Some pattern → route_by rows v mount q pattern ≡ Ok r → takes_parameter r.operation ≡ true → is_path r.parameter ≡ true
+pub parameter_is_path : (rows : List RouteRow) → is_in_order rows ≡ true
+    → (v : Verb) (mount q pattern : Text) (r : Route) → IsRest q → are_bytes q ≡ true
+    → pattern_found rows q ≡ Some pattern → route_by rows v mount q pattern ≡ Ok r → takes_parameter r.operation ≡ true
+    → is_path r.parameter ≡ true
 parameter_is_path rows ordered v mount q pattern r rest bytes found h takes =
     elim (operation_for rows pattern v) as (λ o. operation_for rows pattern v ≡ o
-    → (some_or (refusal.MethodNotAllowed (methods_of rows pattern)) o >>= (λ operation. Ok (made mount pattern q operation))) ≡ Ok r
+    → (some_or (refusal.MethodNotAllowed (methods_of rows pattern)) o >>=
+    (λ operation. Ok (made mount pattern q operation))) ≡ Ok r
     → is_path r.parameter ≡ true) [
       | None ↦ λ _ k. absurd (false≢true (ap is_ok k))
       | Some o ↦ λ is k. of o is (ok_inj k)
     ] refl h
   where
-    of : (o : Operation) → operation_for rows pattern v ≡ Some o → made mount pattern q o ≡ r → is_path r.parameter ≡ true
+    of : (o : Operation) → operation_for rows pattern v ≡ Some o → made mount pattern q o ≡ r
+        → is_path r.parameter ≡ true
     of o is one =
         let form = and_parts _ _ (found_by_form rows q ordered bytes pattern found).form in
         let tests = and_parts (fits rows) _ ordered in

@@ -1,5 +1,6 @@
 -- What stands behind a slash of a path is a path.
-use Rattle.std.specs.Prelude.{◌≡◌, ◌+◌, ◌&&◌, ◌==◌, ◌⊎◌, [], ◌∷◌, ◌++◌, length, nat_lt, nat_le, true, false, if◌then◌else◌, Option, Some, None}
+use Rattle.std.specs.Prelude.{◌≡◌, ◌+◌, ◌&&◌, ◌==◌, ◌⊎◌, [], ◌∷◌, ◌++◌, length, nat_lt, nat_le, true, false}
+use Rattle.std.specs.Prelude.{if◌then◌else◌, Option, Some, None}
 use Rattle.std.specs.Prelude.{unwrap_or}
 use Rattle.std.specs.List.{list_all}
 use Rattle.std.proofs.Common.{refl, sym, ◌∙◌, ap, arith, length-append, inl, inr}
@@ -15,12 +16,15 @@ bytes_behind : (a p : Text) → list_all is_path_byte (a ++ 47 ∷ p) ≡ true �
 bytes_behind [] p h = h
 bytes_behind (x ∷ a) p h = bytes_behind a p (and_parts (is_path_byte x) (list_all is_path_byte (a ++ 47 ∷ p)) h).1
 
-segments_behind : (begun a p : Text) → list_all is_segment (segments begun (a ++ 47 ∷ p)) ≡ true → list_all is_segment (segments [] p) ≡ true
+segments_behind : (begun a p : Text) → list_all is_segment (segments begun (a ++ 47 ∷ p)) ≡ true
+    → list_all is_segment (segments [] p) ≡ true
 segments_behind begun [] p h = (and_parts (is_segment begun) (list_all is_segment (segments [] p)) h).1
 segments_behind begun (x ∷ a) p h =
-    elim (x == 47) as (λ v. list_all is_segment (if v then begun ∷ segments [] (a ++ 47 ∷ p) else segments (begun ++ x ∷ []) (a ++ 47 ∷ p)) ≡ true
+    elim (x == 47) as (λ v. list_all is_segment
+    (if v then begun ∷ segments [] (a ++ 47 ∷ p) else segments (begun ++ x ∷ []) (a ++ 47 ∷ p)) ≡ true
     → list_all is_segment (segments [] p) ≡ true) [
-      | true ↦ λ k. segments_behind [] a p (and_parts (is_segment begun) (list_all is_segment (segments [] (a ++ 47 ∷ p))) k).1
+      | true ↦ λ k. segments_behind [] a p
+          (and_parts (is_segment begun) (list_all is_segment (segments [] (a ++ 47 ∷ p))) k).1
       | false ↦ λ k. segments_behind (begun ++ x ∷ []) a p k
     ] h
 
@@ -37,7 +41,8 @@ few_bytes a p h =
 pub rest_is_path : (a p : Text) → is_path (a ++ 47 ∷ p) ≡ true → is_path p ≡ true
 rest_is_path a p h =
     let q = a ++ 47 ∷ p in
-    let d = and_parts (nat_lt 0 (length q) && nat_le (length q) 512 && list_all is_path_byte q) (list_all is_segment (segments [] q)) h in
+    let d = and_parts (nat_lt 0 (length q) && nat_le (length q) 512 && list_all is_path_byte q)
+    (list_all is_segment (segments [] q)) h in
     let k = and_parts (nat_lt 0 (length q) && nat_le (length q) 512) (list_all is_path_byte q) d.0 in
     let n = and_parts (nat_lt 0 (length q)) (nat_le (length q) 512) k.0 in
     let segs = segments_behind [] a p d.1 in
@@ -50,7 +55,9 @@ IsRest p = (p ≡ []) ⊎ (is_path p ≡ true)
 -- what follows the first segment of a path is nothing or a path
 pub rest_of : (q : Text) → is_path q ≡ true → IsRest (cut q).1
 rest_of q h =
-    elim (split_once slash q) as (λ (o : Option (Text × Text)). split_once slash q ≡ o → IsRest (unwrap_or o (q, [])).1) [
+    elim (split_once slash q) as (
+    λ (o : Option (Text × Text)). split_once slash q ≡ o → IsRest (unwrap_or o (q, [])).1
+    ) [
       | None ↦ λ _. inl refl
       | Some p ↦ λ is. inr (rest_is_path p.0 p.1 (ap is_path (sym (lacking_split slash q p is).0) ∙ h))
     ] refl

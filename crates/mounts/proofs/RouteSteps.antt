@@ -33,7 +33,8 @@ module _ (o : Option Mount) (v : Verb) (path name rest : Text) where
   pub route_none : name ≡ (cut path).0 → type_at o name ≡ None → route_at o v path ≡ Err refusal.NotFound
   unfolding route_at
   route_none n h =
-      ap (λ q. some_or refusal.NotFound (type_at o q) >>= (λ type. within (route_rows type) v (cut path).0 (cut path).1)) (sym n)
+      ap (λ q. some_or refusal.NotFound (type_at o q) >>=
+      (λ type. within (route_rows type) v (cut path).0 (cut path).1)) (sym n)
       ∙ ap (λ z. some_or refusal.NotFound z >>= (λ type. within (route_rows type) v (cut path).0 (cut path).1)) h
 
   pub route_some : (type : MountType) → name ≡ (cut path).0 → rest ≡ (cut path).1 → type_at o name ≡ Some type
@@ -49,16 +50,19 @@ module _ (rows : List RouteRow) (v : Verb) (name rest : Text) where
   pub within_none : pattern_found rows rest ≡ None → within rows v name rest ≡ Err refusal.NotFound
   within_none h = ap (λ z. some_or refusal.NotFound z >>= route_by rows v name rest) h
 
-  pub within_some : (pattern : Text) → pattern_found rows rest ≡ Some pattern → within rows v name rest ≡ route_by rows v name rest pattern
+  pub within_some : (pattern : Text) → pattern_found rows rest ≡ Some pattern
+      → within rows v name rest ≡ route_by rows v name rest pattern
   within_some pattern h = ap (λ z. some_or refusal.NotFound z >>= route_by rows v name rest) h
 
 -- ---- the parameter
 
 pub begins_with : (prefix q rest : Text) → q ≡ prefix ++ rest → starts_with nat_eq q prefix ≡ true
 unfolding same
-begins_with prefix q rest e = ap (λ z. same prefix (take (length prefix) z)) e ∙ ap (same prefix) (take-append_seam prefix rest) ∙ same_self prefix
+begins_with prefix q rest e = ap (λ z. same prefix (take (length prefix) z)) e
+    ∙ ap (same prefix) (take-append_seam prefix rest) ∙ same_self prefix
 
 pub begun : (prefix q : Text) → starts_with nat_eq q prefix ≡ true → q ≡ prefix ++ drop (length prefix) q
 unfolding same
 begun prefix q h =
-    sym (take-append-drop (length prefix) q) ∙ ap (λ u. u ++ drop (length prefix) q) (sym (same_true prefix (take (length prefix) q) h))
+    sym (take-append-drop (length prefix) q) ∙ ap (λ u. u ++ drop (length prefix) q)
+    (sym (same_true prefix (take (length prefix) q) h))

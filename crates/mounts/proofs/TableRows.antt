@@ -40,7 +40,8 @@ apart r s h = false_from_ne_true (is_row s.pattern s.verb r) (λ is.
 abbrev pub IsRouted : List RouteRow → RouteRow → Type 0
 IsRouted rows r = operation_for rows r.pattern r.verb ≡ Some r.operation
 
-after_another : (r : RouteRow) (rows later : List RouteRow) → list_any (is_row r.pattern r.verb) later ≡ false → All (λ (s : RouteRow). IsRouted rows s) later
+after_another : (r : RouteRow) (rows later : List RouteRow) → list_any (is_row r.pattern r.verb) later ≡ false
+    → All (λ (s : RouteRow). IsRouted rows s) later
     → All (λ (s : RouteRow). IsRouted (r ∷ rows) s) later
 after_another r rows [] h all = All-nil (λ (s : RouteRow). IsRouted (r ∷ rows) s)
 after_another r rows (s ∷ later) h all =
@@ -56,5 +57,6 @@ each_route [] h = All-nil (λ (r : RouteRow). IsRouted [] r)
 each_route (r ∷ rows) h =
     let parts = and_parts _ _ h in
     All-cons (λ (s : RouteRow). IsRouted (r ∷ rows) s) r rows
-    (ap (λ v. option_map (λ (x : RouteRow). x.operation) (cond v (Some r) (find (is_row r.pattern r.verb) rows))) (is_itself r))
+    (ap (λ v. option_map (λ (x : RouteRow). x.operation) (cond v (Some r) (find (is_row r.pattern r.verb) rows)))
+    (is_itself r))
     (after_another r rows rows (not-true _ parts.0) (each_route rows parts.1))

@@ -18,7 +18,8 @@ bytes = coded_list coded_ℕ
 -- a route as its parts
 pub route_coded : Coded (RouteOf Text)
 route_coded =
-    code_by (List ℕ × (List ℕ × (List (ℕ × ℕ) × List ℕ))) (coded× bytes (coded× bytes (coded× (coded_list (coded× coded_ℕ coded_ℕ)) bytes)))
+    code_by (List ℕ × (List ℕ × (List (ℕ × ℕ) × List ℕ)))
+    (coded× bytes (coded× bytes (coded× (coded_list (coded× coded_ℕ coded_ℕ)) bytes)))
     (λ r. (r.pattern, (r.text, (r.names, r.value))))
     (λ t. record { pattern = t.0; text = t.1.0; names = t.1.1.0; value = t.1.1.1 }) (λ _. refl)
 

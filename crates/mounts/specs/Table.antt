@@ -115,7 +115,8 @@ wrapping_opens wrapping.Rewrap = WithItsOwn
 wrapping_opens wrapping.Unwrap = WithItsOwn
 wrapping_opens _ = Never
 
--- What is stored, so that a write asks for `create` where nothing is there ("Policies", capabilities). Every other write
+-- What is stored, so that a write asks for `create` where nothing is there ("Policies", capabilities). Every other
+-- write
 -- asks for `update`, also where it makes something, as a token or a policy.
 abbrev pub cubbyhole_stores : CubbyholeOperation → Stores
 cubbyhole_stores cubbyhole.Write = Object

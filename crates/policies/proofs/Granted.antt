@@ -1,5 +1,6 @@
 -- Laws of what policies grant.
-use Rattle.std.specs.Prelude.{◌≡◌, List, [], ◌∷◌, ◌++◌, Bool, true, false, not, ◌&&◌, ◌||◌, Some, None, flat_map, unwrap_or, option_and_then}
+use Rattle.std.specs.Prelude.{◌≡◌, List, [], ◌∷◌, ◌++◌, Bool, true, false, not, ◌&&◌, ◌||◌, Some, None, flat_map}
+use Rattle.std.specs.Prelude.{unwrap_or, option_and_then}
 use Rattle.std.specs.List.{list_any, find}
 use Rattle.std.specs.Option.{option_map_or}
 use Rattle.std.proofs.Common.{refl, sym, ◌∙◌, ap, IsPermutation}
@@ -23,22 +24,26 @@ use Rattle.policies.specs.Reading.{policy_of}
 use Rattle.policies.specs.Rules.{Rule}
 use Rattle.policies.specs.Words.{is_grant, is_deny}
 
-any_flat : {X Y : Type 0} (p : Y → Bool) (f : X → List Y) (xs : List X) → list_any p (flat_map f xs) ≡ list_any (λ x. list_any p (f x)) xs
+any_flat : {X Y : Type 0} (p : Y → Bool) (f : X → List Y) (xs : List X)
+    → list_any p (flat_map f xs) ≡ list_any (λ x. list_any p (f x)) xs
 any_flat p f [] = refl
 any_flat p f (x ∷ xs) = list_any-append p (f x) (flat_map f xs) ∙ ap (λ b. list_any p (f x) || b) (any_flat p f xs)
 
 -- ---- what is said by one of a caller's policies
 
 -- a name that passes is one of the names
-some_name : (p : Text → Bool) (names : List Text) → list_any p names ≡ true → (name : Text) × (has names name ≡ true) × (p name ≡ true)
+some_name : (p : Text → Bool) (names : List Text) → list_any p names ≡ true → (name : Text) × (has names name ≡ true)
+    × (p name ≡ true)
 some_name p [] h = absurd (false≢true h)
 some_name p (n ∷ ns) h =
-    elim (p n) as (λ b. p n ≡ b → (b || list_any p ns) ≡ true → (name : Text) × (has (n ∷ ns) name ≡ true) × (p name ≡ true)) [
+    elim (p n) as (λ b. p n ≡ b → (b || list_any p ns) ≡ true → (name : Text) × (has (n ∷ ns) name ≡ true)
+    × (p name ≡ true)) [
       | true ↦ λ is _. (n, ap (λ b. b || has ns n) (same_self n), is)
       | false ↦ λ _ rest. let s = some_name p ns rest in (s.0, or_right (same s.0 n) (has ns s.0) s.1, s.2)
     ] refl h
 
-any_name : (p : Text → Bool) (names : List Text) (name : Text) → has names name ≡ true → p name ≡ true → list_any p names ≡ true
+any_name : (p : Text → Bool) (names : List Text) (name : Text) → has names name ≡ true → p name ≡ true
+    → list_any p names ≡ true
 any_name p [] name h is = absurd (false≢true h)
 any_name p (n ∷ ns) name h is =
     elim (same name n) as (λ b. same name n ≡ b → (b || has ns name) ≡ true → (p n || list_any p ns) ≡ true) [
@@ -52,14 +57,17 @@ module _ (policies : Map Text) (names : List Text) where
 
   said_by_one : (word : Word → Bool) (pattern : Pattern)
       → is_said word (flat_map (rules_named policies) names) pattern ≡ list_any (said_here word pattern) names
-  said_by_one word pattern = any_flat (λ (r : Rule). same_pattern r.pattern pattern && list_any word r.words) (rules_named policies) names
+  said_by_one word pattern = any_flat (λ (r : Rule). same_pattern r.pattern pattern && list_any word r.words)
+      (rules_named policies) names
 
-  says : (word : Word → Bool) (pattern : Pattern) → is_said word (flat_map (rules_named policies) names) pattern ≡ true → Says policies names word pattern
+  says : (word : Word → Bool) (pattern : Pattern) → is_said word (flat_map (rules_named policies) names) pattern ≡ true
+      → Says policies names word pattern
   says word pattern h =
       let s = some_name (said_here word pattern) names (sym (said_by_one word pattern) ∙ h) in
       record { name = s.0; of_caller = s.1; said = s.2 }
 
-  said_of : (word : Word → Bool) (pattern : Pattern) → Says policies names word pattern → is_said word (flat_map (rules_named policies) names) pattern ≡ true
+  said_of : (word : Word → Bool) (pattern : Pattern) → Says policies names word pattern
+      → is_said word (flat_map (rules_named policies) names) pattern ≡ true
   said_of word pattern s = said_by_one word pattern ∙ any_name (said_here word pattern) names s.name s.of_caller s.said
 
 not_true : (b : Bool) → not b ≡ true → b ≡ false
@@ -71,7 +79,8 @@ false_from true h = absurd (h refl)
 false_from false h = refl
 
 module _ (policies : Map Text) (names : List Text) (v : Verb) (path : Text) (c : Capability) where
-  pub only_granted : list_any is_root names ≡ false → grants policies names v path c ≡ true → IsGranted policies names v path c
+  pub only_granted : list_any is_root names ≡ false → grants policies names v path c ≡ true
+      → IsGranted policies names v path c
   unfolding allows rules_of
   only_granted e h =
       let rules = flat_map (rules_named policies) names in
@@ -84,41 +93,48 @@ module _ (policies : Map Text) (names : List Text) (v : Verb) (path : Text) (c :
               pattern = p;
               is_chosen = is;
               said = says policies names (is_grant c) p parts.0;
-              not_denied = λ s. false≢true (sym (not_true (is_said is_deny rules p) parts.1) ∙ said_of policies names is_deny p s);
+              not_denied = λ s. false≢true (sym (not_true (is_said is_deny rules p) parts.1)
+                  ∙ said_of policies names is_deny p s);
             }
-      ] refl (sym (ap (λ b. b || option_map_or (is_granted c rules) (chosen (rules_of policies names v) path) false) e) ∙ h)
+      ] refl (sym (ap (λ b. b || option_map_or (is_granted c rules) (chosen (rules_of policies names v) path) false) e)
+      ∙ h)
 
   pub all_granted : IsGranted policies names v path c → grants policies names v path c ≡ true
   unfolding allows rules_of
   all_granted g =
       let rules = flat_map (rules_named policies) names in
-      let denied : is_said is_deny rules g.pattern ≡ false = false_from _ (λ h. g.not_denied (says policies names is_deny g.pattern h)) in
+      let denied : is_said is_deny rules g.pattern ≡ false =
+      false_from _ (λ h. g.not_denied (says policies names is_deny g.pattern h)) in
       or_right (list_any is_root names) _
       (ap (λ o. option_map_or (is_granted c rules) o false) g.is_chosen
       ∙ and_from _ _ (said_of policies names (is_grant c) g.pattern g.said) (ap not denied))
 
   pub root_may : list_any is_root names ≡ true → grants policies names v path c ≡ true
   unfolding allows rules_of
-  root_may e = ap (λ b. b || option_map_or (is_granted c (flat_map (rules_named policies) names)) (chosen (rules_of policies names v) path) false) e
+  root_may e = ap (λ b. b || option_map_or (is_granted c (flat_map (rules_named policies) names))
+      (chosen (rules_of policies names v) path) false) e
 
 find_none : {X : Type 0} (xs : List X) → find (λ _. false) xs ≡ None
 find_none [] = refl
 find_none (x ∷ xs) = find_none xs
 
-pub nothing_without : (policies : Map Text) (v : Verb) (path : Text) (c : Capability) → grants policies [] v path c ≡ false
+pub nothing_without : (policies : Map Text) (v : Verb) (path : Text) (c : Capability)
+    → grants policies [] v path c ≡ false
 unfolding allows rules_of
 nothing_without policies v path c = rw (find_none (tried v path)) refl
 
 -- ---- the order of policies
 
 module _ (policies : Map Text) (names others : List Text) (moved : IsPermutation names others) where
-  any_moved : (p : Rule → Bool) → list_any p (flat_map (rules_named policies) names) ≡ list_any p (flat_map (rules_named policies) others)
+  any_moved : (p : Rule → Bool) → list_any p (flat_map (rules_named policies) names)
+      ≡ list_any p (flat_map (rules_named policies) others)
   any_moved p =
       any_flat p (rules_named policies) names
       ∙ list_any-IsPermutation (λ n. list_any p (rules_named policies n)) names others moved
       ∙ sym (any_flat p (rules_named policies) others)
 
-  pub any_order : (v : Verb) (path : Text) (c : Capability) → grants policies names v path c ≡ grants policies others v path c
+  pub any_order : (v : Verb) (path : Text) (c : Capability)
+      → grants policies names v path c ≡ grants policies others v path c
   unfolding allows rules_of
   any_order v path c = λ i.
       list_any-IsPermutation is_root names others moved i
@@ -128,31 +144,38 @@ module _ (policies : Map Text) (names others : List Text) (moved : IsPermutation
 
 -- ---- policies of others, and policies that are not there
 
-rules_along : (f g : Text → List Rule) (names : List Text) → ((n : Text) → has names n ≡ true → f n ≡ g n) → flat_map f names ≡ flat_map g names
+rules_along : (f g : Text → List Rule) (names : List Text) → ((n : Text) → has names n ≡ true → f n ≡ g n)
+    → flat_map f names ≡ flat_map g names
 rules_along f g [] agree = refl
 rules_along f g (n ∷ ns) agree = λ i.
-    agree n (ap (λ b. b || has ns n) (same_self n)) i ++ rules_along f g ns (λ m h. agree m (or_right (same m n) (has ns m) h)) i
+    agree n (ap (λ b. b || has ns n) (same_self n)) i ++ rules_along f g ns
+    (λ m h. agree m (or_right (same m n) (has ns m) h)) i
 
-unchanged : (policies changed : Map Text) (n : Text) → get changed n ≡ get policies n → rules_named changed n ≡ rules_named policies n
+unchanged : (policies changed : Map Text) (n : Text) → get changed n ≡ get policies n
+    → rules_named changed n ≡ rules_named policies n
 unfolding rules_named
 unchanged policies changed n e = ap (λ o. unwrap_or (option_and_then policy_of o) []) e
 
 pub others_are_free : (policies changed : Map Text) (names : List Text) (v : Verb) (path : Text) (c : Capability)
-    → ((name : Text) → has names name ≡ true → get changed name ≡ get policies name) → grants changed names v path c ≡ grants policies names v path c
+    → ((name : Text) → has names name ≡ true → get changed name ≡ get policies name)
+    → grants changed names v path c ≡ grants policies names v path c
 unfolding rules_of
 others_are_free policies changed names v path c agree = λ i.
     allows (record {
       verb = v;
       is_root = list_any is_root names;
-      rules = rules_along (rules_named changed) (rules_named policies) names (λ n h. unchanged policies changed n (agree n h)) i;
+      rules = rules_along (rules_named changed) (rules_named policies) names
+          (λ n h. unchanged policies changed n (agree n h)) i;
     }) path c
 
 no_rules : (policies : Map Text) (name : Text) → get policies name ≡ None → rules_named policies name ≡ []
 unfolding rules_named
 no_rules policies name e = ap (λ o. unwrap_or (option_and_then policy_of o) []) e
 
-pub absent_grant_nothing : (policies : Map Text) (name : Text) (names : List Text) (v : Verb) (path : Text) (c : Capability)
-    → get policies name ≡ None → is_root name ≡ false → grants policies (name ∷ names) v path c ≡ grants policies names v path c
+pub absent_grant_nothing : (policies : Map Text) (name : Text) (names : List Text) (v : Verb) (path : Text)
+    (c : Capability)
+    → get policies name ≡ None → is_root name ≡ false
+    → grants policies (name ∷ names) v path c ≡ grants policies names v path c
 unfolding rules_of
 absent_grant_nothing policies name names v path c none free = λ i.
     allows (record {

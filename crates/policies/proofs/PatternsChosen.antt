@@ -1,7 +1,8 @@
 -- Which pattern is chosen: that of a rule, an exact one or the longest prefix.
 use Rattle.std.specs.Prelude.{nat_eq, is_some}
 use Rattle.std.specs.List.{find, starts_with}
-use Rattle.std.proofs.Common.{◌≡◌, ◌≢◌, ℕ, ◌+◌, ◌≤◌, ◌<◌, ◌⊎◌, inl, inr, refl, sym, ◌∙◌, ap, subst, arith, List, [], ◌∷◌, length, Bool, true, false, cond, if◌then◌else◌, Some}
+use Rattle.std.proofs.Common.{◌≡◌, ◌≢◌, ℕ, ◌+◌, ◌≤◌, ◌<◌, ◌⊎◌, inl, inr, refl, sym, ◌∙◌, ap, subst, arith, List, []}
+use Rattle.std.proofs.Common.{◌∷◌, length, Bool, true, false, cond, if◌then◌else◌, Some}
 use Rattle.std.proofs.lemmas.Bool.{false≢true}
 use Rattle.std.proofs.lemmas.Option.{none-some, same_Some}
 use Rattle.broker_types.specs.Text.{Text, same}
@@ -37,19 +38,23 @@ no_earlier x xs t = elim (same_pattern t x) as (λ b. place xs t ≤ (if b then 
   | false ↦ omega arith
 ]
 
-later : (x : Pattern) (xs : List Pattern) (u : Pattern) (test : Pattern → Bool) → test u ≡ true → test x ≡ false → place (x ∷ xs) u ≡ place xs u
-later x xs u test passes fails = elim (same_pattern u x) as (λ b. same_pattern u x ≡ b → (if b then length xs + 1 else place xs u) ≡ place xs u) [
-  | true ↦ λ is. absurd (false≢true (sym fails ∙ ap test (sym (one_pattern u x is)) ∙ passes))
-  | false ↦ λ _. refl
-] refl
+later : (x : Pattern) (xs : List Pattern) (u : Pattern) (test : Pattern → Bool) → test u ≡ true → test x ≡ false
+    → place (x ∷ xs) u ≡ place xs u
+later x xs u test passes fails = elim (same_pattern u x) as
+    (λ b. same_pattern u x ≡ b → (if b then length xs + 1 else place xs u) ≡ place xs u) [
+      | true ↦ λ is. absurd (false≢true (sym fails ∙ ap test (sym (one_pattern u x is)) ∙ passes))
+      | false ↦ λ _. refl
+    ] refl
 
 -- what is found first has the greatest place
-greatest : (test : Pattern → Bool) (ts : List Pattern) (t u : Pattern) → find test ts ≡ Some t → test u ≡ true → place ts u ≤ place ts t
+greatest : (test : Pattern → Bool) (ts : List Pattern) (t u : Pattern) → find test ts ≡ Some t → test u ≡ true
+    → place ts u ≤ place ts t
 greatest test [] t u found passes = absurd (none-some _ found)
 greatest test (x ∷ xs) t u found passes =
     elim (test x) as (λ b. test x ≡ b → cond b (Some x) (find test xs) ≡ Some t → place (x ∷ xs) u ≤ place (x ∷ xs) t) [
       | true ↦ λ _ here.
-          let is : place (x ∷ xs) t ≡ length xs + 1 = ap (place (x ∷ xs)) (sym (same_Some _ _ here)) ∙ first_place x xs in
+          let is : place (x ∷ xs) t ≡ length xs + 1 = ap (place (x ∷ xs)) (sym (same_Some _ _ here))
+          ∙ first_place x xs in
           let most : place (x ∷ xs) u ≤ length (x ∷ xs) = most_places (x ∷ xs) u in
           omega (arith, is, most)
       | false ↦ λ fails there.
@@ -65,7 +70,8 @@ has_place test [] t found = absurd (none-some _ found)
 has_place test (x ∷ xs) t found =
     elim (test x) as (λ b. cond b (Some x) (find test xs) ≡ Some t → 0 < place (x ∷ xs) t) [
       | true ↦ λ here.
-          let is : place (x ∷ xs) t ≡ length xs + 1 = ap (place (x ∷ xs)) (sym (same_Some _ _ here)) ∙ first_place x xs in
+          let is : place (x ∷ xs) t ≡ length xs + 1 = ap (place (x ∷ xs)) (sym (same_Some _ _ here))
+          ∙ first_place x xs in
           omega (arith, is)
       | false ↦ λ there.
           let first : 0 < place xs t = has_place test xs t there in
@@ -83,7 +89,8 @@ found_passes test (x ∷ xs) t found =
     ] refl found
 
 -- and where what has a place passes, something is found
-finds : (test : Pattern → Bool) (ts : List Pattern) (u : Pattern) → test u ≡ true → 0 < place ts u → is_some (find test ts) ≡ true
+finds : (test : Pattern → Bool) (ts : List Pattern) (u : Pattern) → test u ≡ true → 0 < place ts u
+    → is_some (find test ts) ≡ true
 finds test [] u passes placed = absurd (omega (arith, placed))
 finds test (x ∷ xs) u passes placed =
     elim (test x) as (λ b. test x ≡ b → is_some (cond b (Some x) (find test xs)) ≡ true) [
@@ -108,15 +115,18 @@ prefix_found rs path prefix named begins =
 module _ (rs : Rules) (path prefix : Text) (is : chosen rs path ≡ Some (Prefix prefix)) where
   begins_with : starts_with nat_eq (tried_text rs.verb path) prefix ≡ true
   begins_with =
-      elim (starts_with nat_eq (tried_text rs.verb path) prefix) as (λ b. (0 < (if b then length prefix + 1 else 0)) → b ≡ true) [
+      elim (starts_with nat_eq (tried_text rs.verb path) prefix) as
+      (λ b. (0 < (if b then length prefix + 1 else 0)) → b ≡ true) [
         | true ↦ λ _. refl
         | false ↦ λ h. absurd (omega (arith, h))
-      ] (subst_less (has_place (is_named rs.rules) (tried rs.verb path) (Prefix prefix) is) (prefix_placed rs.verb path prefix))
+      ] (subst_less (has_place (is_named rs.rules) (tried rs.verb path) (Prefix prefix) is)
+      (prefix_placed rs.verb path prefix))
     where
       subst_less : {n m : ℕ} → 0 < n → n ≡ m → 0 < m
       subst_less h e = omega (arith, h, e)
 
-  longest : (other : Text) → is_named rs.rules (Prefix other) ≡ true → starts_with nat_eq (tried_text rs.verb path) other ≡ true
+  longest : (other : Text) → is_named rs.rules (Prefix other) ≡ true
+      → starts_with nat_eq (tried_text rs.verb path) other ≡ true
       → length other ≤ length prefix
   longest other named begins =
       let low : place (tried rs.verb path) (Prefix other) ≤ place (tried rs.verb path) (Prefix prefix) =
@@ -132,7 +142,8 @@ module _ (rs : Rules) (path prefix : Text) (is : chosen rs path ≡ Some (Prefix
 
 -- ---- exact patterns
 
-pub exact_first : (rs : Rules) (path : Text) → rs.verb ≢ verb.List → is_named rs.rules (Exact path) ≡ true → chosen rs path ≡ Some (Exact path)
+pub exact_first : (rs : Rules) (path : Text) → rs.verb ≢ verb.List → is_named rs.rules (Exact path) ≡ true
+    → chosen rs path ≡ Some (Exact path)
 exact_first rs path other named =
     elim rs.verb as (λ v. (v ≢ verb.List) → find (is_named rs.rules) (tried v path) ≡ Some (Exact path)) [
       | verb.Get ↦ λ _. rw named refl
@@ -186,4 +197,5 @@ pub own_path : (rs : Rules) (path text : Text) → chosen rs path ≡ Some (Exac
     → (text ≡ path) ⊎ ((rs.verb ≡ verb.List) × (text ≡ with_slash path))
 own_path rs path text is =
     exact_text rs.verb path text
-    (subst (λ n. 0 < n) (exact_placed rs.verb path text) (has_place (is_named rs.rules) (tried rs.verb path) (Exact text) is))
+    (subst (λ n. 0 < n) (exact_placed rs.verb path text)
+    (has_place (is_named rs.rules) (tried rs.verb path) (Exact text) is))

@@ -43,14 +43,16 @@ unfolding text_place same
 empty_place d [] = refl
 empty_place d (l ∷ ls) = empty_place d ls
 
-longer_place : (d c : ℕ) (cs : Text) (ls : List Text) → text_place (map (λ t. d ∷ t) ls ++ ([] ∷ [])) (c ∷ cs) ≡ (if c == d then lift (text_place ls cs) else 0)
+longer_place : (d c : ℕ) (cs : Text) (ls : List Text)
+    → text_place (map (λ t. d ∷ t) ls ++ ([] ∷ [])) (c ∷ cs) ≡ (if c == d then lift (text_place ls cs) else 0)
 unfolding text_place same
 longer_place d c cs [] = elim (c == d) as (λ b. ◌≡◌ {A = ℕ} 0 (if b then 0 else 0)) [ true ↦ refl | false ↦ refl ]
 longer_place d c cs (l ∷ ls) =
     rw (many d ls) (rw (longer_place d c cs ls)
     (elim (c == d) as (λ b. (if (b && same cs l) then length ls + 1 + 1 else (if b then lift (text_place ls cs)
     else 0)) ≡ (if b then lift (if same cs l then length ls + 1 else text_place ls cs) else 0)) [
-      | true ↦ elim (same cs l) as (λ b. (if b then length ls + 1 + 1 else lift (text_place ls cs)) ≡ lift (if b then length ls + 1
+      | true ↦ elim (same cs l) as
+          (λ b. (if b then length ls + 1 + 1 else lift (text_place ls cs)) ≡ lift (if b then length ls + 1
           else text_place ls cs)) [ true ↦ grind (arith, nat_tests) | false ↦ refl ]
       | false ↦ refl
     ]))
@@ -63,7 +65,8 @@ beginnings_place (d ∷ ds) [] = empty_place d (beginnings ds)
 beginnings_place (d ∷ ds) (c ∷ cs) =
     longer_place d c cs (beginnings ds)
     ∙ rw (beginnings_place ds cs)
-    (elim (c == d) as (λ b. (if b then lift (if begins ds cs then length cs + 1 else 0) else 0) ≡ (if (b && begins ds cs) then length (c ∷ cs) + 1 else 0)) [
+    (elim (c == d) as (λ b. (if b then lift (if begins ds cs then length cs + 1 else 0) else 0)
+    ≡ (if (b && begins ds cs) then length (c ∷ cs) + 1 else 0)) [
       | true ↦ elim (begins ds cs) as (λ b. lift (if b then length cs + 1 else 0) ≡ (if b then length (c ∷ cs) + 1
           else 0)) [ true ↦ grind (arith, nat_tests) | false ↦ refl ]
       | false ↦ refl
@@ -91,13 +94,18 @@ folder_length : (path : Text) → length (with_slash path) ≡ length path + 1
 folder_length [] = refl
 folder_length (c ∷ cs) = omega (arith, folder_length cs)
 
-prefix_of : (s t : Text) → place (map Prefix (beginnings s)) (Prefix t) ≡ (if starts_with nat_eq s t then length t + 1 else 0)
-prefix_of s t = prefixes_place (beginnings s) t ∙ beginnings_place s t ∙ sym (ap (λ b. if b then length t + 1 else 0) (begins_is s t))
+prefix_of : (s t : Text) → place (map Prefix (beginnings s)) (Prefix t)
+    ≡ (if starts_with nat_eq s t then length t + 1 else 0)
+prefix_of s t = prefixes_place (beginnings s) t ∙ beginnings_place s t
+    ∙ sym (ap (λ b. if b then length t + 1 else 0) (begins_is s t))
 
-exact_of : (path text : Text) → place (Exact path ∷ map Prefix (beginnings path)) (Exact text) ≡ (if same text path then length path + 2 else 0)
-exact_of path text = rw (count path, no_exact (beginnings path) text) (ap (λ n. if same text path then n else 0) (omega arith))
+exact_of : (path text : Text) → place (Exact path ∷ map Prefix (beginnings path)) (Exact text)
+    ≡ (if same text path then length path + 2 else 0)
+exact_of path text = rw (count path, no_exact (beginnings path) text)
+    (ap (λ n. if same text path then n else 0) (omega arith))
 
-chain : (a b : Bool) (n m n' m' : ℕ) → n' ≡ n → m' ≡ m → (if a then n' else (if b then m' else 0)) ≡ (if a then n else (if b then m else 0))
+chain : (a b : Bool) (n m n' m' : ℕ) → n' ≡ n → m' ≡ m
+    → (if a then n' else (if b then m' else 0)) ≡ (if a then n else (if b then m else 0))
 chain a b n m n' m' e f = λ i. if a then e i else (if b then f i else 0)
 
 pub exact_placed : (v : Verb) (path text : Text) → place (tried v path) (Exact text) ≡ exact_place v path text
@@ -106,7 +114,8 @@ exact_placed verb.Write path text = exact_of path text
 exact_placed verb.Delete path text = exact_of path text
 exact_placed verb.List path text =
     rw (count (with_slash path), no_exact (beginnings (with_slash path)) text, folder_length path)
-    (chain (same text (with_slash path)) (same text path) (length path + 4) (length path + 3) _ _ (omega arith) (omega arith))
+    (chain (same text (with_slash path)) (same text path) (length path + 4) (length path + 3) _ _ (omega arith)
+    (omega arith))
 
 pub prefix_placed : (v : Verb) (path text : Text) → place (tried v path) (Prefix text) ≡ prefix_place v path text
 prefix_placed verb.Get path text = prefix_of path text
@@ -123,11 +132,14 @@ snoc_begins [] (c ∷ []) = refl
 snoc_begins [] (c ∷ d ∷ ds) = refl
 snoc_begins (x ∷ xs) [] = refl
 snoc_begins (x ∷ xs) (c ∷ cs) = ap (λ b. (c == x) && b) (snoc_begins xs cs)
-    ∙ elim (c == x) as (λ b. (b && (begins xs cs || same cs (xs ++ (47 ∷ [])))) ≡ ((b && begins xs cs) || (b && same cs (xs ++
+    ∙ elim (c == x) as (λ b. (b && (begins xs cs || same cs (xs ++ (47 ∷ []))))
+    ≡ ((b && begins xs cs) || (b && same cs (xs ++
     (47 ∷ []))))) [ true ↦ refl | false ↦ refl ]
 
-pub folder_begins : (path text : Text) → starts_with nat_eq (with_slash path) text ≡ (starts_with nat_eq path text || same text (with_slash path))
-folder_begins path text = begins_is (with_slash path) text ∙ snoc_begins path text ∙ sym (ap (λ b. b || same text (with_slash path)) (begins_is path text))
+pub folder_begins : (path text : Text) → starts_with nat_eq (with_slash path) text
+    ≡ (starts_with nat_eq path text || same text (with_slash path))
+folder_begins path text = begins_is (with_slash path) text ∙ snoc_begins path text
+    ∙ sym (ap (λ b. b || same text (with_slash path)) (begins_is path text))
 
 pub same_snoc : (a b : Text) (x : ℕ) → same (a ++ (x ∷ [])) (b ++ (x ∷ [])) ≡ same a b
 unfolding same
@@ -138,7 +150,8 @@ same_snoc (c ∷ []) [] x = and_right (c == x) false refl
 same_snoc (c ∷ d ∷ ds) [] x = and_right (c == x) false refl
 same_snoc (c ∷ cs) (d ∷ ds) x = ap (λ b. (c == d) && b) (same_snoc cs ds x)
 
-pub other_text : (v : Verb) (path : Text) → (v ≡ verb.Get) ⊎ ((v ≡ verb.Write) ⊎ (v ≡ verb.Delete)) → tried_text v path ≡ path
+pub other_text : (v : Verb) (path : Text) → (v ≡ verb.Get) ⊎ ((v ≡ verb.Write) ⊎ (v ≡ verb.Delete))
+    → tried_text v path ≡ path
 other_text v path (inl e) = rw e refl
 other_text v path (inr (inl e)) = rw e refl
 other_text v path (inr (inr e)) = rw e refl

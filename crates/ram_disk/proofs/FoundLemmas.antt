@@ -5,5 +5,6 @@ use Rattle.sqlite_wal.specs.Recovery.{Image}
 use Rattle.sqlite.specs.Files.{AreFoundIn, IsEmpty}
 
 pub none_found : (image : Image) (db : Trees) → image.db ≡ [] → AreFoundIn image db → IsEmpty db
-none_found image db none (inl (size, pages, wanted, adopts, ours, reads)) = absurd (omega (arith, ap length none, adopts.found.present))
+none_found image db none (inl (size, pages, wanted, adopts, ours, reads)) =
+    absurd (omega (arith, ap length none, adopts.found.present))
 none_found image db none (inr nothing) = nothing.1

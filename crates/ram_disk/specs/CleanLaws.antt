@@ -12,6 +12,7 @@ both : (a b : Bool) → IsTrue a → IsTrue b → IsTrue (a && b)
 both true b p q = q
 both false b p q = absurd (let e = p in cc)
 
-pub always_clean : {D : Type 0} {g : Ghosts D} → ((file : D) → IsTrue (g.is_clean file)) → (c : Held (FileStore D g)) → HasCleanDisk (file_state c)
+pub always_clean : {D : Type 0} {g : Ghosts D} → ((file : D) → IsTrue (g.is_clean file)) → (c : Held (FileStore D g))
+    → HasCleanDisk (file_state c)
 unfolding state
 always_clean clean c = no_doubt _ (both _ _ (clean _) (clean _))

@@ -15,8 +15,8 @@ use std::io;
 pub struct RamFile {
     bytes: Vec<u8>,
     faults: u64,
-    /// Whether it says that a crash leaves each byte old or new. A log that hears so writes a frame more at each commit,
-    /// and zeros ahead, to spare a sync.
+    /// Whether it says that a crash leaves each byte old or new. A log that hears so writes a frame more at each
+    /// commit, and zeros ahead, to spare a sync.
     is_mixing: bool,
 }
 

@@ -12,7 +12,8 @@ whole : child (codes "b") ≡ codes "b"
 whole = refl
 
 -- a path and a folder of one name are both there
-both_there : children (folder []) (codes "a" ∷ codes "a/b" ∷ codes "c/d/e" ∷ []) ≡ codes "a" ∷ codes "a/" ∷ codes "c/" ∷ []
+both_there : children (folder []) (codes "a" ∷ codes "a/b" ∷ codes "c/d/e" ∷ [])
+    ≡ codes "a" ∷ codes "a/" ∷ codes "c/" ∷ []
 unfolding same
 both_there = sym (children_ordered {X = ⊤} (folder []) (map member (codes "a" ∷ codes "a/b" ∷ codes "c/d/e" ∷ [])) refl)
 
@@ -21,12 +22,14 @@ each_once : children (folder (codes "a")) (codes "a" ∷ codes "a/b" ∷ codes "
     ≡ codes "b" ∷ codes "b/" ∷ []
 unfolding same
 each_once =
-    sym (children_ordered {X = ⊤} (folder (codes "a")) (map member (codes "a" ∷ codes "a/b" ∷ codes "a/b/c" ∷ codes "a/b/d" ∷ codes "z" ∷ [])) refl)
+    sym (children_ordered {X = ⊤} (folder (codes "a"))
+    (map member (codes "a" ∷ codes "a/b" ∷ codes "a/b/c" ∷ codes "a/b/d" ∷ codes "z" ∷ [])) refl)
 
 -- a name that goes on like the folder's is not in it
 no_child : children (folder (codes "a")) (codes "a" ∷ codes "ab" ∷ codes "ab/c" ∷ []) ≡ []
 unfolding same
-no_child = sym (children_ordered {X = ⊤} (folder (codes "a")) (map member (codes "a" ∷ codes "ab" ∷ codes "ab/c" ∷ [])) refl)
+no_child = sym (children_ordered {X = ⊤} (folder (codes "a"))
+    (map member (codes "a" ∷ codes "ab" ∷ codes "ab/c" ∷ [])) refl)
 
 -- `-` comes before `/`
 by_bytes : children (folder []) (codes "a" ∷ codes "a-b" ∷ codes "a/b" ∷ []) ≡ codes "a" ∷ codes "a-b" ∷ codes "a/" ∷ []

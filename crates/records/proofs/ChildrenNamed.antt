@@ -1,5 +1,6 @@
 -- Texts with the same rests have the same children.
-use Rattle.std.specs.Prelude.{◌≡◌, ◌&&◌, ◌||◌, List, [], ◌∷◌, ◌++◌, map, filter, drop, length, is_some, nat_eq, Bool, true, false, cond, Option, Some, None, ⊤}
+use Rattle.std.specs.Prelude.{◌≡◌, ◌&&◌, ◌||◌, List, [], ◌∷◌, ◌++◌, map, filter, drop, length, is_some, nat_eq, Bool}
+use Rattle.std.specs.Prelude.{true, false, cond, Option, Some, None, ⊤}
 use Rattle.std.specs.List.{starts_with, list_any}
 use Rattle.std.specs.Ordering.{eq_by_cmp}
 use Rattle.std.specs.Cmp.Lexicographic.{nat_list_cmp_total}
@@ -44,17 +45,20 @@ any_from p (u ∷ ts) t h is =
 abbrev child_is : Text → Text → Text → Bool
 child_is prefix q t = starts_with nat_eq t prefix && eq_by_cmp text_cmp q (child (drop (length prefix) t))
 
-any-below : (prefix q : Text) (ts : List Text) → list_any (eq_by_cmp text_cmp q) (map child (below prefix ts)) ≡ list_any (child_is prefix q) ts
+any-below : (prefix q : Text) (ts : List Text)
+    → list_any (eq_by_cmp text_cmp q) (map child (below prefix ts)) ≡ list_any (child_is prefix q) ts
 any-below prefix q [] = refl
 any-below prefix q (t ∷ ts) = elim (starts_with nat_eq t prefix) as (λ v.
     list_any (eq_by_cmp text_cmp q)
-    (map child (map (drop (length prefix)) (cond v (t ∷ filter (λ q. starts_with nat_eq q prefix) ts) (filter (λ q. starts_with nat_eq q prefix) ts))))
+    (map child (map (drop (length prefix))
+    (cond v (t ∷ filter (λ q. starts_with nat_eq q prefix) ts) (filter (λ q. starts_with nat_eq q prefix) ts))))
     ≡ ((v && eq_by_cmp text_cmp q (child (drop (length prefix) t))) || list_any (child_is prefix q) ts)) [
       | true ↦ ap (λ v. eq_by_cmp text_cmp q (child (drop (length prefix) t)) || v) (any-below prefix q ts)
       | false ↦ any-below prefix q ts
     ]
 
-some-get : (prefix q : Text) (ts : List Text) → is_some (fin.get (set_of (map child (below prefix ts))) q) ≡ list_any (child_is prefix q) ts
+some-get : (prefix q : Text) (ts : List Text)
+    → is_some (fin.get (set_of (map child (below prefix ts))) q) ≡ list_any (child_is prefix q) ts
 some-get prefix q ts =
     ap is_some (fin.get-from_entries nat_list_cmp_total (map member (map child (below prefix ts))) q)
     ∙ is_some-find text_cmp q (map member (map child (below prefix ts)))
@@ -81,7 +85,8 @@ implied_both false false f g = refl
 module _ (outer folder : Text) (keys paths : List Text)
     (there : (rest : Text) → has paths (folder ++ rest) ≡ true → has keys ((outer ++ folder) ++ rest) ≡ true)
     (back : (rest : Text) → has keys ((outer ++ folder) ++ rest) ≡ true → has paths (folder ++ rest) ≡ true) where
-  moved : (from to : Text) (ts us : List Text) (q : Text) → ((rest : Text) → has ts (from ++ rest) ≡ true → has us (to ++ rest) ≡ true)
+  moved : (from to : Text) (ts us : List Text) (q : Text)
+      → ((rest : Text) → has ts (from ++ rest) ≡ true → has us (to ++ rest) ≡ true)
       → list_any (child_is from q) ts ≡ true → list_any (child_is to q) us ≡ true
   moved from to ts us q move h =
       let f = any_found (child_is from q) ts h in
@@ -89,12 +94,15 @@ module _ (outer folder : Text) (keys paths : List Text)
       let rest : Text = drop (length from) f.0 in
       let here : has us (to ++ rest) ≡ true = move rest (ap (has ts) (sym (begun from f.0 parts.0)) ∙ f.1) in
       any_from (child_is to q) us (to ++ rest) here
-      (and_from _ _ (begins_with to (to ++ rest) rest refl) (ap (λ r. eq_by_cmp text_cmp q (child r)) (drop-append_seam to rest) ∙ parts.1))
+      (and_from _ _ (begins_with to (to ++ rest) rest refl)
+      (ap (λ r. eq_by_cmp text_cmp q (child r)) (drop-append_seam to rest) ∙ parts.1))
 
   pub same_children : children (outer ++ folder) keys ≡ children folder paths
-  same_children = ap fin.keys (same_map (set_of (map child (below (outer ++ folder) keys))) (set_of (map child (below folder paths))) (λ q.
+  same_children = ap fin.keys
+      (same_map (set_of (map child (below (outer ++ folder) keys))) (set_of (map child (below folder paths))) (λ q.
       same_unit _ _ (some-get (outer ++ folder) q keys
-      ∙ implied_both _ _ (moved (outer ++ folder) folder keys paths q back) (moved folder (outer ++ folder) paths keys q there)
+      ∙ implied_both _ _ (moved (outer ++ folder) folder keys paths q back)
+      (moved folder (outer ++ folder) paths keys q there)
       ∙ sym (some-get folder q paths))))
 
 -- ---- what is listed
@@ -119,12 +127,14 @@ has-keys rows kind prefix t =
     inner true o = refl
     inner false o = refl
 
-pub named_children : (rows : Rows) (kind : Kind) (outer folder : Text) (paths : List Text) → AreNames rows kind outer paths
+pub named_children : (rows : Rows) (kind : Kind) (outer folder : Text) (paths : List Text)
+    → AreNames rows kind outer paths
     → children (outer ++ folder) (keys_under rows kind (outer ++ folder)) ≡ children folder paths
 named_children rows kind outer folder paths names =
     same_children outer folder (keys_under rows kind (outer ++ folder)) paths
     (λ rest h. has-keys rows kind (outer ++ folder) ((outer ++ folder) ++ rest)
     ∙ and_from _ _ (begins_with (outer ++ folder) ((outer ++ folder) ++ rest) rest refl)
     (ap (λ q. is_some (fin.get rows (kind, q))) (append_assoc outer folder rest) ∙ names (folder ++ rest) ∙ h))
-    (λ rest h. sym (names (folder ++ rest)) ∙ ap (λ q. is_some (fin.get rows (kind, q))) (sym (append_assoc outer folder rest))
+    (λ rest h. sym (names (folder ++ rest)) ∙ ap (λ q. is_some (fin.get rows (kind, q)))
+    (sym (append_assoc outer folder rest))
     ∙ (and_parts _ _ (sym (has-keys rows kind (outer ++ folder) ((outer ++ folder) ++ rest)) ∙ h)).1)

@@ -28,7 +28,8 @@ module _ {K : Type 0} {R : K → K → Ordering} (o : IsTotalOrder R) where
   less Equal h = absurd cc
   less Greater h = absurd cc
 
-  chained : (x y z : K) (r s : Ordering) → R x y ≡ r → R y z ≡ s → is_lt r ≡ false → is_lt s ≡ false → is_lt (R x z) ≡ false
+  chained : (x y z : K) (r s : Ordering) → R x y ≡ r → R y z ≡ s → is_lt r ≡ false → is_lt s ≡ false
+      → is_lt (R x z) ≡ false
   chained x y z Less s p q a b = absurd cc
   chained x y z Equal s p q a b = ap is_lt (o.congr x y z p ∙ q) ∙ b
   chained x y z Greater Less p q a b = absurd cc

@@ -1,5 +1,6 @@
 -- Rows that are due have one order.
-use Rattle.std.specs.Prelude.{◌≡◌, ℕ, suc, List, [], ◌∷◌, Bool, true, false, T, ◌&&◌, map, unwrap_or, IsPermutation, IsSorted}
+use Rattle.std.specs.Prelude.{◌≡◌, ℕ, suc, List, [], ◌∷◌, Bool, true, false, T, ◌&&◌, map, unwrap_or, IsPermutation}
+use Rattle.std.specs.Prelude.{IsSorted}
 use Rattle.std.specs.declared.cmp.Ordering.{Ordering}
 use Rattle.std.specs.declared.cmp.Ordering.TheVariants.{Less, Equal, Greater}
 use Rattle.std.specs.Ordering.{eq_by_cmp, is_eq, is_lt, is_gt, nat_cmp, ordering_then, ordering_reverse}
@@ -10,7 +11,8 @@ use Rattle.std.specs.List.{AllByRecursion, IsDistinct}
 use Rattle.std.proofs.Common.{refl, sym, ◌∙◌, ap, subst, arith, inl, inr}
 use Rattle.std.proofs.lemmas.Bool.{false≢true}
 use Rattle.std.proofs.lemmas.Cmp.{on_total, then_total, upto}
-use Rattle.std.proofs.lemmas.List.Sorted.{Contains-permutation, IsPermutation-map, IsPermutation-sym, IsPermutation-trans}
+use Rattle.std.proofs.lemmas.List.Sorted.{Contains-permutation, IsPermutation-map, IsPermutation-sym}
+use Rattle.std.proofs.lemmas.List.Sorted.{IsPermutation-trans}
 use Rattle.std.proofs.lemmas.Map.Keys.{IsDistinct-IsPermutation}
 use Rattle.std.proofs.lemmas.Map.Lookups.{exact_pairs, exact_unsigned}
 use Rattle.std.proofs.lemmas.Option.{none-some}
@@ -60,7 +62,8 @@ turned Less h = h
 turned Equal h = refl
 turned Greater h = refl
 
-all_weaker : (P Q : RowKey × Row → Type 0) → ((e : RowKey × Row) → P e → Q e) → (es : List (RowKey × Row)) → AllByRecursion P es → AllByRecursion Q es
+all_weaker : (P Q : RowKey × Row → Type 0) → ((e : RowKey × Row) → P e → Q e) → (es : List (RowKey × Row))
+    → AllByRecursion P es → AllByRecursion Q es
 all_weaker P Q f [] h = tt
 all_weaker P Q f (e ∷ es) h = (f e h.0, all_weaker P Q f es h.1)
 
@@ -68,7 +71,8 @@ rises : (es : List (RowKey × Row)) → IsSorted due_cmp es → Rises es
 unfolding Rises
 rises [] sorted = tt
 rises (e ∷ es) sorted =
-    let later : IsSorted due_cmp es = λ k d p q. rw Rattle.std.proofs.Common.add-one (rw Rattle.std.proofs.Common.add-one at (sorted (suc k) d (omega arith) (omega arith))) in
+    let later : IsSorted due_cmp es = λ k d p q. rw Rattle.std.proofs.Common.add-one
+    (rw Rattle.std.proofs.Common.add-one at (sorted (suc k) d (omega arith) (omega arith))) in
     let up = rises es later in
     (first es sorted up, up)
   where
@@ -79,7 +83,8 @@ rises (e ∷ es) sorted =
         (next, all_weaker (AtMost f) (AtMost e) (λ z. upto due_total e f z next) fs up.0)
 
 -- whoever is at most another, and has another key, is below it
-below : (e f : RowKey × Row) (o : Ordering) → due_cmp e f ≡ o → is_gt o ≡ false → eq_by_cmp key_cmp e.0 f.0 ≡ false → T (is_lt o)
+below : (e f : RowKey × Row) (o : Ordering) → due_cmp e f ≡ o → is_gt o ≡ false → eq_by_cmp key_cmp e.0 f.0 ≡ false
+    → T (is_lt o)
 below e f Less is most apart = tt
 below e f Equal is most apart =
     let keys : e.0 ≡ f.0 = ap (λ (p : Place). p.1) (place_exact (placed e).0 (placed f).0 is) in
@@ -87,7 +92,8 @@ below e f Equal is most apart =
 below e f Greater is most apart = absurd (false≢true (sym most))
 
 all_below : (e : RowKey × Row) (es : List (RowKey × Row)) → AllByRecursion (AtMost e) es
-    → AllByRecursion (λ y. eq_by_cmp key_cmp e.0 y ≡ false) (map (λ e. e.0) es) → T (below_all place_cmp (placed e).0 (map placed es))
+    → AllByRecursion (λ y. eq_by_cmp key_cmp e.0 y ≡ false) (map (λ e. e.0) es)
+    → T (below_all place_cmp (placed e).0 (map placed es))
 all_below e [] most apart = tt
 all_below e (f ∷ fs) most apart = both _ _ (below e f (due_cmp e f) refl most.0 apart.0) (all_below e fs most.1 apart.1)
   where
@@ -95,7 +101,8 @@ all_below e (f ∷ fs) most apart = both _ _ (below e f (due_cmp e f) refl most.
     both true b s t = t
     both false b s t = absurd s
 
-in_order : (es : List (RowKey × Row)) → Rises es → IsDistinct (eq_by_cmp key_cmp) (map (λ e. e.0) es) → T (is_sorted place_cmp (map placed es))
+in_order : (es : List (RowKey × Row)) → Rises es → IsDistinct (eq_by_cmp key_cmp) (map (λ e. e.0) es)
+    → T (is_sorted place_cmp (map placed es))
 unfolding Rises IsDistinct
 in_order [] up once = tt
 in_order (e ∷ es) up once = both _ _ (all_below e es up.0 once.0) (in_order es up.1 once.1)
@@ -106,7 +113,8 @@ in_order (e ∷ es) up once = both _ _ (all_below e es up.0 once.0) (in_order es
 
 -- ---- two such lists of the same rows are one
 
-module _ (xs ys : List (Place × Row)) (x_sorted : T (is_sorted place_cmp xs)) (y_sorted : T (is_sorted place_cmp ys)) where
+module _ (xs ys : List (Place × Row)) (x_sorted : T (is_sorted place_cmp xs))
+    (y_sorted : T (is_sorted place_cmp ys)) where
   finds : IsPermutation xs ys → (q : Place) → find place_cmp q xs ≡ find place_cmp q ys
   finds same q = elim (found_or_not (find place_cmp q xs)) [
     | inr x ↦ x.1 ∙ sym (in_found place_cmp place_total ys y_sorted (q, x.0)
@@ -114,7 +122,8 @@ module _ (xs ys : List (Place × Row)) (x_sorted : T (is_sorted place_cmp xs)) (
     | inl none ↦ elim (found_or_not (find place_cmp q ys)) [
       | inl too ↦ none ∙ sym too
       | inr y ↦ absurd (none-some _ (sym none ∙ in_found place_cmp place_total xs x_sorted (q, y.0)
-          (Contains-permutation ys xs (q, y.0) (IsPermutation-sym xs ys same) (found_in place_cmp place_exact q y.0 ys y.1))))
+          (Contains-permutation ys xs (q, y.0) (IsPermutation-sym xs ys same)
+          (found_in place_cmp place_exact q y.0 ys y.1))))
     ]
   ]
 

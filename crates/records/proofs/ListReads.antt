@@ -1,5 +1,6 @@
 -- Lists, read item by item.
-use Rattle.std.specs.Prelude.{◌≡◌, ◌<◌, ◌^◌, ◌+◌, ◌-◌, ℕ, suc, List, [], ◌∷◌, ◌++◌, length, All, Bool, true, false, Ok, Err}
+use Rattle.std.specs.Prelude.{◌≡◌, ◌<◌, ◌^◌, ◌+◌, ◌-◌, ℕ, suc, List, [], ◌∷◌, ◌++◌, length, All, Bool, true, false, Ok}
+use Rattle.std.specs.Prelude.{Err}
 use Rattle.std.proofs.Common.{refl, sym, ◌∙◌, ap, subst, arith, append_assoc}
 use Rattle.std.proofs.lemmas.List.{append-nil, length-append, nil_from_length}
 use Rattle.std.proofs.lemmas.List.Elements.{All-nil, All-head, All-tail, All-push}
@@ -39,7 +40,8 @@ module _ {X : Type 0} (P : X → Type 0) (spell : X → List ℕ) where
   next : (xs zs : List X) (left rest : List ℕ) (m : ℕ) → 0 < m → Goes xs zs left rest m → Next xs zs left rest m
   next xs zs left rest m some goes = ahead goes.others goes.whole goes.each goes.long goes.spelled
     where
-      ahead : (ys : List X) → zs ≡ xs ++ ys → All P ys → length ys ≡ m → left ≡ items spell ys ++ rest → Next xs zs left rest m
+      ahead : (ys : List X) → zs ≡ xs ++ ys → All P ys → length ys ≡ m → left ≡ items spell ys ++ rest
+          → Next xs zs left rest m
       ahead [] whole each long spelled = absurd (omega (arith, some, long))
       ahead (y ∷ ys) whole each long spelled =
           record {
@@ -52,7 +54,8 @@ module _ {X : Type 0} (P : X → Type 0) (spell : X → List ℕ) where
             spelled = spelled ∙ append_assoc (spell y) (items spell ys) rest;
           }
 
-  items-push : (xs : List X) (x : X) (rest : List ℕ) → items spell (xs ++ x ∷ []) ++ rest ≡ items spell xs ++ (spell x ++ rest)
+  items-push : (xs : List X) (x : X) (rest : List ℕ)
+      → items spell (xs ++ x ∷ []) ++ rest ≡ items spell xs ++ (spell x ++ rest)
   items-push [] x rest = ap (λ t. t ++ rest) (append-nil (spell x))
   items-push (y ∷ xs) x rest =
       append_assoc (spell y) (items spell (xs ++ x ∷ [])) rest ∙ ap (λ t. spell y ++ t) (items-push xs x rest)
@@ -60,34 +63,41 @@ module _ {X : Type 0} (P : X → Type 0) (spell : X → List ℕ) where
 
 -- there is no count
 pub list_uncounted : {X : Type 0} {P : X → Type 0} (spell : X → List ℕ) {bytes : List ℕ} (e e' : Fault) → e ≡ e'
-    → ReadsField false (λ n. n < 2 ^ 32) count bytes (Err e') → ReadsField true (IsListOf P) (listed spell) bytes (Err e)
+    → ReadsField false (λ n. n < 2 ^ 32) count bytes (Err e')
+    → ReadsField true (IsListOf P) (listed spell) bytes (Err e)
 list_uncounted {X = X} spell e e' is r = record {
-  again = λ zs rest h row_is. finds_other {X = ℕ × List ℕ} {Y = List X × List ℕ} false true (λ _. refl) (length zs, items spell zs ++ rest) (zs, rest) e e' is
-      (r.again (length zs) (items spell zs ++ rest) h.few (row_is ∙ append_assoc (count (length zs)) (items spell zs) rest));
+  again = λ zs rest h row_is. finds_other {X = ℕ × List ℕ} {Y = List X × List ℕ} false true (λ _. refl)
+      (length zs, items spell zs ++ rest) (zs, rest) e e' is
+      (r.again (length zs) (items spell zs ++ rest) h.few
+      (row_is ∙ append_assoc (count (length zs)) (items spell zs) rest));
   exact = tt;
   faults = gives_up_too false true (λ _. refl) e e' is r.faults;
 }
 
 module _ {X : Type 0} {P : X → Type 0} {spell : X → List ℕ} {bytes : List ℕ} where
-  pub list_begun : {left : List ℕ} {n : ℕ} → ReadsField false (λ n. n < 2 ^ 32) count bytes (Ok (n, left)) → Reading P spell bytes [] left n n
+  pub list_begun : {left : List ℕ} {n : ℕ} → ReadsField false (λ n. n < 2 ^ 32) count bytes (Ok (n, left))
+      → Reading P spell bytes [] left n n
   list_begun r = record {
     few = r.exact.0;
     each = All-nil P;
     missing = omega arith;
     bytes_are = r.exact.1;
     again = λ zs rest h is.
-        let e = r.again (length zs) (items spell zs ++ rest) h.few (is ∙ append_assoc (count (length zs)) (items spell zs) rest) in
+        let e = r.again (length zs) (items spell zs ++ rest) h.few
+        (is ∙ append_assoc (count (length zs)) (items spell zs) rest) in
         record { others = zs; whole = refl; each = h.each; long = sym (ap (λ p. p.0) e); spelled = ap (λ p. p.1) e };
   }
 
   module _ {xs : List X} {left : List ℕ} {n m : ℕ} (r : Reading P spell bytes xs left n m) where
-    pub list_more : {takes_memory : Bool} {x : X} {rest : List ℕ} → 0 < m → ReadsField takes_memory P spell left (Ok (x, rest))
+    pub list_more : {takes_memory : Bool} {x : X} {rest : List ℕ} → 0 < m
+        → ReadsField takes_memory P spell left (Ok (x, rest))
         → Reading P spell bytes (xs ++ x ∷ []) rest n (m - 1)
     list_more {x = x} {rest = rest} some f = record {
       few = r.few;
       each = All-push P xs x r.each f.exact.0;
       missing = omega (arith, r.missing, some, length-append xs (x ∷ []));
-      bytes_are = r.bytes_are ∙ ap (λ t. count n ++ (items spell xs ++ t)) f.exact.1 ∙ ap (λ t. count n ++ t) (sym (items-push P spell xs x rest));
+      bytes_are = r.bytes_are ∙ ap (λ t. count n ++ (items spell xs ++ t)) f.exact.1
+          ∙ ap (λ t. count n ++ t) (sym (items-push P spell xs x rest));
       again = λ zs s h is.
           let one = next P spell xs zs left s m some (r.again zs s h is) in
           let e = f.again one.item (items spell one.others ++ s) one.good one.spelled in
@@ -106,7 +116,8 @@ module _ {X : Type 0} {P : X → Type 0} {spell : X → List ℕ} {bytes : List 
     list_cut {takes_memory = takes_memory} e e' is some f = record {
       again = λ zs rest h row_is.
           let one = next P spell xs zs left rest m some (r.again zs rest h row_is) in
-          finds_other {X = X × List ℕ} {Y = List X × List ℕ} takes_memory true (λ _. refl) (one.item, items spell one.others ++ rest) (zs, rest) e e' is
+          finds_other {X = X × List ℕ} {Y = List X × List ℕ} takes_memory true (λ _. refl)
+          (one.item, items spell one.others ++ rest) (zs, rest) e e' is
           (f.again one.item (items spell one.others ++ rest) one.good one.spelled);
       exact = tt;
       faults = gives_up_too takes_memory true (λ _. refl) e e' is f.faults;
@@ -124,7 +135,8 @@ module _ {X : Type 0} {P : X → Type 0} {spell : X → List ℕ} {bytes : List 
               λ i. (sym whole i, rest_is i);
           exact = (
             record { each = r.each; few = subst (λ k. k < 2 ^ 32) all r.few },
-            r.bytes_are ∙ ap (λ k. count k ++ (items spell xs ++ left)) all ∙ sym (append_assoc (count (length xs)) (items spell xs) left),
+            r.bytes_are ∙ ap (λ k. count k ++ (items spell xs ++ left)) all
+                ∙ sym (append_assoc (count (length xs)) (items spell xs) left),
           );
           faults = tt;
         }

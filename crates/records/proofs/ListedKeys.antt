@@ -10,7 +10,8 @@ use Rattle.records.specs.Children.{children, children_in_order}
 use Rattle.records.specs.ListedLaws.{named, listed-sorted}
 use Rattle.records.proofs.ChildrenInOrder.{children_ordered}
 
-pub names_are : (es : List (RowKey × Row)) → map (λ (e : RowKey × Row). e.0.1) es ≡ map (λ (e : Text × Row). e.0) (named es)
+pub names_are : (es : List (RowKey × Row))
+    → map (λ (e : RowKey × Row). e.0.1) es ≡ map (λ (e : Text × Row). e.0) (named es)
 names_are [] = refl
 names_are (e ∷ es) = ap (λ z. e.0.1 ∷ z) (names_are es)
 
@@ -24,5 +25,6 @@ pub listed_children : (rows : Rows) (kind : Kind) (under prefix : Text)
     ≡ children prefix (map (λ (e : RowKey × Row). e.0.1) (rows_under rows kind under))
 listed_children rows kind under prefix =
     let es = rows_under rows kind under in
-    ap (children_in_order prefix) (names_are es) ∙ children_ordered prefix (named es) (T_true _ (listed-sorted kind under rows))
+    ap (children_in_order prefix) (names_are es)
+    ∙ children_ordered prefix (named es) (T_true _ (listed-sorted kind under rows))
     ∙ sym (ap (children prefix) (names_are es))

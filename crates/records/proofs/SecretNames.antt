@@ -11,7 +11,8 @@ use Rattle.broker_types.specs.Path.{is_path, is_path_byte}
 use Rattle.broker_types.specs.Sound.{IsSecretName}
 use Rattle.records.specs.Splits.{slash, line_feed, lacks}
 
-weaker : (p q : ℕ → Bool) → ((x : ℕ) → p x ≡ true → q x ≡ true) → (xs : List ℕ) → list_all p xs ≡ true → list_all q xs ≡ true
+weaker : (p q : ℕ → Bool) → ((x : ℕ) → p x ≡ true → q x ≡ true) → (xs : List ℕ) → list_all p xs ≡ true
+    → list_all q xs ≡ true
 weaker p q h [] e = refl
 weaker p q h (x ∷ xs) e = λ i. h x (and_parts _ _ e).0 i && weaker p q h xs (and_parts _ _ e).1 i
 
@@ -22,16 +23,21 @@ path_byte : (x : ℕ) → is_path_byte x ≡ true → not (x == line_feed) ≡ t
 path_byte x h = grind (arith, nat_tests)
 
 pub mount_lacks : (mount : Text) → is_mount_name mount ≡ true → lacks line_feed mount ≡ true
-mount_lacks mount h = weaker is_name_byte (λ x. not (x == line_feed)) name_byte mount (and_parts _ _ (and_parts _ _ (and_parts _ _ h).0).1).1
+mount_lacks mount h = weaker is_name_byte (λ x. not (x == line_feed)) name_byte mount
+    (and_parts _ _ (and_parts _ _ (and_parts _ _ h).0).1).1
 
 pub path_lacks : (path : Text) → is_path path ≡ true → lacks line_feed path ≡ true
 path_lacks path h = weaker is_path_byte (λ x. not (x == line_feed)) path_byte path (and_parts _ _ (and_parts _ _ h).0).1
 
 pub folder_lacks : (mount : Text) → is_mount_name mount ≡ true → lacks line_feed (mount ++ slash ∷ []) ≡ true
-folder_lacks mount h = list_all-append (λ x. not (x == line_feed)) mount (slash ∷ []) ∙ (λ i. mount_lacks mount h i && true)
+folder_lacks mount h = list_all-append (λ x. not (x == line_feed)) mount (slash ∷ [])
+    ∙ (λ i. mount_lacks mount h i && true)
 
-pub parts_lack : (mount path : Text) → is_mount_name mount ≡ true → is_path path ≡ true → lacks line_feed (mount ++ slash ∷ path) ≡ true
-parts_lack mount path h k = list_all-append (λ x. not (x == line_feed)) mount (slash ∷ path) ∙ (λ i. mount_lacks mount h i && path_lacks path k i)
+pub parts_lack : (mount path : Text) → is_mount_name mount ≡ true → is_path path ≡ true
+    → lacks line_feed (mount ++ slash ∷ path) ≡ true
+parts_lack mount path h k = list_all-append (λ x. not (x == line_feed)) mount (slash ∷ path)
+    ∙ (λ i. mount_lacks mount h i && path_lacks path k i)
 
 pub name_lacks : (q : Text) → IsSecretName q → lacks line_feed q ≡ true
-name_lacks q n = ap (lacks line_feed) (n.parts ∙ append_assoc n.mount (slash ∷ []) n.path) ∙ parts_lack n.mount n.path n.mount_name n.is_path_text.good
+name_lacks q n = ap (lacks line_feed) (n.parts ∙ append_assoc n.mount (slash ∷ []) n.path)
+    ∙ parts_lack n.mount n.path n.mount_name n.is_path_text.good

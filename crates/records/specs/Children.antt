@@ -1,6 +1,7 @@
 -- The immediate children of a folder among paths (Vault's documentation, "KV secrets engine - version 2" and
 -- "Cubbyhole secrets engine", list secrets).
-use Rattle.std.specs.Prelude.{◌≡◌, ◌==◌, ◌++◌, ◌-◌, ◌+◌, List, [], ◌∷◌, Bool, false, Option, Some, None, if◌then◌else◌, map}
+use Rattle.std.specs.Prelude.{◌≡◌, ◌==◌, ◌++◌, ◌-◌, ◌+◌, List, [], ◌∷◌, Bool, false, Option, Some, None, if◌then◌else◌}
+use Rattle.std.specs.Prelude.{map}
 use Rattle.std.specs.Prelude.{filter, drop, length, slice_get, is_some, nat_eq, ⊤}
 use Rattle.std.specs.List.{starts_with, list_any}
 use Rattle.std.specs.FinMap.{from_entries, get}

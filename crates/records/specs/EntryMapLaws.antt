@@ -1,5 +1,6 @@
 -- Laws of maps that are made of lists of entries: metadata, and sets of texts, as code has them.
-use Rattle.std.specs.Prelude.{◌≡◌, ◌≤◌, ◌+◌, ◌&&◌, ℕ, suc, List, [], ◌∷◌, length, map, Bool, true, false, cond, T, Some, All}
+use Rattle.std.specs.Prelude.{◌≡◌, ◌≤◌, ◌+◌, ◌&&◌, ℕ, suc, List, [], ◌∷◌, length, map, Bool, true, false, cond, T, Some}
+use Rattle.std.specs.Prelude.{All}
 use Rattle.std.specs.Cmp.Lexicographic.{nat_list_cmp_total}
 use Rattle.std.specs.FinMap.{find, from_entries, get-from_entries, is_sorted, len-insert, len-empty, contains_key}
 use Rattle.std.specs.FinMap.Entries.{below_all}

@@ -1,5 +1,6 @@
 -- A statement that ends a transaction has ended it, whatever it answers.
-use Rattle.std.proofs.Common.{◌≡◌, ◌⊎◌, inl, inr, ℕ, Bool, true, false, not, ◌&&◌, ◌||◌, IsTrue, List, [], length, Option, None, Ok, Err, sym, ap, ◌∙◌, arith}
+use Rattle.std.proofs.Common.{◌≡◌, ◌⊎◌, inl, inr, ℕ, Bool, true, false, not, ◌&&◌, ◌||◌, IsTrue, List, [], length}
+use Rattle.std.proofs.Common.{Option, None, Ok, Err, sym, ap, ◌∙◌, arith}
 use Rattle.std.specs.Prelude.{is_some}
 use Rattle.std.proofs.lemmas.Bool.{cases_Bool}
 use Rattle.sqlite.specs.Command.{Command}
@@ -9,7 +10,8 @@ use Rattle.sqlite_schema.specs.declared.command.Returning.{Returning}
 use Rattle.sqlite_resolve.specs.declared.compiled.Compiled.{Compiled}
 use Rattle.sqlite.specs.Effect.{is_query}
 use Rattle.sqlite.specs.Listing.{understood}
-use Rattle.sqlite.specs.State.{State, IsMisplaced, IsNoStatement, IsNotRun, IsRolledBack, MayChange, Executes, ExecutesIn, is_pragma, shows_rows}
+use Rattle.sqlite.specs.State.{State, IsMisplaced, IsNoStatement, IsNotRun, IsRolledBack, MayChange, Executes}
+use Rattle.sqlite.specs.State.{ExecutesIn, is_pragma, shows_rows}
 use Rattle.records_sql.proofs.Texts.{IsEnd}
 
 abbrev Ends : Command → Type 0
@@ -21,7 +23,8 @@ both_modes false t e = let x = t in cc
 
 -- ---- it is understood, and runs
 
-not_refused : (sql : List ℕ) (s : State) (e : Error) → IsEnd sql (understood s.now.schema sql) → IsNoStatement s sql [] e → ⊥
+not_refused : (sql : List ℕ) (s : State) (e : Error) → IsEnd sql (understood s.now.schema sql)
+    → IsNoStatement s sql [] e → ⊥
 not_refused sql s e is (inl h) = rw h.1 at is
 not_refused sql s e is (inr h) =
     let it : IsEnd sql (Ok h.0) = rw h.1 at is in
@@ -30,7 +33,8 @@ not_refused sql s e is (inr h) =
       | inr more ↦ elim more [ inl given ↦ given.0 (sym (ap length it.3)) | inr late ↦ late.0 it.2 ]
     ]
 
-shows_none : (k : Command) (r : Option Returning) → Ends k → r ≡ None → (is_query k || (not false && (is_pragma k || is_some r))) ≡ true → ⊥
+shows_none : (k : Command) (r : Option Returning) → Ends k → r ≡ None
+    → (is_query k || (not false && (is_pragma k || is_some r))) ≡ true → ⊥
 shows_none k r (inl is) none shows = absurd (let e = rw (is, none) at shows in cc)
 shows_none k r (inr is) none shows = absurd (let e = rw (is, none) at shows in cc)
 
@@ -50,7 +54,8 @@ never_changes c (inr is) none (inl w) = rw is at w
 never_changes c ends none (inr some) = absurd (let e = rw none at some in cc)
 
 -- nor is it out of place in a transaction
-never_misplaced : (s : State) (c : Compiled) (e : Error) → Ends c.command → IsTrue s.in_transaction → IsMisplaced s c.command e → ⊥
+never_misplaced : (s : State) (c : Compiled) (e : Error) → Ends c.command → IsTrue s.in_transaction
+    → IsMisplaced s c.command e → ⊥
 never_misplaced s c e ends inside (inl h) = elim h.1 [
   | inl begins ↦ never_begins c.command ends begins.0
   | inr outside ↦ both_modes s.in_transaction inside outside.1
@@ -58,7 +63,9 @@ never_misplaced s c e ends inside (inl h) = elim h.1 [
 never_misplaced s c e ends inside (inr h) = never_releases c.command h.1 ends h.2
 
 -- So an error of it rolls back: nothing but memory or the storage can fail.
-pub undoes : (sql : List ℕ) (old new : State) (e : Error) → (IsTrue old.is_open → IsEnd sql (understood old.now.schema sql)) → IsTrue old.in_transaction → Executes sql [] old new (Err e) → IsRolledBack old new
+pub undoes : (sql : List ℕ) (old new : State) (e : Error)
+    → (IsTrue old.is_open → IsEnd sql (understood old.now.schema sql)) → IsTrue old.in_transaction
+    → Executes sql [] old new (Err e) → IsRolledBack old new
 unfolding ExecutesIn IsNotRun
 undoes sql old new e known inside (inl (inl h)) = absurd (not_refused sql old e (known h.1.0.was_open) h.0)
 undoes sql old new e known inside (inl (inr h)) = h.3
@@ -70,7 +77,10 @@ undoes sql old new e known inside (inr h) = elim (cases_Bool (shows_rows false h
   | inr runs ↦ elim (rw runs at h.2) [
     | inl r ↦
         let it : IsEnd sql (Ok h.0) = rw h.1.is at (known r.1.0.was_open) in
-        absurd (elim r.0 [ inl out ↦ never_misplaced old h.0 e it.0 inside out | inr change ↦ never_changes h.0 it.0 it.1 change.0 ])
+        absurd (elim r.0 [
+          | inl out ↦ never_misplaced old h.0 e it.0 inside out
+          | inr change ↦ never_changes h.0 it.0 it.1 change.0
+        ])
     | inr f ↦ f.3
   ]
 ]

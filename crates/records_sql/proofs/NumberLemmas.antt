@@ -1,5 +1,6 @@
 -- What the rows of a table are that was there before: sqlite's rules for the table, and what the rows show.
-use Rattle.std.proofs.Common.{◌≡◌, ℕ, ◌+◌, ◌<◌, ◌≤◌, ℤ, pos, Bool, true, false, not, ◌&&◌, ◌||◌, List, [], ◌∷◌, map, length, get_or, drop, Option, None, Some, refl, sym, ap, subst, ◌∙◌, arith}
+use Rattle.std.proofs.Common.{◌≡◌, ℕ, ◌+◌, ◌<◌, ◌≤◌, ℤ, pos, Bool, true, false, not, ◌&&◌, ◌||◌, List, [], ◌∷◌, map}
+use Rattle.std.proofs.Common.{length, get_or, drop, Option, None, Some, refl, sym, ap, subst, ◌∙◌, arith}
 use Rattle.std.proofs.lemmas.Bool.Decides.{nat_tests}
 use Rattle.std.proofs.lemmas.List.{drop_more}
 use Rattle.std.specs.Prelude.{filter, IsPermutation}
@@ -26,7 +27,8 @@ use Rattle.sqlite.specs.Tree.{Trees}
 use Rattle.records.specs.declared.kind.Kind.{Kind}
 use Rattle.records.specs.Kind.{key_cmp, kind_number}
 use Rattle.records.specs.KeyLaws.{kind_of, key_cmp_total}
-use Rattle.records_sql.specs.Table.{Kept, stored, kept, table, broker_schema, int_in, size_of, due_in, due_value, is_apart, are_apart}
+use Rattle.records_sql.specs.Table.{Kept, stored, kept, table, broker_schema, int_in, size_of, due_in, due_value}
+use Rattle.records_sql.specs.Table.{is_apart, are_apart}
 use Rattle.records_sql.specs.Numbered.{IsListed, IsOver, AreNumbered, number_of}
 use Rattle.records_sql.proofs.Texts.{numbers_project, by_number}
 use Rattle.records_sql.proofs.QueryLemmas.{IsFound, shown_of, map_map}
@@ -44,18 +46,22 @@ all_pass : {X : Type 0} (xs : List X) → filter (λ _. true) xs ≡ xs
 all_pass [] = refl
 all_pass (x ∷ xs) = ap (λ t. x ∷ t) (all_pass xs)
 
-pub each_shown : (rows answer : List Row) → IsFound [] numbers_project by_number [] rows answer → IsPermutation (map shown rows) answer
+pub each_shown : (rows answer : List Row) → IsFound [] numbers_project by_number [] rows answer
+    → IsPermutation (map shown rows) answer
 each_shown rows answer f =
     let show = shown_of [] numbers_project by_number [] in
     let moved = IsPermutation-map (λ (o : Output). o.1) _ f.ordered f.same in
     subst (IsPermutation (map shown rows)) (sym f.shown)
-    (subst (λ l. IsPermutation l (map (λ (o : Output). o.1) f.ordered)) (map_map (λ (o : Output). o.1) show _ ∙ ap (map shown) (all_pass rows)) moved)
+    (subst (λ l. IsPermutation l (map (λ (o : Output). o.1) f.ordered))
+    (map_map (λ (o : Output). o.1) show _ ∙ ap (map shown) (all_pass rows)) moved)
 
 -- ---- numbers that rise
 
 -- a row that is listed and over the last one stands before those that are over it
-pub next_numbered : (last : Option ℕ) (rows : List Row) (i : ℕ) (r : Row) (n : ℕ) (kind : Kind) → i < length rows → r ≡ get_or rows i r
-    → column r 0 ≡ Int (pos n) → kind ≡ kind_of (size_of (int_in (column r 1))) → column r 1 ≡ Int (pos (kind_number kind)) → column r 2 ≡ due_value (due_in (column r 2))
+pub next_numbered : (last : Option ℕ) (rows : List Row) (i : ℕ) (r : Row) (n : ℕ) (kind : Kind) → i < length rows
+    → r ≡ get_or rows i r
+    → column r 0 ≡ Int (pos n) → kind ≡ kind_of (size_of (int_in (column r 1)))
+    → column r 1 ≡ Int (pos (kind_number kind)) → column r 2 ≡ due_value (due_in (column r 2))
     → IsOver last n → AreNumbered (Some n) (drop (i + 1) rows) → AreNumbered last (drop i rows)
 next_numbered last rows i r n kind lt is number named numbered due over rest =
     let same : number_of r ≡ n = ap (λ v. size_of (int_in v)) number in
@@ -74,13 +80,15 @@ all_listed last (r ∷ rs) h = (h.0, all_listed _ rs h.2)
 abbrev pub id_of : Row → ℤ
 id_of r = int_in (column r 0)
 
-below : (a r : Row) → IsListed a → IsListed r → number_of a < number_of r → eq_by_cmp int_cmp (id_of a) (id_of r) ≡ false
+below : (a r : Row) → IsListed a → IsListed r → number_of a < number_of r
+    → eq_by_cmp int_cmp (id_of a) (id_of r) ≡ false
 below a r first second low =
     ap (λ v. eq_by_cmp int_cmp (int_in v) (id_of r)) first.number
     ∙ ap (λ v. eq_by_cmp int_cmp (pos (number_of a)) (int_in v)) second.number
     ∙ ap is_eq (pos_cmp (number_of a) (number_of r)) ∙ grind (arith, nat_tests, low)
 
-all_above : (a : Row) (m : ℕ) (rs : List Row) → IsListed a → number_of a ≤ m → AreNumbered (Some m) rs → AllByRecursion (λ k. eq_by_cmp int_cmp (id_of a) k ≡ false) (map id_of rs)
+all_above : (a : Row) (m : ℕ) (rs : List Row) → IsListed a → number_of a ≤ m → AreNumbered (Some m) rs
+    → AllByRecursion (λ k. eq_by_cmp int_cmp (id_of a) k ≡ false) (map id_of rs)
 all_above a m [] it low h = tt
 all_above a m (r ∷ rs) it low h =
     (below a r it h.0 (omega (arith, low, h.1)), all_above a (number_of r) rs it (omega (arith, low, h.1)) h.2)
@@ -118,23 +126,31 @@ six p q r s t u h =
     (and_left p _ h, and_left q _ one, and_left r _ two, and_left s _ three, and_left t u four, and_right t u four)
 
 -- what the rules ask of the values that a row begins with
-present_of : (a b c d e f : Value) (more : List Value) → are_present None 0 table.columns (a ∷ b ∷ c ∷ d ∷ e ∷ f ∷ more) ≡ true
+present_of : (a b c d e f : Value) (more : List Value)
+    → are_present None 0 table.columns (a ∷ b ∷ c ∷ d ∷ e ∷ f ∷ more) ≡ true
     → Six (not (is_null b)) (not (is_null c)) (not (is_null d)) true (not (is_null f)) true
 present_of a b c d e f more h = six (not (is_null b)) (not (is_null c)) (not (is_null d)) true (not (is_null f)) true h
 
 typed_of : (a b c d e f : Value) (more : List Value) → are_typed None 0 table.columns (b ∷ c ∷ d ∷ e ∷ f ∷ more) ≡ true
-    → Six (is_of kinds.Integer b) (is_of kinds.Text c) (is_of kinds.Text d) (is_of kinds.Integer e) (is_of kinds.Blob f) (are_typed None 5 [] more)
+    → Six (is_of kinds.Integer b) (is_of kinds.Text c) (is_of kinds.Text d) (is_of kinds.Integer e) (is_of kinds.Blob f)
+    (are_typed None 5 [] more)
 typed_of a b c d e f more h =
-    six (is_of kinds.Integer b) (is_of kinds.Text c) (is_of kinds.Text d) (is_of kinds.Integer e) (is_of kinds.Blob f) (are_typed None 5 [] more) h
+    six (is_of kinds.Integer b) (is_of kinds.Text c) (is_of kinds.Text d) (is_of kinds.Integer e) (is_of kinds.Blob f)
+    (are_typed None 5 [] more) h
 
 -- a row that has fewer values lacks a body
-pub stands : (r : Row) → are_typed None 0 table.columns (drop 1 r) ≡ true → are_present None 0 table.columns r ≡ true → IsListed (shown r) → stored (kept r) ≡ r
+pub stands : (r : Row) → are_typed None 0 table.columns (drop 1 r) ≡ true → are_present None 0 table.columns r ≡ true
+    → IsListed (shown r) → stored (kept r) ≡ r
 stands [] typed present it = absurd cc
 stands (a ∷ []) typed present it = absurd cc
-stands (a ∷ b ∷ []) typed present it = absurd (let no : false ≡ true = (six (not (is_null b)) false false true false true present).1 in cc)
-stands (a ∷ b ∷ c ∷ []) typed present it = absurd (let no : false ≡ true = (six (not (is_null b)) (not (is_null c)) false true false true present).2 in cc)
-stands (a ∷ b ∷ c ∷ d ∷ []) typed present it = absurd (let no : false ≡ true = (six (not (is_null b)) (not (is_null c)) (not (is_null d)) true false true present).4 in cc)
-stands (a ∷ b ∷ c ∷ d ∷ e ∷ []) typed present it = absurd (let no : false ≡ true = (six (not (is_null b)) (not (is_null c)) (not (is_null d)) true false true present).4 in cc)
+stands (a ∷ b ∷ []) typed present it =
+    absurd (let no : false ≡ true = (six (not (is_null b)) false false true false true present).1 in cc)
+stands (a ∷ b ∷ c ∷ []) typed present it =
+    absurd (let no : false ≡ true = (six (not (is_null b)) (not (is_null c)) false true false true present).2 in cc)
+stands (a ∷ b ∷ c ∷ d ∷ []) typed present it = absurd (let no : false ≡ true =
+    (six (not (is_null b)) (not (is_null c)) (not (is_null d)) true false true present).4 in cc)
+stands (a ∷ b ∷ c ∷ d ∷ e ∷ []) typed present it = absurd (let no : false ≡ true =
+    (six (not (is_null b)) (not (is_null c)) (not (is_null d)) true false true present).4 in cc)
 stands (a ∷ b ∷ c ∷ d ∷ e ∷ f ∷ []) typed present it =
     let there = present_of a b c d e f [] present in
     let fits = typed_of a b c d e f [] typed in
@@ -164,7 +180,8 @@ none_true p (x ∷ xs) h = (or_first _ _ h, none_true p xs (or_second _ _ h))
     or_second true b h = absurd cc
     or_second false b h = h
 
-each : {X : Type 0} {P Q : X → Type 0} → ((x : X) → P x → Q x) → (xs : List X) → AllByRecursion P xs → AllByRecursion Q xs
+each : {X : Type 0} {P Q : X → Type 0} → ((x : X) → P x → Q x) → (xs : List X) → AllByRecursion P xs
+    → AllByRecursion Q xs
 each f [] h = tt
 each f (x ∷ xs) h = (f x h.0, each f xs h.1)
 
@@ -185,24 +202,30 @@ both_false : (a b : Bool) → (a && b) ≡ false → b ≡ true → a ≡ false
 both_false true b h k = absurd (let e = sym k ∙ h in cc)
 both_false false b h k = refl
 
-apart_pair : (e f : Kept) → eq_by_cmp int_cmp e.0 f.0 ≡ false → clash (stored e) (stored f) ≡ false → is_apart e f ≡ true
+apart_pair : (e f : Kept) → eq_by_cmp int_cmp e.0 f.0 ≡ false → clash (stored e) (stored f) ≡ false
+    → is_apart e f ≡ true
 apart_pair e f ids free =
     let keys : eq_by_cmp key_cmp f.1.0 e.1.0 ≡ false = sym (agrees e f) ∙ both_false _ _ free (differs e.0 f.0 ids) in
-    and_both _ _ (ap not ((eq_by_cmp_equiv int_cmp_total).symm f.0 e.0 ∙ ids)) (ap not ((eq_by_cmp_equiv key_cmp_total).symm e.1.0 f.1.0 ∙ keys))
+    and_both _ _ (ap not ((eq_by_cmp_equiv int_cmp_total).symm f.0 e.0 ∙ ids))
+    (ap not ((eq_by_cmp_equiv key_cmp_total).symm e.1.0 f.1.0 ∙ keys))
 
-apart_from : (e : Kept) (es : List Kept) → AllByRecursion (λ n. eq_by_cmp int_cmp e.0 n ≡ false) (map (λ (f : Kept). f.0) es)
+apart_from : (e : Kept) (es : List Kept)
+    → AllByRecursion (λ n. eq_by_cmp int_cmp e.0 n ≡ false) (map (λ (f : Kept). f.0) es)
     → AllByRecursion (λ (f : Kept). clash (stored e) (stored f) ≡ false) es → list_all (is_apart e) es ≡ true
 apart_from e [] ids free = refl
 apart_from e (f ∷ fs) ids free = and_both _ _ (apart_pair e f ids.0 free.0) (apart_from e fs ids.1 free.1)
 
 abbrev FreeEach : List Kept → List Kept → Type 0
-FreeEach all es = AllByRecursion (λ (f : Kept). AllByRecursion (λ (e : Kept). clash (stored e) (stored f) ≡ false) all) es
+FreeEach all es = AllByRecursion (λ (f : Kept). AllByRecursion (λ (e : Kept). clash (stored e) (stored f) ≡ false) all)
+    es
 
-each_stored : (f : Kept) (all : List Kept) → AllByRecursion (λ other. clash other (stored f) ≡ false) (map stored all) → AllByRecursion (λ (e : Kept). clash (stored e) (stored f) ≡ false) all
+each_stored : (f : Kept) (all : List Kept) → AllByRecursion (λ other. clash other (stored f) ≡ false) (map stored all)
+    → AllByRecursion (λ (e : Kept). clash (stored e) (stored f) ≡ false) all
 each_stored f [] h = tt
 each_stored f (e ∷ es) h = (h.0, each_stored f es h.1)
 
-of_stored : (all es : List Kept) → AllByRecursion (λ row. AllByRecursion (λ other. clash other row ≡ false) (map stored all)) (map stored es) → FreeEach all es
+of_stored : (all es : List Kept) → AllByRecursion
+    (λ row. AllByRecursion (λ other. clash other row ≡ false) (map stored all)) (map stored es) → FreeEach all es
 of_stored all [] h = tt
 of_stored all (f ∷ fs) h = (each_stored f all h.0, of_stored all fs h.1)
 
@@ -210,19 +233,23 @@ not_true : (b : Bool) → not b ≡ true → b ≡ false
 not_true true h = absurd cc
 not_true false h = refl
 
-pub apart_all : (es : List Kept) → IsDistinct (eq_by_cmp int_cmp) (map (λ (e : Kept). e.0) es) → FreeEach es es → are_apart es ≡ true
+pub apart_all : (es : List Kept) → IsDistinct (eq_by_cmp int_cmp) (map (λ (e : Kept). e.0) es) → FreeEach es es
+    → are_apart es ≡ true
 unfolding IsDistinct
 apart_all [] ids free = refl
 apart_all (e ∷ es) ids free =
-    and_both _ _ (apart_from e es ids.0 (each (λ f all. all.0) es free.1)) (apart_all es ids.1 (each (λ f all. all.1) es free.1))
+    and_both _ _ (apart_from e es ids.0 (each (λ f all. all.0) es free.1))
+    (apart_all es ids.1 (each (λ f all. all.1) es free.1))
 
 -- ---- so the table is one of this crate's
 
-module _ (db : Trees) (obeys : Obeys broker_schema db) (answer : List Row) (found : IsFound [] numbers_project by_number [] (db 0) answer) (numbered : AreNumbered None answer) where
+module _ (db : Trees) (obeys : Obeys broker_schema db) (answer : List Row)
+    (found : IsFound [] numbers_project by_number [] (db 0) answer) (numbered : AreNumbered None answer) where
   listed : AllByRecursion (λ r. IsListed (shown r)) (db 0)
   listed =
       let back = IsPermutation-sym _ answer (each_shown (db 0) answer found) in
-      of_map (db 0) (recursion_from_All IsListed _ (All-permutation IsListed answer (map shown (db 0)) back (All-from_recursion IsListed answer (all_listed None answer numbered))))
+      of_map (db 0) (recursion_from_All IsListed _ (All-permutation IsListed answer (map shown (db 0)) back
+      (All-from_recursion IsListed answer (all_listed None answer numbered))))
     where
       of_map : (rs : List Row) → AllByRecursion IsListed (map shown rs) → AllByRecursion (λ r. IsListed (shown r)) rs
       of_map [] h = tt
@@ -235,7 +262,8 @@ module _ (db : Trees) (obeys : Obeys broker_schema db) (answer : List Row) (foun
       subst (IsDistinct e) (map_map id_of shown (db 0) ∙ sym (map_map (λ (k : Kept). k.0) kept (db 0)))
       (IsDistinct-IsPermutation e (eq_by_cmp_equiv int_cmp_total).symm _ _ moved (once_each None answer numbered))
 
-  shaped : (rs : List Row) → AllByRecursion (λ r. IsListed (shown r)) rs → AllByRecursion (λ r. passes_rule Datatype broker_schema db table r ≡ true) rs
+  shaped : (rs : List Row) → AllByRecursion (λ r. IsListed (shown r)) rs
+      → AllByRecursion (λ r. passes_rule Datatype broker_schema db table r ≡ true) rs
       → AllByRecursion (λ r. passes_rule NotNull broker_schema db table r ≡ true) rs → map stored (map kept rs) ≡ rs
   shaped [] a b c = refl
   shaped (r ∷ rs) a b c =
@@ -245,12 +273,19 @@ module _ (db : Trees) (obeys : Obeys broker_schema db) (answer : List Row) (foun
   is_stored : map stored (map kept (db 0)) ≡ db 0
   is_stored = shaped (db 0) listed (obeys.rules Datatype).0 (obeys.rules NotNull).0
 
-  free : (rs : List Row) → AllByRecursion (λ r. passes_rule Unique broker_schema db table r ≡ true) rs → AllByRecursion (λ row. AllByRecursion (λ other. clash other row ≡ false) (db 0)) rs
+  free : (rs : List Row) → AllByRecursion (λ r. passes_rule Unique broker_schema db table r ≡ true) rs
+      → AllByRecursion (λ row. AllByRecursion (λ other. clash other row ≡ false) (db 0)) rs
   free [] h = tt
-  free (r ∷ rs) h = (none_true (λ other. clash other r) (db 0) (not_true _ (and_left (not (list_any (λ other. clash other r) (db 0))) true h.0)), free rs h.1)
+  free (r ∷ rs) h = (
+    none_true (λ other. clash other r) (db 0)
+        (not_true _ (and_left (not (list_any (λ other. clash other r) (db 0))) true h.0)),
+    free rs h.1,
+  )
 
-  free_each : AllByRecursion (λ row. AllByRecursion (λ other. clash other row ≡ false) (map stored (map kept (db 0)))) (map stored (map kept (db 0)))
-  free_each = subst (λ rs. AllByRecursion (λ row. AllByRecursion (λ other. clash other row ≡ false) rs) rs) (sym is_stored) (free (db 0) (obeys.rules Unique).0)
+  free_each : AllByRecursion (λ row. AllByRecursion (λ other. clash other row ≡ false) (map stored (map kept (db 0))))
+      (map stored (map kept (db 0)))
+  free_each = subst (λ rs. AllByRecursion (λ row. AllByRecursion (λ other. clash other row ≡ false) rs) rs)
+      (sym is_stored) (free (db 0) (obeys.rules Unique).0)
 
   pub stored_rows : (map stored (map kept (db 0)) ≡ db 0) × (are_apart (map kept (db 0)) ≡ true)
   stored_rows = (is_stored, apart_all (map kept (db 0)) ids (of_stored (map kept (db 0)) (map kept (db 0)) free_each))

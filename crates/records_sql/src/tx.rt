@@ -20,8 +20,8 @@ pub struct SqlTx<'c, S: Alter> {
 }
 
 impl<S: Alter> SqlRecords<S> {
-    /// Begins a transaction, which shows the rows that were committed; what is still open is rolled back first. The only
-    /// error is `Storage`: the rows are as before, and `failed` says so.
+    /// Begins a transaction, which shows the rows that were committed; what is still open is rolled back first. The
+    /// only error is `Storage`: the rows are as before, and `failed` says so.
     pub fn begin(&mut self) -> Result<SqlTx<'_, S>, Fault>
         ensures* refused { sem 𝓛 (RestsIfErr (the_row S.row S.Store) self.entry (λ tx. tx.records.ghost_name) result
             (IsRefused S.Store self.old)) }

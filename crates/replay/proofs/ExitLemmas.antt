@@ -9,7 +9,8 @@ use Rattle.replay.specs.declared.replaying.Exit.{Exit}
 use Rattle.replay.specs.declared.replaying.Exit.TheVariants.{Done, Faulted, BadLine}
 
 -- a fault of memory or storage, where the storage failed if it is of storage
-pub ends_by_fault : (fault : Fault) (StorageFailed : Type 0) (failed : Bool) → IsMemoryOrStorage fault → (fault ≡ Storage → StorageFailed)
+pub ends_by_fault : (fault : Fault) (StorageFailed : Type 0) (failed : Bool) → IsMemoryOrStorage fault
+    → (fault ≡ Storage → StorageFailed)
     → EndsBy ⊥ StorageFailed failed (Faulted (fault_number fault))
 ends_by_fault Memory StorageFailed failed want storage = inl refl
 ends_by_fault Storage StorageFailed failed want storage = inr (inl (refl, storage refl))
@@ -29,12 +30,14 @@ ends_by_start BadStart EqualWords failed came equal = inr (inr (inl (refl, equal
 pub ends_of : (EqualWords StorageFailed : Type 0) (failed : Bool) (result exit : Exit) (A : Type 0)
     → ((result ≡ exit) × A) ⊎ ((result ≡ Faulted 6) × IsTrue failed)
     → EndsBy EqualWords StorageFailed failed exit → EndsBy EqualWords StorageFailed failed result
-ends_of EqualWords StorageFailed failed result exit A (inl p) ends = subst (EndsBy EqualWords StorageFailed failed) (sym p.0) ends
+ends_of EqualWords StorageFailed failed result exit A (inl p) ends =
+    subst (EndsBy EqualWords StorageFailed failed) (sym p.0) ends
 ends_of EqualWords StorageFailed failed result exit A (inr p) ends =
     subst (EndsBy EqualWords StorageFailed failed) (sym p.0) (inr (inr (inr (refl, p.1))))
 
 -- what follows from it
-pub ends_weaker : (E F S T : Type 0) (failed : Bool) (exit : Exit) → (E → F) → (S → T) → EndsBy E S failed exit → EndsBy F T failed exit
+pub ends_weaker : (E F S T : Type 0) (failed : Bool) (exit : Exit) → (E → F) → (S → T) → EndsBy E S failed exit
+    → EndsBy F T failed exit
 ends_weaker E F S T failed Done e s h = tt
 ends_weaker E F S T failed (BadLine line) e s h = tt
 ends_weaker E F S T failed (Faulted number) e s (inl h) = inl h

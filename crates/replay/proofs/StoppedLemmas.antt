@@ -13,7 +13,8 @@ use Rattle.replay.specs.declared.replaying.Exit.TheVariants.{Done, Faulted, BadL
 use Rattle.replay.proofs.WritingLemmas.{Appends-none}
 
 -- no event was run, and nothing was written
-from_none : (w : World) (events : List Event) (known : Option (List ℕ)) (exit : Exit) → StoppedFrom w events known known exit
+from_none : (w : World) (events : List Event) (known : Option (List ℕ)) (exit : Exit)
+    → StoppedFrom w events known known exit
 from_none w events known Done = tt
 from_none w events known (BadLine line) = tt
 from_none w events known (Faulted number) =
@@ -28,7 +29,8 @@ stopped_none (Some t) known exit = from_none (started t.start) t.events known ex
 
 -- the run stopped and its replies were written, or a write failed
 pub stopped_of : {S : Type 0} (seen : S → Kept) (events : List Event) (before after : Hub S) (old new : Option (List ℕ))
-    (result exit : Exit) (number : ℕ) (A B : Type 0) → ((result ≡ exit) × A) ⊎ ((result ≡ Faulted 6) × B) → exit ≡ Faulted number
+    (result exit : Exit) (number : ℕ) (A B : Type 0) → ((result ≡ exit) × A) ⊎ ((result ≡ Faulted 6) × B)
+    → exit ≡ Faulted number
     → (A → StopsRun seen events before after old new number) → StoppedRun seen events before after old new result
 stopped_of seen events before after old new result exit number A B (inl p) is wrote =
     subst (StoppedRun seen events before after old new) (sym (p.0 ∙ is)) (λ (other : number ≢ 6). wrote p.1)
@@ -36,8 +38,10 @@ stopped_of seen events before after old new result exit number A B (inr p) is wr
     subst (StoppedRun seen events before after old new) (sym p.0) (λ (other : 6 ≢ 6). absurd (other refl))
 
 -- from a world that the hub represented, some number of the first events were answered
-pub stopped_from : {S : Type 0} (seen : S → Kept) (w : World) (events : List Event) (before after : Hub S) (old new : Option (List ℕ))
-    (exit : Exit) → IsHonestStore (hub_store seen after) → HubRepresents seen before w → StoppedRun seen events before after old new exit
+pub stopped_from : {S : Type 0} (seen : S → Kept) (w : World) (events : List Event) (before after : Hub S)
+    (old new : Option (List ℕ))
+    (exit : Exit) → IsHonestStore (hub_store seen after) → HubRepresents seen before w
+    → StoppedRun seen events before after old new exit
     → StoppedFrom w events old new exit
 stopped_from seen w events before after old new Done honest is stopped = tt
 stopped_from seen w events before after old new (BadLine line) honest is stopped = tt

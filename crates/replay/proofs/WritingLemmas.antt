@@ -1,5 +1,6 @@
 -- Replies that are written one after another.
-use Rattle.std.proofs.Common.{◌≡◌, ◌∙◌, ℕ, ◌+◌, ◌<◌, List, [], ◌∷◌, ◌++◌, length, take, get_or, Option, Some, None, Vec, Global, sym, ap, subst, append_assoc}
+use Rattle.std.proofs.Common.{◌≡◌, ◌∙◌, ℕ, ◌+◌, ◌<◌, List, [], ◌∷◌, ◌++◌, length, take, get_or, Option, Some, None, Vec}
+use Rattle.std.proofs.Common.{Global, sym, ap, subst, append_assoc}
 use Rattle.std.specs.Io.KnownBytes.{Appends}
 use Rattle.std.specs.List.{concat}
 use Rattle.std.proofs.lemmas.List.{append-nil, take_more, map_push}
@@ -9,7 +10,8 @@ pub Appends-none : (known : Option (List ℕ)) → Appends known known []
 Appends-none None = tt
 Appends-none (Some xs) = sym (append-nil xs)
 
-Appends-append : (old mid new : Option (List ℕ)) (xs ys : List ℕ) → Appends old mid xs → Appends mid new ys → Appends old new (xs ++ ys)
+Appends-append : (old mid new : Option (List ℕ)) (xs ys : List ℕ) → Appends old mid xs → Appends mid new ys
+    → Appends old new (xs ++ ys)
 Appends-append None mid new xs ys p q = tt
 Appends-append (Some a) None new xs ys p q = absurd p
 Appends-append (Some a) (Some b) None xs ys p q = absurd q
@@ -19,15 +21,21 @@ concat-push : (xs : List (List ℕ)) (x : List ℕ) → concat (xs ++ x ∷ []) 
 concat-push [] x = append-nil x
 concat-push (y ∷ ys) x = ap (λ (l : List ℕ). y ++ l) (concat-push ys x) ∙ sym (append_assoc y (concat ys) x)
 
-bytes_more : (replies : List (Vec ℕ Global)) (i : ℕ) (reply : Vec ℕ Global) → i < length replies → reply ≡ get_or replies i reply
+bytes_more : (replies : List (Vec ℕ Global)) (i : ℕ) (reply : Vec ℕ Global) → i < length replies
+    → reply ≡ get_or replies i reply
     → concat (bytes_of (take (i + 1) replies)) ≡ concat (bytes_of (take i replies)) ++ reply.items
 bytes_more replies i reply lt is =
-    ap (λ (l : List (Vec ℕ Global)). concat (bytes_of l)) (take_more replies i reply lt ∙ ap (λ (x : Vec ℕ Global). take i replies ++ x ∷ []) (sym is))
-    ∙ ap concat (map_push (λ (r : Vec ℕ Global). r.items) (take i replies) reply) ∙ concat-push (bytes_of (take i replies)) reply.items
+    ap (λ (l : List (Vec ℕ Global)). concat (bytes_of l))
+    (take_more replies i reply lt ∙ ap (λ (x : Vec ℕ Global). take i replies ++ x ∷ []) (sym is))
+    ∙ ap concat (map_push (λ (r : Vec ℕ Global). r.items) (take i replies) reply)
+    ∙ concat-push (bytes_of (take i replies)) reply.items
 
-pub Appends-more : (old mid new : Option (List ℕ)) (replies : List (Vec ℕ Global)) (i : ℕ) (reply : Vec ℕ Global) (bytes : List ℕ)
+pub Appends-more : (old mid new : Option (List ℕ)) (replies : List (Vec ℕ Global)) (i : ℕ) (reply : Vec ℕ Global)
+    (bytes : List ℕ)
     → i < length replies → reply ≡ get_or replies i reply → bytes ≡ reply.items
-    → Appends old mid (concat (bytes_of (take i replies))) → Appends mid new bytes → Appends old new (concat (bytes_of (take (i + 1) replies)))
+    → Appends old mid (concat (bytes_of (take i replies))) → Appends mid new bytes
+    → Appends old new (concat (bytes_of (take (i + 1) replies)))
 Appends-more old mid new replies i reply bytes lt is same before now =
     subst (Appends old new) (sym (bytes_more replies i reply lt is))
-    (Appends-append old mid new (concat (bytes_of (take i replies))) reply.items before (subst (Appends mid new) same now))
+    (Appends-append old mid new (concat (bytes_of (take i replies))) reply.items before
+    (subst (Appends mid new) same now))

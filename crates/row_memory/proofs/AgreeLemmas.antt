@@ -1,5 +1,6 @@
 -- What is remembered is true of rows that changed.
-use Rattle.std.proofs.Common.{◌≡◌, ◌∙◌, ℕ, ◌+◌, ◌<◌, ◌≤◌, ◌==◌, Bool, true, false, not, cond, List, [], ◌∷◌, length, refl, sym, ap, subst, arith}
+use Rattle.std.proofs.Common.{◌≡◌, ◌∙◌, ℕ, ◌+◌, ◌<◌, ◌≤◌, ◌==◌, Bool, true, false, not, cond, List, [], ◌∷◌, length}
+use Rattle.std.proofs.Common.{refl, sym, ap, subst, arith}
 use Rattle.std.specs.Prelude.{Option, None, Some, nat_le, All, Contains, IsPermutation}
 use Rattle.std.specs.List.{slice_index_or}
 use Rattle.std.specs.declared.cmp.Ordering.{Ordering}
@@ -41,7 +42,8 @@ alike a b kinds =
     (sym (subst (λ n. nat_cmp (kind_number a.0) n ≡ Equal) kinds (tied_itself nat_cmp_total (kind_number a.0))))
 
 -- what an entry says is what is found at a key that compares alike
-pub found_at : (rows : Rows) (key : RowKey) (e : RowKey × Option Row) → eq_by_cmp key_cmp e.0 key ≡ true → get rows e.0 ≡ e.1 → get rows key ≡ e.1
+pub found_at : (rows : Rows) (key : RowKey) (e : RowKey × Option Row) → eq_by_cmp key_cmp e.0 key ≡ true
+    → get rows e.0 ≡ e.1 → get rows key ≡ e.1
 found_at rows key e alike is = get_tied key_cmp_total rows e.0 key (tied (key_cmp e.0 key) alike) ∙ is
 
 -- ---- rows that change
@@ -82,7 +84,8 @@ module _ (rows : Rows) (key : RowKey) (moment : ℕ) (calm : IsCalmUntil moment 
   put_cases row sooner le due q r false is d at = let later : moment ≤ d = calm q r is d at in omega (arith, le, later)
 
   -- a row that is put is due at the sooner moment or later, as all others are
-  pub calm_put : (row : Row) (sooner : ℕ) → sooner ≤ moment → IsDueFrom sooner row → IsCalmUntil sooner (insert rows key row)
+  pub calm_put : (row : Row) (sooner : ℕ) → sooner ≤ moment → IsDueFrom sooner row
+      → IsCalmUntil sooner (insert rows key row)
   calm_put row sooner le due q r is =
       put_cases row sooner le due q r (eq_by_cmp key_cmp q key) (sym (get-insert key_cmp_total rows key row q) ∙ is)
 
@@ -99,11 +102,13 @@ module _ (rows : Rows) (moment : ℕ) where
   abbrev is_ended : RowKey × Row → Bool
   is_ended e = is_due moment e.1.due
 
-  not_due : (calm : ℕ) (due : Option ℕ) → ((d : ℕ) → due ≡ Some d → calm ≤ d) → moment < calm → is_due moment due ≡ false
+  not_due : (calm : ℕ) (due : Option ℕ) → ((d : ℕ) → due ≡ Some d → calm ≤ d) → moment < calm
+      → is_due moment due ≡ false
   not_due calm None later before = refl
   not_due calm (Some d) later before = let at : calm ≤ d = later d refl in grind (arith, nat_tests)
 
-  none_of : (list : List (RowKey × Row)) → All (λ e. is_ended e ≡ false) list → All (λ e. is_ended e ≡ true) list → list ≡ []
+  none_of : (list : List (RowKey × Row)) → All (λ e. is_ended e ≡ false) list → All (λ e. is_ended e ≡ true) list
+      → list ≡ []
   none_of [] unended ended = refl
   none_of (e ∷ es) unended ended =
       let never : is_ended e ≡ false = All-head (λ d. is_ended d ≡ false) e es unended in
@@ -137,7 +142,8 @@ no_entries : (list : List (RowKey × Row)) → length list ≡ 0 → list ≡ []
 no_entries [] short = refl
 no_entries (e ∷ es) short = absurd (omega (arith, short))
 
-pub none_listed : (rows : Rows) (moment : ℕ) (list : List (RowKey × Row)) → AreDue rows moment list → (length list == 0) ≡ true
+pub none_listed : (rows : Rows) (moment : ℕ) (list : List (RowKey × Row)) → AreDue rows moment list
+    → (length list == 0) ≡ true
     → rows_due rows moment ≡ []
 none_listed rows moment list due short =
     let same : length list ≡ length (rows_due rows moment) = length_permutation (rows_due rows moment) list due.whole in
@@ -146,4 +152,7 @@ none_listed rows moment list due short =
 -- and the empty list has all where none is due
 pub due_of_none : (rows : Rows) (moment : ℕ) → rows_due rows moment ≡ [] → AreDue rows moment []
 due_of_none rows moment none =
-    record { whole = subst (λ l. IsPermutation l []) (sym none) (IsPermutation-refl []); sorted = λ k d low high. absurd (omega (arith, high)) }
+    record {
+      whole = subst (λ l. IsPermutation l []) (sym none) (IsPermutation-refl []);
+      sorted = λ k d low high. absurd (omega (arith, high));
+    }

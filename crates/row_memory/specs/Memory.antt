@@ -1,5 +1,6 @@
 -- What is remembered of rows, and when it is true (this project's definition).
-use Rattle.std.specs.Prelude.{◌≡◌, ℕ, ◌+◌, ◌≤◌, Bool, true, false, is_some, List, [], length, Option, Some, None, All, filter, not}
+use Rattle.std.specs.Prelude.{◌≡◌, ℕ, ◌+◌, ◌≤◌, Bool, true, false, is_some, List, [], length, Option, Some, None, All}
+use Rattle.std.specs.Prelude.{filter, not}
 use Rattle.std.specs.Ordering.{eq_by_cmp}
 use Rattle.std.specs.FinMap.{get}
 use Rattle.records.specs.declared.kind.Kind.{Kind}

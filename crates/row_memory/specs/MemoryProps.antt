@@ -1,4 +1,5 @@
--- That something remembered is true of rows is a fact with one proof at most: for structs that keep it (this project's).
+-- That something remembered is true of rows is a fact with one proof at most: for structs that keep it (this
+-- project's).
 use Rattle.std.specs.Prelude.{ℕ, Option}
 use Rattle.std.specs.Coded.{Coded, Coded-set, coded_option, Π_prop, →_prop, le_prop}
 use Rattle.records.specs.contracts.row.Row as row

@@ -70,8 +70,8 @@ impl RowMemory {
         }
     }
 
-    /// Remembers the row at a kind and key, or that there is none, unless it is of another kind or too long, or memory is
-    /// refused.
+    /// Remembers the row at a kind and key, or that there is none, unless it is of another kind or too long, or
+    /// memory is refused.
     pub fn keep(&mut self, kind: Kind, key: &str, row: Option<&Row>)
         ensures { (rows : Rows) → Agrees self.old rows
             → option_map (λ r. r.now) row.entry ≡ map.get rows (kind, key.now) → Agrees self.new rows }

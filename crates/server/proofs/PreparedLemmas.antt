@@ -24,7 +24,8 @@ no_clock : HasNoClock empty
 no_clock = get-empty key_cmp _
 
 -- a store without a row was started, and its rows are those of a broker
-pub new_broker : (moment : ℕ) (words : Words) (before after : Rows) (root : Option Text) → IsPrepared moment words before after root → before ≡ empty → (b : Broker) × Represents None after b
+pub new_broker : (moment : ℕ) (words : Words) (before after : Rows) (root : Option Text)
+    → IsPrepared moment words before after root → before ≡ empty → (b : Broker) × Represents None after b
 new_broker moment words before after None it none = absurd (it.started (subst HasNoClock (sym none) no_clock))
 new_broker moment words before after (Some token) it none = (_, it.broker)
 
@@ -33,34 +34,43 @@ pub if_none : {X : Type 0} {P : Type 0} (o : Option X) → o ≡ None → IfNone
 if_none {X = X} {P = P} o is p = subst (λ (q : Option X). IfNone q P) is p
 
 -- a store was started, or those of the records open as a broker's: its rows are those of a broker
-pub sound_broker : (moment : ℕ) (words : Words) (before after : Rows) (root : Option Text) → IsPrepared moment words before after root
+pub sound_broker : (moment : ℕ) (words : Words) (before after : Rows) (root : Option Text)
+    → IsPrepared moment words before after root
     → HasNoClock before ⊎ OpenAsABroker before → (b : Broker) × Represents None after b
 sound_broker moment words before after (Some token) it opens = (_, it.broker)
 sound_broker moment words before after None it (inl none) = absurd (it.started none)
 sound_broker moment words before after None it (inr opens) =
-    let one : table_of opens.0 ≡ table_of after = one_table (table_of before) (table_of opens.0) (table_of after) opens.1 it.upgraded in
+    let one : table_of opens.0 ≡ table_of after =
+    one_table (table_of before) (table_of opens.0) (table_of after) opens.1 it.upgraded in
     subst (λ (rows : Rows). (b : Broker) × Represents None rows b) (table_of-injective opens.0 after one) opens.2
 
 -- the records were checked, and made ready after that
-pub checked_broker : (moment : ℕ) (words : Words) (records checked store : Kept) (root : Option Text) → checked.mismatches ≤ store.mismatches
-    → (IsHonestStore checked → HasNoClock records.rows ⊎ OpenAsABroker records.rows) → (IsHonestStore checked → checked.rows ≡ records.rows)
+pub checked_broker : (moment : ℕ) (words : Words) (records checked store : Kept) (root : Option Text)
+    → checked.mismatches ≤ store.mismatches
+    → (IsHonestStore checked → HasNoClock records.rows ⊎ OpenAsABroker records.rows)
+    → (IsHonestStore checked → checked.rows ≡ records.rows)
     → (IsHonestStore store → IsPrepared moment words checked.rows store.rows root) → IsHonestStore store
     → IsPrepared moment words records.rows store.rows root × ((b : Broker) × Represents None store.rows b)
 checked_broker moment words records checked store root less opens same prepared honest =
     let before : IsHonestStore checked = omega (arith, less, honest) in
-    let of_records = subst (λ (rows : Rows). IsPrepared moment words rows store.rows root) (same before) (prepared honest) in
+    let of_records = subst (λ (rows : Rows). IsPrepared moment words rows store.rows root) (same before)
+    (prepared honest) in
     (of_records, sound_broker moment words records.rows store.rows root of_records (opens before))
 
--- A start is refused for its words, or for rows that are there: they are not, as long as the storage returned what was written.
-pub refused : (found mid last : Kept) (a b : ℕ) → found.mismatches ≤ mid.mismatches → mid.mismatches ≤ last.mismatches → (IsHonestStore mid → found.rows ≡ empty)
-    → (IsHonestStore mid → mid.rows ≡ found.rows) → (IsHonestStore last → (mid.rows ≢ empty) ⊎ (a ≡ b)) → a ≢ b → IsHonestStore last → ⊥
+-- A start is refused for its words, or for rows that are there: they are not, as long as the storage returned what was
+-- written.
+pub refused : (found mid last : Kept) (a b : ℕ) → found.mismatches ≤ mid.mismatches → mid.mismatches ≤ last.mismatches
+    → (IsHonestStore mid → found.rows ≡ empty)
+    → (IsHonestStore mid → mid.rows ≡ found.rows) → (IsHonestStore last → (mid.rows ≢ empty) ⊎ (a ≡ b)) → a ≢ b
+    → IsHonestStore last → ⊥
 refused found mid last a b first second none same told differ honest =
     let before : IsHonestStore mid = omega (arith, second, honest) in
     elim (told honest) [ inl some ↦ some (same before ∙ none before) | inr equal ↦ differ equal ]
 
 -- ---- a store that was adopted has the rows of the records, upgraded
 
-module _ (records store : Kept) (adopted : IsHonestStore store → AreUpgraded (table_of records.rows) (table_of store.rows)) where
+module _ (records store : Kept) (adopted : IsHonestStore store
+    → AreUpgraded (table_of records.rows) (table_of store.rows)) where
   pub opened : (last : Kept) → store.mismatches ≤ last.mismatches → (IsHonestStore last → ¬ HasNoClock store.rows)
       → (IsHonestStore last → last.rows ≡ store.rows) → IsHonestStore last → IsOpened records.rows last.rows
   opened last less started same honest =
@@ -71,16 +81,20 @@ module _ (records store : Kept) (adopted : IsHonestStore store → AreUpgraded (
         upgraded = subst (λ (r : Rows). AreUpgraded (table_of records.rows) (table_of r)) (sym (same honest)) up;
       }
 
-  pub no_rows : (mid : Kept) → store.mismatches ≤ mid.mismatches → (IsHonestStore mid → store.rows ≡ empty) → IsHonestStore mid
+  pub no_rows : (mid : Kept) → store.mismatches ≤ mid.mismatches → (IsHonestStore mid → store.rows ≡ empty)
+      → IsHonestStore mid
       → records.rows ≡ empty
   no_rows mid less none honest =
       let before : IsHonestStore store = omega (arith, less, honest) in
       empty_before records.rows store.rows (adopted before) (none honest)
 
-  pub begun : (moment : ℕ) (words : Words) (token : Text) (mid last : Kept) → store.mismatches ≤ mid.mismatches → mid.mismatches ≤ last.mismatches
+  pub begun : (moment : ℕ) (words : Words) (token : Text) (mid last : Kept) → store.mismatches ≤ mid.mismatches
+      → mid.mismatches ≤ last.mismatches
       → (IsHonestStore mid → store.rows ≡ empty) → slice_index words.0 1 ≢ slice_index words.0 2
-      → (IsHonestStore last → Represents None last.rows (first_broker moment (slice_index words.0 1) (slice_index words.0 2)))
-      → token ≡ token_text (id (slice_index words.0 1)) → IsHonestStore last → IsStarted moment words records.rows last.rows token
+      → (IsHonestStore last
+      → Represents None last.rows (first_broker moment (slice_index words.0 1) (slice_index words.0 2)))
+      → token ≡ token_text (id (slice_index words.0 1)) → IsHonestStore last
+      → IsStarted moment words records.rows last.rows token
   begun moment words token mid last first second none differ broker root honest =
       let between : IsHonestStore mid = omega (arith, second, honest) in
       record { empty = no_rows mid first none between; differ = differ; broker = broker honest; root = root }

@@ -1,5 +1,6 @@
 -- What one turn or closing leaves, and then others.
-use Rattle.std.proofs.Common.{◌≡◌, ◌≢◌, ◌≤◌, ◌∙◌, inl, inr, ⊎_elim, ℕ, Some, List, [], ◌∷◌, ◌++◌, Result, Ok, Err, IsTrue, IfErr, MatchResult, Bool, true, false, ap, sym, subst, refl, append-nil, arith}
+use Rattle.std.proofs.Common.{◌≡◌, ◌≢◌, ◌≤◌, ◌∙◌, inl, inr, ⊎_elim, ℕ, Some, List, [], ◌∷◌, ◌++◌, Result, Ok, Err}
+use Rattle.std.proofs.Common.{IsTrue, IfErr, MatchResult, Bool, true, false, ap, sym, subst, refl, append-nil, arith}
 use Rattle.std.proofs.lemmas.Bool.{cases_lt}
 use Rattle.std.proofs.lemmas.Map.{update_apart}
 use Rattle.broker_types.specs.declared.fault.Fault.{Fault}
@@ -25,7 +26,8 @@ use Rattle.server.specs.Serving.{ClosesSome, LeavesBelow, LeavesSeen, LeavesServ
 
 -- ---- nothing is done
 
-pub leaves_none : {A S : Type 0} (seen : S → Kept) (X : List Event → Type 0) (a : A) (hub : Hub S) → X [] → LeavesServed seen X (Ok a) hub hub
+pub leaves_none : {A S : Type 0} (seen : S → Kept) (X : List Event → Type 0) (a : A) (hub : Hub S) → X []
+    → LeavesServed seen X (Ok a) hub hub
 leaves_none seen X a hub x = record {
   steps = [];
   between = steps_none seen X hub x;
@@ -48,12 +50,14 @@ honest_before : (a b : Kept) → IsLater a b → IsHonestStore b → IsHonestSto
 honest_before a b later honest = omega (arith, later.mismatches, honest)
 
 -- whether the storage can be asked, after two calls
-open_on : {B : Type 0} (r : Result B Fault) (x m o : Bool) → MatchResult r (λ _. x ≡ m) (λ fault. fault ≢ Storage → x ≡ m) → m ≡ o
+open_on : {B : Type 0} (r : Result B Fault) (x m o : Bool)
+    → MatchResult r (λ _. x ≡ m) (λ fault. fault ≢ Storage → x ≡ m) → m ≡ o
     → MatchResult r (λ _. x ≡ o) (λ fault. fault ≢ Storage → x ≡ o)
 open_on (Ok b) x m o same first = same ∙ first
 open_on (Err fault) x m o same first = λ other. same other ∙ first
 
-pub leaves_on : {A B S : Type 0} (seen : S → Kept) (X Y Z : List Event → Type 0) (a : A) (r : Result B Fault) (old mid new : Hub S)
+pub leaves_on : {A B S : Type 0} (seen : S → Kept) (X Y Z : List Event → Type 0) (a : A) (r : Result B Fault)
+    (old mid new : Hub S)
     → Joins X Y Z → LeavesServed seen X (Ok a) old mid → LeavesServed seen Y r mid new → LeavesServed seen Z r old new
 leaves_on seen X Y Z a r old mid new joins first second =
     let before = honest_before (hub_store seen mid) (hub_store seen new) second.between.later in
@@ -62,11 +66,13 @@ leaves_on seen X Y Z a r old mid new joins first second =
       between = steps_on seen X Y Z first.steps second.steps old mid new joins first.between second.between;
       skipped = second.skipped;
       storage = second.storage;
-      stays_open = λ honest. open_on r (hub_store seen new).is_open (hub_store seen mid).is_open (hub_store seen old).is_open
+      stays_open = λ honest. open_on r (hub_store seen new).is_open (hub_store seen mid).is_open
+          (hub_store seen old).is_open
           (second.stays_open honest) (first.stays_open (before honest));
       wants = λ honest open_ w represents.
           let still = subst IsTrue (sym (first.stays_open (before honest))) open_ in
-          let one = first.between.worlds (before honest) (known_open (hub_store seen mid) first.steps still) w represents in
+          let one = first.between.worlds (before honest)
+          (known_open (hub_store seen mid) first.steps still) w represents in
           second.wants honest still one.after one.represents;
     }
 
@@ -81,7 +87,8 @@ pub closes_on : {S : Type 0} (seen : S → Kept) (old mid new : Hub S) → Close
     → ClosesSome seen old new
 closes_on seen old mid new first second = record {
   steps = first.steps ++ second.steps;
-  between = steps_on seen (λ events. events ≡ []) (λ events. events ≡ []) (λ events. events ≡ []) first.steps second.steps old mid new
+  between = steps_on seen (λ events. events ≡ []) (λ events. events ≡ [])
+      (λ events. events ≡ []) first.steps second.steps old mid new
       (none_joins (λ events. events ≡ [])) first.between second.between;
   same = second.same ∙ first.same;
 }
@@ -102,13 +109,16 @@ leaves_closes seen a old new closes = record {
 pub leaves_closing : {A B S : Type 0} (seen : S → Kept) (X : List Event → Type 0) (a : A) (b : B) (old mid new : Hub S)
     → LeavesServed seen X (Ok a) old mid → ClosesSome seen mid new → LeavesServed seen X (Ok b) old new
 leaves_closing seen X a b old mid new first closes =
-    leaves_on seen X (λ events. events ≡ []) X a (Ok b) old mid new (joins_none X) first (leaves_closes seen b mid new closes)
+    leaves_on seen X (λ events. events ≡ []) X a (Ok b) old mid new (joins_none X) first
+    (leaves_closes seen b mid new closes)
 
 -- closing, and then serving
-pub closing_leaves : {A S : Type 0} (seen : S → Kept) (X : List Event → Type 0) (r : Result A Fault) (old mid new : Hub S)
+pub closing_leaves : {A S : Type 0} (seen : S → Kept) (X : List Event → Type 0) (r : Result A Fault)
+    (old mid new : Hub S)
     → ClosesSome seen old mid → LeavesServed seen X r mid new → LeavesServed seen X r old new
 closing_leaves seen X r old mid new closes second =
-    leaves_on seen (λ events. events ≡ []) X X (tt {0}) r old mid new (none_joins X) (leaves_closes seen (tt {0}) old mid closes) second
+    leaves_on seen (λ events. events ≡ []) X X (tt {0}) r old mid new (none_joins X)
+    (leaves_closes seen (tt {0}) old mid closes) second
 
 -- all that was asked keeps the laws
 pub lawful : {A S : Type 0} (seen : S → Kept) (X : List Event → Type 0) (r : Result A Fault) (old new : Hub S)
@@ -166,7 +176,8 @@ allowed Storage is other = refl
 allowed Damaged is other = absurd is
 allowed BadStart is other = absurd is
 
-unwanted : {A B : Type 0} (end : Result A ConnectionFault) (r : Result B Fault) → IsUnskipped end r → IfErr end IsAllowed
+unwanted : {A B : Type 0} (end : Result A ConnectionFault) (r : Result B Fault) → IsUnskipped end r
+    → IfErr end IsAllowed
     → IfErr r (λ fault. fault ≡ Storage)
 unwanted (Ok a) (Ok b) is want = tt
 unwanted (Err end) (Ok b) is want = tt
@@ -175,17 +186,21 @@ unwanted (Err end) (Err fault) is want =
     let e : end ≡ Broker fault = cc is.0 in
     allowed fault (subst IsAllowed e want) is.1
 
-pub leaves_turn : {B S : Type 0} (seen : S → Kept) (before after : Link) (Reads Sends : List ℕ → Type 0) (Draws : List Event → Type 0)
-    (ReadFails WriteFails : Type 0) (end : Result Turn ConnectionFault) (r : Result B Fault) (old new : Hub S) → IsUnskipped end r
+pub leaves_turn : {B S : Type 0} (seen : S → Kept) (before after : Link) (Reads Sends : List ℕ → Type 0)
+    (Draws : List Event → Type 0)
+    (ReadFails WriteFails : Type 0) (end : Result Turn ConnectionFault) (r : Result B Fault) (old new : Hub S)
+    → IsUnskipped end r
     → TurnsLink seen before after Reads Sends Draws ReadFails WriteFails end old new → LeavesServed seen Draws r old new
 leaves_turn seen before after Reads Sends Draws ReadFails WriteFails end r old new is t =
-    let turned = steps_turned seen (number_of before) Reads (Passes Sends (unsent before) (unsent after)) Draws old new end t.keeps.later t.took in
+    let turned = steps_turned seen (number_of before) Reads
+    (Passes Sends (unsent before) (unsent after)) Draws old new end t.keeps.later t.took in
     record {
       steps = turned.0;
       between = turned.1;
       skipped = skipped_by end r is;
       storage = λ e. t.keeps.storage (storage_by end r is e);
-      stays_open = λ honest. open_by end r (hub_store seen new).is_open (hub_store seen old).is_open is (t.keeps.stays_open honest);
+      stays_open = λ honest. open_by end r (hub_store seen new).is_open (hub_store seen old).is_open is
+          (t.keeps.stays_open honest);
       wants = λ honest open_ w represents. unwanted end r is (t.keeps.wants honest w represents);
     }
 
@@ -204,7 +219,8 @@ closes_one seen conn old new worlds same =
 
 -- ---- which connections are left
 
-pub below_all : {S : Type 0} (first : ℕ) (all : Connections) (hub : Hub S) → ConnectionsRepresent hub all → LeavesBelow first all hub
+pub below_all : {S : Type 0} (first : ℕ) (all : Connections) (hub : Hub S) → ConnectionsRepresent hub all
+    → LeavesBelow first all hub
 below_all first all hub represents = record { after = all; represents = represents; below = λ k lt. refl }
 
 pub below_on : {S : Type 0} (first : ℕ) (all : Connections) (mid new : Hub S) → LeavesBelow first all mid
@@ -214,7 +230,8 @@ below_on first all mid new one next =
     record { after = other.after; represents = other.represents; below = λ k lt. other.below k lt ∙ one.below k lt }
 
 -- no other connection than this one changed
-pub below_others : {S : Type 0} (first conn : ℕ) (all : Connections) (new : Hub S) → first ≤ conn → LeavesOthers conn all new
+pub below_others : {S : Type 0} (first conn : ℕ) (all : Connections) (new : Hub S) → first ≤ conn
+    → LeavesOthers conn all new
     → LeavesBelow first all new
 below_others first conn all new le left = record {
   after = left.after;
@@ -232,11 +249,13 @@ below_closed first conn all new le (after, represents, left) = record {
 }
   where
     at : (k : ℕ) → k ≢ conn → LeavesClosed all conn after → after k ≡ all k
-    at k ne (inl is) = ap (λ (x : Connections). x k) is ∙ update_apart all conn (Some (record (history_at all conn) { closed = true })) k ne
+    at k ne (inl is) = ap (λ (x : Connections). x k) is
+        ∙ update_apart all conn (Some (record (history_at all conn) { closed = true })) k ne
     at k ne (inr same) = ap (λ (x : Connections). x k) same.1
 
 -- no number from the first on was seen before
-pub seen_below : {S : Type 0} (first : ℕ) (all : Connections) (new : Hub S) → IsNext all first → LeavesBelow first all new
+pub seen_below : {S : Type 0} (first : ℕ) (all : Connections) (new : Hub S) → IsNext all first
+    → LeavesBelow first all new
     → LeavesSeen all new
 seen_below first all new next left = record {
   after = left.after;

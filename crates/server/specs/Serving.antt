@@ -1,5 +1,6 @@
 -- What serving connections leaves of the hub, and which faults end it (this project's definition).
-use Rattle.std.specs.Prelude.{◌≡◌, ◌≢◌, ◌<◌, ℕ, Bool, true, false, List, [], Result, Err, IsTrue, IfErr, MatchResult, None}
+use Rattle.std.specs.Prelude.{◌≡◌, ◌≢◌, ◌<◌, ℕ, Bool, true, false, List, [], Result, Err, IsTrue, IfErr, MatchResult}
+use Rattle.std.specs.Prelude.{None}
 use Rattle.broker_types.specs.declared.fault.Fault.{Fault}
 use Rattle.broker_types.specs.declared.fault.Fault.TheVariants.{Memory, Storage, Damaged, BadStart}
 use Rattle.broker.specs.Kept.{Kept, IsHonestStore}
@@ -22,7 +23,8 @@ is_skipped Read = true
 is_skipped Write = true
 
 -- What serving leaves, whatever comes on the connections: there is one list of steps over all of them, with the moments
--- and words that were drawn. Running out of memory never ends it, and a failure of the storage only if the store failed.
+-- and words that were drawn. Running out of memory never ends it, and a failure of the storage only if the store
+-- failed.
 -- From a hub that represents a world, whose storage has returned what was written and could be asked, no other fault
 -- ends it than a failure of the storage. The storage can still be asked, unless it failed.
 pub record LeavesServed {A S : Type 0} (seen : S → Kept) (Draws : List Event → Type 0) (r : Result A Fault)

@@ -47,9 +47,9 @@ pub fn prepare<S: Alter + Drop>(
     Ok((store, Some(root)))
 }
 
-/// The same, and the store has the rows of a sound broker, whoever wrote the records: they are checked first, unless they
-/// lack the row of the clock, and refused for the first row that keeps them from being such rows. It fails as `prepare`
-/// does. The records are gone then; if they were refused, the rows are as before.
+/// The same, and the store has the rows of a sound broker, whoever wrote the records: they are checked first, unless
+/// they lack the row of the clock, and refused for the first row that keeps them from being such rows. It fails as
+/// `prepare` does. The records are gone then; if they were refused, the rows are as before.
 pub fn prepare_checked<S: Alter + Drop>(
     alloc: Global,
     mut records: SqlRecords<S>,

@@ -47,8 +47,9 @@ pub fn serve_in_memory(rt: &HostRuntime, settings: &Settings<'_>) -> Result<(), 
 /// root token on standard output. A file that is not there is made, for its owner alone; in one that is there, rows of
 /// keys in format 1 are rewritten in format 2. That a large one is opened is said on standard error first. It fails as
 /// `serve_in_memory` does; and with `Storage` if the file cannot be opened, or has another table than that of a broker,
-/// with `BadStart` if it has rows and none of the clock, and with `Damaged` if a row cannot be read. If files are checked,
-/// it fails with `Unsound` before it listens if the file has a broker that is not sound, and changes no row of it then.
+/// with `BadStart` if it has rows and none of the clock, and with `Damaged` if a row cannot be read. If files are
+/// checked, it fails with `Unsound` before it listens if the file has a broker that is not sound, and changes no row
+/// of it then.
 pub fn serve_file(rt: &HostRuntime, path: &str, settings: &Settings<'_>) -> Result<(), ServeError> {
     let log = begin_log(rt, settings)?;
     // If it is there, or cannot be made, opening it tells.

@@ -73,6 +73,7 @@ pub each_ends_more : (rows : Table) (old new : BTreeSet ℕ) (word : ℕ) (token
 each_ends_more rows old new word token more is ends each q has =
     elim (is_eq (nat_cmp word q))
     as (λ b. is_eq (nat_cmp word q) ≡ b → cond b true (contains nat_cmp old q) ≡ true → Ends rows (token_text (id q))) [
-      | true ↦ λ met _. subst (Ends rows) (is ∙ ap (λ w. token_text (id w)) (tells_apart nat_cmp-IsAntisymmetric word q met)) ends
+      | true ↦ λ met _. subst (Ends rows)
+          (is ∙ ap (λ w. token_text (id w)) (tells_apart nat_cmp-IsAntisymmetric word q met)) ends
       | false ↦ λ _ kept. each q kept
     ] refl (sym (more q) ∙ has)

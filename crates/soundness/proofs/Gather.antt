@@ -1,9 +1,11 @@
 -- Finite maps that are gathered from rows.
-use Rattle.std.specs.Prelude.{◌≡◌, ◌||◌, List, [], ◌∷◌, map, Bool, true, false, cond, Option, Some, None, option_map, is_some}
+use Rattle.std.specs.Prelude.{◌≡◌, ◌||◌, List, [], ◌∷◌, map, Bool, true, false, cond, Option, Some, None, option_map}
+use Rattle.std.specs.Prelude.{is_some}
 use Rattle.std.specs.declared.cmp.Ordering.{Ordering}
 use Rattle.std.specs.Cmp.{IsTotalOrder, eq_by_cmp_equiv}
 use Rattle.std.specs.Cmp.Lexicographic.{nat_list_cmp_total}
-use Rattle.std.specs.FinMap.{FinMap, IsAntisymmetric, get, insert, empty, entries, get-empty, get-insert, contains_key-keys}
+use Rattle.std.specs.FinMap.{FinMap, IsAntisymmetric, get, insert, empty, entries, get-empty, get-insert}
+use Rattle.std.specs.FinMap.{contains_key-keys}
 use Rattle.std.specs.FinMap.{slice_cmp-IsAntisymmetric, nat_cmp-IsAntisymmetric}
 use Rattle.std.specs.List.{list_any}
 use Rattle.std.specs.Ordering.{eq_by_cmp}
@@ -63,7 +65,8 @@ module _ {K X : Type 0} {R : K → K → Ordering} where
 
 -- ---- maps of what a function has at keys that rows tell
 
-among : {K : Type 0} {R : K → K → Ordering} → IsTotalOrder R → (tell : RowKey → K) (es : List (RowKey × Row)) (key : RowKey)
+among : {K : Type 0} {R : K → K → Ordering} → IsTotalOrder R
+    → (tell : RowKey → K) (es : List (RowKey × Row)) (key : RowKey)
     → list_any (eq_by_cmp key_cmp key) (map (λ e. e.0) es) ≡ true
     → list_any (eq_by_cmp R (tell key)) (map (λ e. tell e.0) es) ≡ true
 among {R = R} o tell [] key h = absurd (false≢true h)

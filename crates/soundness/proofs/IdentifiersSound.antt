@@ -87,7 +87,8 @@ module _ (rows : Rows) (s : AreSound (table_of rows)) where
   prefixed key t i j is text had =
       subst (IsHad at s.identifiers.0 key) (sym (is ∙ ap token_identifier text ∙ after_prefix j)) had
 
-  held_row_at : (q : Text) (h : Held) → get (read.held_map rows s) q ≡ Some h → at kind.Lease q ≡ Some (lease_row h.0 h.1)
+  held_row_at : (q : Text) (h : Held) → get (read.held_map rows s) q ≡ Some h
+      → at kind.Lease q ≡ Some (lease_row h.0 h.1)
   held_row_at q h is = read.held_told rows s q ∙ ap (option_map (read.held_row rows s)) is
 
   at_place : (p : Place) (i : Text) → identifier_at b p ≡ Some i → IsRowOfPlace p i
@@ -148,7 +149,8 @@ module _ (rows : Rows) (s : AreSound (table_of rows)) where
         one_place = λ p q i in_p in_q.
             let of_p = at_place p i in_p in
             let of_q = at_place q i in_q in
-            sym of_p.1 ∙ ap (place_of at) (one_row at s.identifiers.0 (key_of p i) (key_of q i) i of_p.0 of_q.0) ∙ of_q.1;
+            sym of_p.1 ∙ ap (place_of at) (one_row at s.identifiers.0 (key_of p i) (key_of q i) i of_p.0 of_q.0)
+            ∙ of_q.1;
         all_used = λ p i e. marked i (at_place p i e).0.3;
         origins_used = λ t w is. marked w.origin (origin_had rows s t w is).3;
       }

@@ -12,7 +12,8 @@ use Rattle.broker_types.specs.Limits.{greatest_version}
 use Rattle.broker_types.specs.Map.{get}
 use Rattle.broker_types.specs.MapLaws.{valued_is}
 use Rattle.broker_types.specs.Secret.{Version}
-use Rattle.broker_types.specs.Sound.{IsSoundKey, IsSoundVersion, IsCustomPair, IsSoundWaiting, SoundSecrets, SoundWaiting}
+use Rattle.broker_types.specs.Sound.{IsSoundKey, IsSoundVersion, IsCustomPair, IsSoundWaiting, SoundSecrets}
+use Rattle.broker_types.specs.Sound.{SoundWaiting}
 use Rattle.broker_types.specs.Broker.{Waiting}
 use Rattle.broker_model.specs.Forms.{forms}
 use Rattle.records.specs.declared.kind.Kind.TheVariants as kind

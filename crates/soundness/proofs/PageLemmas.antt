@@ -11,7 +11,8 @@ use Rattle.std.specs.Ordering.{nat_cmp, is_eq, is_ge, is_le, ordering_then}
 use Rattle.std.proofs.Common.{refl, sym, ◌∙◌, ap, subst, arith}
 use Rattle.std.proofs.lemmas.Bool.{and_parts, false≢true}
 use Rattle.std.proofs.lemmas.List.{take-append-drop, take_all, length-take}
-use Rattle.std.proofs.lemmas.List.Elements.{All-contains, All-contains_itself, Contains-append_left, Contains-append_right}
+use Rattle.std.proofs.lemmas.List.Elements.{All-contains, All-contains_itself, Contains-append_left}
+use Rattle.std.proofs.lemmas.List.Elements.{Contains-append_right}
 use Rattle.broker_types.specs.Text.{Text, text_cmp}
 use Rattle.records.specs.declared.kind.Kind.{Kind}
 use Rattle.records.specs.declared.row.Row.{Row}
@@ -102,7 +103,8 @@ module _ (rows : Rows) (k : Kind) (from : Text) (count : ℕ) (page : List (RowK
   listed_sorted : T (is_sorted key_cmp listed)
   listed_sorted =
       is_sorted-where_key key_cmp (λ x. is_ge (text_cmp x.1 from)) (rows_under rows k [])
-      (is_sorted-where_key key_cmp (λ x. is_of_kind k x && starts_with nat_eq x.1 []) (entries rows) (entries_sorted rows))
+      (is_sorted-where_key key_cmp (λ x. is_of_kind k x && starts_with nat_eq x.1 []) (entries rows)
+      (entries_sorted rows))
 
   -- a page that is not full has all
   pub short_page : length page < count → (q : Text) (row : Row) → get rows (k, q) ≡ Some row

@@ -66,10 +66,12 @@ module _ (rows : Rows) (s : AreSound (table_of rows)) where
       get-secrets name ∙ ap (option_map (read.key_of rows s name)) key in
       let version : fin.get (read.versions rows s name) n ≡ Some v.0 =
       read.get-versions rows s name n
-      ∙ ap (λ b. if b then get (read.version_map rows s) (version_key name n) else None) (le-leb n greatest_version within)
+      ∙ ap (λ b. if b then get (read.version_map rows s) (version_key name n) else None)
+      (le-leb n greatest_version within)
       ∙ ap (get (read.version_map rows s)) (sym good.is_key) ∙ v.1 in
       ap (λ z. option_and_then (version_at secrets) (split_once line_feed z)) good.is_key
-      ∙ ap (option_and_then (version_at secrets)) (split-lacking line_feed name (padded n) (name_lacks name key_at.name))
+      ∙ ap (option_and_then (version_at secrets))
+      (split-lacking line_feed name (padded n) (name_lacks name key_at.name))
       ∙ (λ i. version_row_of (secret i) (version_of_digits-padded n within i))
       ∙ ap (option_map version_row) version ∙ ap Some (sym v.2)
 
@@ -77,7 +79,8 @@ module _ (rows : Rows) (s : AreSound (table_of rows)) where
   read_version : (name : Text) (n : ℕ) (v : Version) → n ≤ greatest_version → read.version_read rows s name n ≡ Some v
       → get (read.version_map rows s) (version_key name n) ≡ Some v
   read_version name n v within is =
-      ap (λ b. if b then get (read.version_map rows s) (version_key name n) else None) (sym (le-leb n greatest_version within))
+      ap (λ b. if b then get (read.version_map rows s) (version_key name n) else None)
+      (sym (le-leb n greatest_version within))
       ∙ is
 
   version_of : (q : Text) (r : Row) (p : Text × Text) (n : ℕ) (k : Key) → split_once line_feed q ≡ Some p
@@ -108,7 +111,8 @@ module _ (rows : Rows) (s : AreSound (table_of rows)) where
               sym (ap (version_row_of (get secrets p.0.0)) n.1) ∙ at_p in
               elim (found_or_not (get secrets p.0.0)) [
                 | inl none ↦ absurd (none-some _ (sym (ap (λ k. version_row_of k (Some n.0)) none) ∙ at_n))
-                | inr k ↦ version_of q r p.0 n.0 k.0 p.1 n.1 k.1 (sym (ap (λ k. version_row_of k (Some n.0)) k.1) ∙ at_n)
+                | inr k ↦ version_of q r p.0 n.0 k.0 p.1 n.1 k.1
+                    (sym (ap (λ k. version_row_of k (Some n.0)) k.1) ∙ at_n)
               ]
         ]
   ]

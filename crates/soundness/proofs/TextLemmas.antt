@@ -149,6 +149,7 @@ pub printed_object : (text : Text) (d : Data) → tree text ≡ Some d → is_so
 unfolding is_object
 printed_object text d reads holds printed =
     let o = object_of d holds in
-    ap (λ o. option_map_or (λ ms. same (compact_text (object ms)) text) (option_and_then members_in o) false) (read_as text d reads)
+    ap (λ o. option_map_or (λ ms. same (compact_text (object ms)) text) (option_and_then members_in o) false)
+    (read_as text d reads)
     ∙ ap (λ o. option_map_or (λ ms. same (compact_text (object ms)) text) o false) o.1
     ∙ ap (λ z. same (compact_text z) text) o.2 ∙ printed

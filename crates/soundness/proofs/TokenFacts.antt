@@ -23,7 +23,8 @@ use Rattle.records.specs.Rows.{token_len}
 use Rattle.records.specs.Table.{Table, table_of}
 use Rattle.records.specs.TokenEntry.{TokenEntry, token_entry}
 use Rattle.records.specs.Transaction.{Rows}
-use Rattle.records.proofs.RowLemmas.{entry_row-injective, lease_row-injective, waiting_row-injective, key_entry_row-injective}
+use Rattle.records.proofs.RowLemmas.{entry_row-injective, lease_row-injective, waiting_row-injective}
+use Rattle.records.proofs.RowLemmas.{key_entry_row-injective}
 use Rattle.soundness.specs.RowRules.{Held}
 use Rattle.soundness.specs.SoundRows.{AreSound, Places, IsHad}
 use Rattle.soundness.proofs.ReadBack as read
@@ -61,7 +62,8 @@ module _ (rows : Rows) (s : AreSound (table_of rows)) where
   pub token_long : (t : Text) (row : Row) → at kind.Token t ≡ Some row → length t ≡ token_len
   token_long t row is = length-token t (token_name t row is)
 
-  pub get-tokens : (t : Text) → get (read.tokens rows s) t ≡ option_map (read.token_of rows s t) (get (read.entry_map rows s) t)
+  pub get-tokens : (t : Text) → get (read.tokens rows s) t
+      ≡ option_map (read.token_of rows s t) (get (read.entry_map rows s) t)
   get-tokens t = get-map_values (read.token_of rows s) (read.entry_map rows s) t
 
   -- a token is that of its entry
@@ -104,7 +106,8 @@ module _ (rows : Rows) (s : AreSound (table_of rows)) where
   pub same_waiting : (t : Text) (w : Waiting) → IsWaitingInRange w → at kind.Waiting t ≡ Some (waiting_row w)
       → get (read.waiting rows s) t ≡ Some w
   same_waiting t w range is =
-      let y = mapped waiting_row (get (read.waiting rows s) t) (waiting_row w) (sym (read.waiting_told rows s t) ∙ is) in
+      let y = mapped waiting_row (get (read.waiting rows s) t) (waiting_row w)
+      (sym (read.waiting_told rows s t) ∙ is) in
       y.1 ∙ ap Some (sym (waiting_row-injective w y.0 range ((read.waiting_good rows s t y.0 y.1).in_range) y.2))
 
   pub same_held : (q : Text) (h : Held) → IsLeaseInRange h.1 → at kind.Lease q ≡ Some (lease_row h.0 h.1)
@@ -118,7 +121,8 @@ module _ (rows : Rows) (s : AreSound (table_of rows)) where
   pub same_key : (q : Text) (k : KeyEntry) → IsKeyInRange k → at kind.KvKey q ≡ Some (key_entry_row k)
       → get (read.key_map rows s) q ≡ Some k
   same_key q k range is =
-      let y = mapped key_entry_row (get (read.key_map rows s) q) (key_entry_row k) (sym (read.key_told rows s q) ∙ is) in
+      let y = mapped key_entry_row (get (read.key_map rows s) q) (key_entry_row k)
+      (sym (read.key_told rows s q) ∙ is) in
       y.1 ∙ ap Some (sym (key_entry_row-injective k y.0 range ((read.key_good rows s q y.0 y.1).in_range) y.2))
 
   -- ---- leases
@@ -132,10 +136,11 @@ module _ (rows : Rows) (s : AreSound (table_of rows)) where
           → option_and_then (read.of_owner rows s t) o ≡ Some l
           → o ≡ Some (t, l)
       by None e = absurd (none-some _ e)
-      by (Some h) e = elim (same h.0 t) as (λ v. same h.0 t ≡ v → (if v then Some h.1 else None) ≡ Some l → Some h ≡ Some (t, l)) [
-        | true ↦ λ own is. (λ i. Some (same_true h.0 t own i, same_Some _ _ is i))
-        | false ↦ λ _ none. absurd (none-some _ none)
-      ] refl e
+      by (Some h) e = elim (same h.0 t) as (λ v. same h.0 t ≡ v → (if v then Some h.1 else None) ≡ Some l
+          → Some h ≡ Some (t, l)) [
+            | true ↦ λ own is. (λ i. Some (same_true h.0 t own i, same_Some _ _ is i))
+            | false ↦ λ _ none. absurd (none-some _ none)
+          ] refl e
 
   -- and what is held is a lease of its token
   pub holder_has : (q : Text) (h : Held) → get (read.held_map rows s) q ≡ Some h

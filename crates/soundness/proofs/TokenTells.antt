@@ -16,7 +16,8 @@ use Rattle.records.specs.declared.kind.Kind.TheVariants as kind
 use Rattle.records.specs.declared.row.Row.{Row}
 use Rattle.records.specs.CubbyKeyLaws.{key_has_slash, key_token, key_path}
 use Rattle.records.specs.RowForms.{accessor_row, cubby_row, lease_row, credential_row}
-use Rattle.records.specs.Rows.{token_len, has_slash, object_row, has_lease, credential_is, lease_of_credential, token_rows}
+use Rattle.records.specs.Rows.{token_len, has_slash, object_row, has_lease, credential_is, lease_of_credential}
+use Rattle.records.specs.Rows.{token_rows}
 use Rattle.records.specs.Rows.{waiting_rows, or_else}
 use Rattle.records.specs.Splits.{slash}
 use Rattle.records.specs.Table.{Table, table_of}
@@ -27,7 +28,8 @@ use Rattle.cubbyhole.proofs.ObjectKeys.{key_parts, token_whole}
 use Rattle.soundness.specs.RowRules.{Named, Owned, Held}
 use Rattle.soundness.specs.SoundRows.{AreSound}
 use Rattle.soundness.proofs.ReadBack as read
-use Rattle.soundness.proofs.TokenFacts.{both_ways, token_is, token_here, token_long, same_entry, same_waiting, same_held}
+use Rattle.soundness.proofs.TokenFacts.{both_ways, token_is, token_here, token_long, same_entry, same_waiting}
+use Rattle.soundness.proofs.TokenFacts.{same_held}
 use Rattle.soundness.proofs.TokenFacts.{held_by, holder_has, entry_row_at}
 
 -- the row of an accessor says what it names
@@ -123,14 +125,16 @@ module _ (rows : Rows) (s : AreSound (table_of rows)) where
   object_row_at : (t path : Text) (y : Token) → get tokens t ≡ Some y → length t ≡ token_len
       → token_rows tokens kind.Cubby (t ++ slash ∷ path) ≡ option_map (cubby_row t) (get y.cubbyhole path)
   object_row_at t path y is long =
-      ap (λ v. if v then object_row tokens (take token_len (t ++ slash ∷ path)) (drop (token_len + 1) (t ++ slash ∷ path)) else None)
+      ap (λ v. if v then object_row tokens (take token_len (t ++ slash ∷ path))
+      (drop (token_len + 1) (t ++ slash ∷ path)) else None)
       (key_has_slash t path long)
       ∙ (λ i. object_row tokens (key_token t path long i) (key_path t path long i))
       ∙ ap (option_and_then (λ (z : Token). option_map (cubby_row t) (get z.cubbyhole path))) is
 
   object_there : (q : Text) (r : Row) → at kind.Cubby q ≡ Some r → token_rows tokens kind.Cubby q ≡ Some r
   object_there q r is =
-      let e = mapped (read.owned_row rows s) (get (read.object_map rows s) q) r (sym (read.object_told rows s q) ∙ is) in
+      let e = mapped (read.owned_row rows s) (get (read.object_map rows s) q) r
+      (sym (read.object_told rows s q) ∙ is) in
       let t = e.0.0 in
       let good = read.object_good rows s q e.0 e.1 in
       let here = token_here rows s t good.owner in
@@ -254,7 +258,8 @@ module _ (rows : Rows) (s : AreSound (table_of rows)) where
   one_lease : (c t : Text) (y : Token) → get tokens t ≡ Some y → OnePasses (credential_is c) y.leases
   one_lease c t y is q u l m in_q in_u p r =
       ap (λ (row : Row). row.owner) (same_Some _ _
-      (sym (credential_of c q (t, l) (lease_held t q y l is in_q) p) ∙ credential_of c u (t, m) (lease_held t u y m is in_u) r))
+      (sym (credential_of c q (t, l) (lease_held t q y l is in_q) p)
+      ∙ credential_of c u (t, m) (lease_held t u y m is in_u) r))
 
   one_leaser : (c : Text) → OnePasses (λ t x. not (is_none (lease_of_credential c x))) tokens
   one_leaser c t u x y in_t in_u p r =

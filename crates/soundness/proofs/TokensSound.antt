@@ -26,7 +26,8 @@ use Rattle.records.specs.Transaction.{Rows}
 use Rattle.soundness.specs.RowRules.{Owned}
 use Rattle.soundness.specs.SoundRows.{AreSound, EndsIn}
 use Rattle.soundness.proofs.ReadBack as read
-use Rattle.soundness.proofs.TokenFacts.{had_identifier, token_name, token_long, token_is, token_here, entry_row_at, held_by}
+use Rattle.soundness.proofs.TokenFacts.{had_identifier, token_name, token_long, token_is, token_here, entry_row_at}
+use Rattle.soundness.proofs.TokenFacts.{held_by}
 
 module _ (rows : Rows) (s : AreSound (table_of rows)) where
   abbrev at : Table
@@ -108,7 +109,8 @@ module _ (rows : Rows) (s : AreSound (table_of rows)) where
   abbrev step : ℕ → Option Token → Type 0
   step n o = option_map_or (λ (x : Token). option_map_or (ends_within n tokens) x.parent true) o true ≡ true
 
-  climbs : (n : ℕ) → ((p : Text) → EndsIn n at p → ends_within n tokens p ≡ true) → (x : TokenEntry) → x.parent ≢ Some []
+  climbs : (n : ℕ) → ((p : Text) → EndsIn n at p → ends_within n tokens p ≡ true) → (x : TokenEntry)
+      → x.parent ≢ Some []
       → (entry_row x).owner ≡ [] ⊎ EndsIn n at (entry_row x).owner
       → option_map_or (ends_within n tokens) x.parent true ≡ true
   climbs n above x filled ends = elim (found_or_not x.parent) [

@@ -76,8 +76,10 @@ module _ {B : Type 0} (first one two : Rows) (same_one : one ≡ first) (same_tw
         record { rooted = rooted; identifiers = identifier.1; origins = origin.1 },
         subst (Passed (table_of first) n) at (record {
           sound = sound;
-          identifier = subst (λ (m : Rows). HasItsIdentifier (table_of m) (noted n.identifiers) k q) same_one identifier.0;
-          origin = subst (λ (m : Rows). HasItsOrigin (table_of m) (noted n.origins) k q row) (same_two ∙ same_one) origin.0;
+          identifier = subst (λ (m : Rows). HasItsIdentifier (table_of m) (noted n.identifiers) k q) same_one
+              identifier.0;
+          origin = subst (λ (m : Rows). HasItsOrigin (table_of m) (noted n.origins) k q row)
+              (same_two ∙ same_one) origin.0;
           chain = end;
         }),
       )) chain
@@ -91,7 +93,8 @@ module _ {B : Type 0} (first now : Rows) (same : now ≡ first) (a b c : Notes) 
       → (EachEnds (table_of now) b.rooted → IfNone o (GoesOnFrom b c × Passed (table_of now) c e))
       → GoesOnFrom a c × All (Passed (table_of first) c) (take (i + 1) es)
   entry_more ends so done =
-      let here = subst (λ (m : Rows). EachEnds (table_of m) b.rooted → IfNone o (GoesOnFrom b c × Passed (table_of m) c e))
+      let here = subst (λ (m : Rows). EachEnds (table_of m) b.rooted
+      → IfNone o (GoesOnFrom b c × Passed (table_of m) c e))
       same done in
       let one = if_none o none (here (still_end (table_of first) a b so.0 ends)) in (
         notes_further a b c so.0 one.0,

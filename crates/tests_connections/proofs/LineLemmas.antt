@@ -1,5 +1,6 @@
 -- Three lines whose numbers differ.
-use Rattle.std.proofs.Common.{◌≡◌, ◌≢◌, ◌∙◌, ◌<◌, ℕ, zero, suc, List, [], ◌∷◌, ◌++◌, Result, Ok, is_ok, length, if◌then◌else◌, refl, sym, ap, arith}
+use Rattle.std.proofs.Common.{◌≡◌, ◌≢◌, ◌∙◌, ◌<◌, ℕ, zero, suc, List, [], ◌∷◌, ◌++◌, Result, Ok, is_ok, length}
+use Rattle.std.proofs.Common.{if◌then◌else◌, refl, sym, ap, arith}
 use Rattle.hub.specs.Links.{number_of}
 use Rattle.hub.specs.Ordering.{HaveNumbers, number_at}
 use Rattle.hub.specs.declared.order.Line.{Line}
@@ -9,7 +10,8 @@ pub pushed : {A U E : Type 0} (r : Result U E) (u : U) (old new : List A) (a : A
     → new ≡ (if is_ok r then old ++ a ∷ [] else old) → new ≡ old ++ a ∷ []
 pushed {A} {U} {E} r u old new a ok is = is ∙ ap (λ (x : Result U E). if is_ok x then old ++ a ∷ [] else old) ok
 
-pub three_numbers : {R W : Type 0} (a b c : Line R W) → number_of a.link ≢ number_of b.link → number_of a.link ≢ number_of c.link
+pub three_numbers : {R W : Type 0} (a b c : Line R W) → number_of a.link ≢ number_of b.link
+    → number_of a.link ≢ number_of c.link
     → number_of b.link ≢ number_of c.link → HaveNumbers (a ∷ b ∷ c ∷ [])
 three_numbers {R} {W} a b c ab ac bc = at
   where

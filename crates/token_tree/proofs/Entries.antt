@@ -1,10 +1,12 @@
 -- Rows of tokens in a list, by their texts.
-use Rattle.std.specs.Prelude.{◌≡◌, ◌<◌, ◌||◌, ◌++◌, ℕ, zero, suc, List, [], ◌∷◌, Bool, true, false, length, take, get_or, Some, Contains}
+use Rattle.std.specs.Prelude.{◌≡◌, ◌<◌, ◌||◌, ◌++◌, ℕ, zero, suc, List, [], ◌∷◌, Bool, true, false, length, take}
+use Rattle.std.specs.Prelude.{get_or, Some, Contains}
 use Rattle.std.specs.FinMap.{get}
 use Rattle.std.specs.List.{AllByRecursion, IsDistinct}
 use Rattle.std.proofs.Common.{refl, sym, ◌∙◌, ap, subst, arith}
 use Rattle.std.proofs.lemmas.Bool.{false≢true, or_left, or_right}
-use Rattle.std.proofs.lemmas.List.Elements.{All-contains, All-from_recursion, All-contains_itself, Contains-append_left, Contains-append_right}
+use Rattle.std.proofs.lemmas.List.Elements.{All-contains, All-from_recursion, All-contains_itself, Contains-append_left}
+use Rattle.std.proofs.lemmas.List.Elements.{Contains-append_right}
 use Rattle.broker_types.specs.Text.{Text, same}
 use Rattle.broker_types.specs.TextLaws.{same_self, same_true, same_equiv}
 use Rattle.records.specs.declared.kind.Kind.TheVariants as kind
@@ -38,14 +40,20 @@ has_texts (e ∷ es) = (or_left (same e.0.1 e.0.1) _ (same_self e.0.1), later es
     later (f ∷ fs) h = (or_right (same f.0.1 e.0.1) _ h.0, later fs h.1)
 
 pub has_text : (es : List (RowKey × Row)) (e : RowKey × Row) → Contains es e → has (texts es) e.0.1 ≡ true
-has_text es e at = All-contains (λ f. has (texts es) f.0.1 ≡ true) es e (All-from_recursion (λ f. has (texts es) f.0.1 ≡ true) es (has_texts es)) at
+has_text es e at = All-contains (λ f. has (texts es) f.0.1 ≡ true) es e
+    (All-from_recursion (λ f. has (texts es) f.0.1 ≡ true) es (has_texts es)) at
 
 -- and a text is that of an entry
-pub text_of : (es : List (RowKey × Row)) (t : Text) → has (texts es) t ≡ true → (e : RowKey × Row) × Contains es e × (e.0.1 ≡ t)
+pub text_of : (es : List (RowKey × Row)) (t : Text) → has (texts es) t ≡ true → (e : RowKey × Row) × Contains es e
+    × (e.0.1 ≡ t)
 text_of [] t h = absurd (false≢true h)
 text_of (e ∷ es) t h =
     or_cases (same t e.0.1) (has (texts es) t) ((e' : RowKey × Row) × Contains (e ∷ es) e' × (e'.0.1 ≡ t))
-    (λ is. (e, Contains-append_left (e ∷ []) es e (All-contains_itself (e ∷ []) 0 e (omega arith)), sym (same_true t e.0.1 is)))
+    (λ is. (
+      e,
+      Contains-append_left (e ∷ []) es e (All-contains_itself (e ∷ []) 0 e (omega arith)),
+      sym (same_true t e.0.1 is),
+    ))
     (λ rest. let f = text_of es t rest in (f.0, Contains-append_right (e ∷ []) es f.0 f.1, f.2)) h
 
 texts-append : (es fs : List (RowKey × Row)) → texts (es ++ fs) ≡ texts es ++ texts fs
@@ -54,7 +62,8 @@ texts-append (e ∷ es) fs = ap (λ l. e.0.1 ∷ l) (texts-append es fs)
 
 -- ---- each text once
 
-all_append : (P : Text → Type 0) (xs ys : List Text) → AllByRecursion P xs → AllByRecursion P ys → AllByRecursion P (xs ++ ys)
+all_append : (P : Text → Type 0) (xs ys : List Text) → AllByRecursion P xs → AllByRecursion P ys
+    → AllByRecursion P (xs ++ ys)
 all_append P [] ys a b = b
 all_append P (x ∷ xs) ys a b = (a.0, all_append P xs ys a.1 b)
 
@@ -78,7 +87,8 @@ once_append (x ∷ xs) ys a b apart = (
 -- two lists of entries with no text in both
 pub once-append : (es fs : List (RowKey × Row)) → IsDistinct same (texts es) → IsDistinct same (texts fs)
     → ((t : Text) → has (texts es) t ≡ true → has (texts fs) t ≡ true → ⊥) → IsDistinct same (texts (es ++ fs))
-once-append es fs a b apart = subst (IsDistinct same) (sym (texts-append es fs)) (once_append (texts es) (texts fs) a b apart)
+once-append es fs a b apart = subst (IsDistinct same) (sym (texts-append es fs))
+    (once_append (texts es) (texts fs) a b apart)
 
 apart_at : (t : Text) (es : List (RowKey × Row)) (n : ℕ) (d : RowKey × Row) → n < length es
     → AllByRecursion (λ y. same t y ≡ false) (texts es) → same t (get_or es n d).0.1 ≡ false
@@ -101,13 +111,15 @@ none_before (e ∷ es) (suc n) d below once =
 
 module _ (rows : Rows) (es : List (RowKey × Row)) (tokens : AreTokens rows es) where
   -- an entry is that of a token
-  pub entry_is : (e : RowKey × Row) → Contains es e → (e ≡ ((kind.Token, e.0.1), e.1)) × (get rows (kind.Token, e.0.1) ≡ Some e.1)
+  pub entry_is : (e : RowKey × Row) → Contains es e → (e ≡ ((kind.Token, e.0.1), e.1))
+      × (get rows (kind.Token, e.0.1) ≡ Some e.1)
   entry_is e at =
       let is = All-contains (λ e. (e.0.0 ≡ kind.Token) × (get rows e.0 ≡ Some e.1)) es e tokens.each at in
       ((λ i. ((is.0 i, e.0.1), e.1)), (λ i. get rows (sym is.0 i, e.0.1)) ∙ is.1)
 
   -- of the row at a text that they have
-  pub at_text : (t : Text) (row : Row) → get rows (kind.Token, t) ≡ Some row → has (texts es) t ≡ true → Contains es ((kind.Token, t), row)
+  pub at_text : (t : Text) (row : Row) → get rows (kind.Token, t) ≡ Some row → has (texts es) t ≡ true
+      → Contains es ((kind.Token, t), row)
   at_text t row is h =
       let e = text_of es t h in
       let here = entry_is e.0 e.1 in

@@ -1,5 +1,6 @@
 -- What the passes collect is what ends: what does so by itself, and each child of what ends.
-use Rattle.std.specs.Prelude.{◌≡◌, ℕ, zero, suc, List, [], ◌∷◌, Bool, true, false, not, ◌&&◌, ◌||◌, nat_lt, nat_le, Option, Some, None, unwrap_or}
+use Rattle.std.specs.Prelude.{◌≡◌, ℕ, zero, suc, List, [], ◌∷◌, Bool, true, false, not, ◌&&◌, ◌||◌, nat_lt, nat_le}
+use Rattle.std.specs.Prelude.{Option, Some, None, unwrap_or}
 use Rattle.std.specs.Prelude.{option_and_then}
 use Rattle.std.specs.Cmp.{both_ways}
 use Rattle.std.specs.List.{list_any, list_all}
@@ -27,7 +28,8 @@ owned : (p : Text → Bool) (o : Text) → of_owner p o ≡ true → p o ≡ tru
 owned p [] h = absurd (false≢true h)
 owned p (c ∷ o) h = h
 
-module _ (ts : Tokens) (s : Start) (gone : Text → Bool) (fate : IsFate ts s gone) (chains : ChainsEnd ts) (unnamed : get ts [] ≡ None) (ended : List Text)
+module _ (ts : Tokens) (s : Start) (gone : Text → Bool) (fate : IsFate ts s gone) (chains : ChainsEnd ts)
+    (unnamed : get ts [] ≡ None) (ended : List Text)
     (down : IsDescent s (listing ts) ended) where
   starts_at : (t : Text) (x : Token) → get ts t ≡ Some x → s (node t x) ≡ true → gone t ≡ true
   starts_at t x is h = fate.known t x is ∙ or_left _ _ h
@@ -36,7 +38,8 @@ module _ (ts : Tokens) (s : Start) (gone : Text → Bool) (fate : IsFate ts s go
   closed_at t x is h =
       elim (x.parent) as (λ p. x.parent ≡ p → of_owner gone (unwrap_or p []) ≡ true → gone t ≡ true) [
         | None ↦ λ _ v. absurd (false≢true v)
-        | Some p ↦ λ ip v. fate.known t x is ∙ or_right (s (node t x)) _ (ap (λ o. option_map_or gone o false) ip ∙ owned gone p v)
+        | Some p ↦ λ ip v. fate.known t x is ∙ or_right (s (node t x)) _
+            (ap (λ o. option_map_or gone o false) ip ∙ owned gone p v)
       ] refl h
 
   -- what is gone has a text, so its children are its own
@@ -45,23 +48,28 @@ module _ (ts : Tokens) (s : Start) (gone : Text → Bool) (fate : IsFate ts s go
   named (c ∷ p) v e = e
 
   -- a child of what ended, and what ends by itself
-  into : (q : Text) (x : Token) → get ts q ≡ Some x → (s (node q x) || of_owner (has ended) (unwrap_or x.parent [])) ≡ true → has ended q ≡ true
+  into : (q : Text) (x : Token) → get ts q ≡ Some x
+      → (s (node q x) || of_owner (has ended) (unwrap_or x.parent [])) ≡ true → has ended q ≡ true
   into q x is moves = settle _ _ (listed_at ts (λ e. goes s ended e ≡ false) q x is down.stay) moves
     where
       settle : (a b : Bool) → (not a && b) ≡ false → b ≡ true → a ≡ true
       settle true b e m = refl
       settle false b e m = absurd (false≢true (sym e ∙ m))
 
-  moved : (q : Text) (x : Token) (within : Text → Bool) → ((p : Text) → within p ≡ true → gone p ≡ true → has ended p ≡ true)
+  moved : (q : Text) (x : Token) (within : Text → Bool)
+      → ((p : Text) → within p ≡ true → gone p ≡ true → has ended p ≡ true)
       → option_map_or within x.parent true ≡ true
-      → (s (node q x) || option_map_or gone x.parent false) ≡ true → (s (node q x) || of_owner (has ended) (unwrap_or x.parent [])) ≡ true
+      → (s (node q x) || option_map_or gone x.parent false) ≡ true
+      → (s (node q x) || of_owner (has ended) (unwrap_or x.parent [])) ≡ true
   moved q x within later above v =
-      elim (s (node q x)) as (λ b. (b || option_map_or gone x.parent false) ≡ true → (b || of_owner (has ended) (unwrap_or x.parent [])) ≡ true) [
+      elim (s (node q x)) as (λ b. (b || option_map_or gone x.parent false) ≡ true
+      → (b || of_owner (has ended) (unwrap_or x.parent [])) ≡ true) [
         | true ↦ λ _. refl
-        | false ↦ λ w. elim (x.parent) as (λ p. option_map_or within p true ≡ true → option_map_or gone p false ≡ true → of_owner (has ended) (unwrap_or p []) ≡ true) [
-          | None ↦ λ _ e. absurd (false≢true e)
-          | Some p ↦ λ a e. named p e (later p a e)
-        ] above w
+        | false ↦ λ w. elim (x.parent) as (λ p. option_map_or within p true ≡ true → option_map_or gone p false ≡ true
+            → of_owner (has ended) (unwrap_or p []) ≡ true) [
+              | None ↦ λ _ e. absurd (false≢true e)
+              | Some p ↦ λ a e. named p e (later p a e)
+            ] above w
       ] v
 
   reached : (n : ℕ) (q : Text) → ends_within n ts q ≡ true → gone q ≡ true → has ended q ≡ true
@@ -70,7 +78,8 @@ module _ (ts : Tokens) (s : Start) (gone : Text → Bool) (fate : IsFate ts s go
       elim (found_or_not (get ts q)) [
         | inl none ↦ absurd (false≢true (sym (fate.unknown q none) ∙ h))
         | inr x ↦ into q x.0 x.1 (moved q x.0 (ends_within n ts) (reached n)
-            (sym (ap (λ o. option_map_or (λ (x : Token). option_map_or (ends_within n ts) x.parent true) o true) x.1) ∙ within)
+            (sym (ap (λ o. option_map_or (λ (x : Token). option_map_or (ends_within n ts) x.parent true) o true) x.1)
+            ∙ within)
             (sym (fate.known q x.0 x.1) ∙ h))
       ]
 
@@ -91,7 +100,8 @@ under_fate ts t chains = record {
   where
     at : (q : Text) (x : Token) → get ts q ≡ Some x → (p : Option Text) → x.parent ≡ p
         → is_under ts q t ≡ (same t q || option_map_or (λ p. is_under ts p t) x.parent false)
-    at q x is None ip = ap (list_any (same t)) (lineage_orphan ts q x is ip) ∙ sym (ap (λ o. same t q || option_map_or (λ p. is_under ts p t) o false) ip)
+    at q x is None ip = ap (list_any (same t)) (lineage_orphan ts q x is ip)
+        ∙ sym (ap (λ o. same t q || option_map_or (λ p. is_under ts p t) o false) ip)
     at q x is (Some p) ip = ap (list_any (same t)) (lineage_child ts q p x chains is ip)
         ∙ sym (ap (λ o. same t q || option_map_or (λ p. is_under ts p t) o false) ip)
 
@@ -122,10 +132,12 @@ module _ (now : ℕ) (ts : Tokens) (chains : ChainsEnd ts) where
   }
     where
       at : (q : Text) (x : Token) → get ts q ≡ Some x → (p : Option Text) → x.parent ≡ p
-          → not (is_alive now ts q) ≡ (has_come now (node q x) || option_map_or (λ p. not (is_alive now ts p)) x.parent false)
+          → not (is_alive now ts q)
+          ≡ (has_come now (node q x) || option_map_or (λ p. not (is_alive now ts p)) x.parent false)
       at q x is None ip =
           ap (λ l. not (list_all lasts l)) (lineage_orphan ts q x is ip) ∙ not_both (lasts q) true
           ∙ (λ i. ends_at q x is i || option_map_or (λ p. not (is_alive now ts p)) (sym ip i) false)
       at q x is (Some p) ip =
-          ap (λ l. not (list_all lasts l)) (lineage_child ts q p x chains is ip) ∙ not_both (lasts q) (list_all lasts (lineage ts p))
+          ap (λ l. not (list_all lasts l)) (lineage_child ts q p x chains is ip)
+          ∙ not_both (lasts q) (list_all lasts (lineage ts p))
           ∙ (λ i. ends_at q x is i || option_map_or (λ p. not (is_alive now ts p)) (sym ip i) false)

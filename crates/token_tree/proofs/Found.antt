@@ -1,12 +1,14 @@
 -- The rows that a walk found, in place of those of all tokens.
-use Rattle.std.specs.Prelude.{◌≡◌, ◌&&◌, not, ℕ, List, [], ◌∷◌, Bool, true, false, if◌then◌else◌, filter, nat_eq, None, Some}
+use Rattle.std.specs.Prelude.{◌≡◌, ◌&&◌, not, ℕ, List, [], ◌∷◌, Bool, true, false, if◌then◌else◌, filter, nat_eq, None}
+use Rattle.std.specs.Prelude.{Some}
 use Rattle.std.specs.Cmp.{both_ways}
 use Rattle.std.specs.FinMap.{get, entries}
 use Rattle.std.specs.FinMap as fin
 use Rattle.std.specs.List.{AllByRecursion, list_any, starts_with, IsDistinct}
 use Rattle.std.proofs.Common.{refl, sym, ◌∙◌, ap, subst}
 use Rattle.std.proofs.lemmas.Bool.{false≢true, and_parts, or_left}
-use Rattle.std.proofs.lemmas.List.Elements.{All-contains, All-from_recursion, recursion_from_All, Contains-get_or, filter_agree}
+use Rattle.std.proofs.lemmas.List.Elements.{All-contains, All-from_recursion, recursion_from_All, Contains-get_or}
+use Rattle.std.proofs.lemmas.List.Elements.{filter_agree}
 use Rattle.broker_types.specs.ListLaws.{any_contained, passing}
 use Rattle.broker_types.specs.Text.{Text, same}
 use Rattle.broker_types.specs.TextLaws.{same_self}
@@ -37,7 +39,8 @@ module _ (rows : Rows) (es : List (RowKey × Row)) (tokens : AreTokens rows es) 
   one_by_one : (fs : List (RowKey × Row)) → AllByRecursion (λ f. has (texts es) f.0.1 ≡ true) fs → (m : Rows)
       → without_each fs m ≡ without_ended (texts es) fs m
   one_by_one [] h m = refl
-  one_by_one (f ∷ fs) h m = one_by_one fs h.1 (without_token m f) ∙ (λ i. without_ended (texts es) fs (if sym h.0 i then without_token m f else m))
+  one_by_one (f ∷ fs) h m = one_by_one fs h.1 (without_token m f)
+      ∙ (λ i. without_ended (texts es) fs (if sym h.0 i then without_token m f else m))
 
   same_takes : (k : Kind) (q : Text) → list_any (takes (texts es) k q) es ≡ list_any (takes (texts es) k q) all
   same_takes k q = both_ways _ _ onto from
@@ -51,7 +54,8 @@ module _ (rows : Rows) (es : List (RowKey × Row)) (tokens : AreTokens rows es) 
       fails : (t : Text) (r : Row) → table_of rows kind.Token t ≡ Some r → list_any (takes (texts es) k q) es ≡ false
           → takes (texts es) k q (row_node (t, r)) ≡ false
       fails t r is none =
-          elim (takes (texts es) k q (row_node (t, r))) as (λ v. takes (texts es) k q (row_node (t, r)) ≡ v → v ≡ false) [
+          elim (takes (texts es) k q (row_node (t, r))) as
+          (λ v. takes (texts es) k q (row_node (t, r)) ≡ v → v ≡ false) [
             | true ↦ λ goes. absurd (false≢true (sym none ∙ any_contained (takes (texts es) k q) es (row_node (t, r))
                 (at_text rows es tokens t r is (and_parts (has (texts es) t) _ goes).0) goes))
             | false ↦ λ _. refl
@@ -60,7 +64,8 @@ module _ (rows : Rows) (es : List (RowKey × Row)) (tokens : AreTokens rows es) 
       from : list_any (takes (texts es) k q) all ≡ true → list_any (takes (texts es) k q) es ≡ true
       from h = elim (list_any (takes (texts es) k q) es) as (λ v. list_any (takes (texts es) k q) es ≡ v → v ≡ true) [
         | true ↦ λ _. refl
-        | false ↦ λ none. absurd (false≢true (sym (no_token_passes rows (takes (texts es) k q) (λ t r is. fails t r is none)) ∙ h))
+        | false ↦ λ none. absurd
+            (false≢true (sym (no_token_passes rows (takes (texts es) k q) (λ t r is. fails t r is none)) ∙ h))
       ] refl
 
   -- to take out what was found is to take out the ended among all
@@ -73,7 +78,8 @@ module _ (rows : Rows) (es : List (RowKey × Row)) (tokens : AreTokens rows es) 
       ∙ sym (table_of-without_ended (texts es) all rows k q)) i)
 
   pub found_readable : AllByRecursion IsTokenRow es → AreTokenRows (texts es) (table_of rows)
-  found_readable read t row h is = All-contains IsTokenRow es ((kind.Token, t), row) (All-from_recursion IsTokenRow es read) (at_text rows es tokens t row is h)
+  found_readable read t row h is = All-contains IsTokenRow es ((kind.Token, t), row)
+      (All-from_recursion IsTokenRow es read) (at_text rows es tokens t row is h)
 
   readable_found : AreTokenRows (texts es) (table_of rows) → AllByRecursion IsTokenRow es
   readable_found read = recursion_from_All IsTokenRow es (λ k d below.
@@ -82,7 +88,8 @@ module _ (rows : Rows) (es : List (RowKey × Row)) (tokens : AreTokens rows es) 
       subst IsTokenRow (sym is.0) (read _ _ (has_text es _ at) is.1))
 
   module _ (s : Start) (down : IsDescent s all (texts es)) where
-    pub found_ends : AllByRecursion IsTokenRow es → (new : Rows) → new ≡ without_each es rows → EndsDescent s rows (texts es) new
+    pub found_ends : AllByRecursion IsTokenRow es → (new : Rows) → new ≡ without_each es rows
+        → EndsDescent s rows (texts es) new
     found_ends read new is = record {
       descent = down;
       readable = found_readable read;
@@ -96,10 +103,12 @@ module _ (rows : Rows) (es : List (RowKey × Row)) (tokens : AreTokens rows es) 
 pub damaged_descent : (s : Start) (rows : Rows) → HasDamagedDescent s rows → IsDamagedDescent s rows
 damaged_descent s rows has_damage ended down read =
     has_damage.damage (λ t row gone is.
-    read t row (descent_within s (rows_under rows kind.Token []) has_damage.ended ended has_damage.descent down t gone) is)
+    read t row (descent_within s (rows_under rows kind.Token []) has_damage.ended ended has_damage.descent down t gone)
+    is)
 
 -- the rows of other kinds stay
-pub each_keeps : (es : List (RowKey × Row)) (rows : Rows) → KeepsOthers of_tokens (table_of rows) (table_of (without_each es rows))
+pub each_keeps : (es : List (RowKey × Row)) (rows : Rows)
+    → KeepsOthers of_tokens (table_of rows) (table_of (without_each es rows))
 each_keeps [] rows k q h = refl
 each_keeps (e ∷ es) rows k q h =
     each_keeps es (without_token rows e) k q h
@@ -118,7 +127,8 @@ module _ (rows : Rows) (t : Text) (row : Row) (is : get rows (kind.Token, t) ≡
 
   pub lone_token : AreTokens rows (((kind.Token, t), row) ∷ [])
   lone_token = record {
-    each = All-from_recursion (λ e. (e.0.0 ≡ kind.Token) × (get rows e.0 ≡ Some e.1)) (((kind.Token, t), row) ∷ []) ((refl, is), tt);
+    each = All-from_recursion (λ e. (e.0.0 ≡ kind.Token) × (get rows e.0 ≡ Some e.1)) (((kind.Token, t), row) ∷ [])
+        ((refl, is), tt);
     once = alone;
   }
 
@@ -127,7 +137,8 @@ module _ (rows : Rows) (t : Text) (row : Row) (is : get rows (kind.Token, t) ≡
   lone = ((kind.Token, t), row) ∷ []
 
   -- to take out its row is to take it out among all
-  pub lone_without : without_token rows ((kind.Token, t), row) ≡ without_ended (t ∷ []) (rows_under rows kind.Token []) rows
+  pub lone_without : without_token rows ((kind.Token, t), row)
+      ≡ without_ended (t ∷ []) (rows_under rows kind.Token []) rows
   lone_without = found_all rows lone (lone_token rows t row is)
 
   pub lone_readable : IsTokenRow ((kind.Token, t), row) → AreReadableEnded (t ∷ []) (rows_under rows kind.Token [])
@@ -156,13 +167,15 @@ module _ (t : Text) where
   orphans : (es : List (RowKey × Row)) (mid : Rows) → without_parent t (owned es) mid ≡ without_parent t (listed es) mid
   orphans [] mid = refl
   orphans (e ∷ es) mid =
-      elim (is_of_kind kind.Token e.0) as (λ v. without_parent t (if (v && same e.1.owner t) then e ∷ owned es else owned es) mid
+      elim (is_of_kind kind.Token e.0) as
+      (λ v. without_parent t (if (v && same e.1.owner t) then e ∷ owned es else owned es) mid
       ≡ without_parent t (if (v && starts_with nat_eq e.0.1 []) then e ∷ listed es else listed es) mid) [
         | true ↦ child (same e.1.owner t) refl (orphans es)
         | false ↦ orphans es mid
       ]
     where
-      child : (v : Bool) → same e.1.owner t ≡ v → ((m : Rows) → without_parent t (owned es) m ≡ without_parent t (listed es) m)
+      child : (v : Bool) → same e.1.owner t ≡ v
+          → ((m : Rows) → without_parent t (owned es) m ≡ without_parent t (listed es) m)
           → without_parent t (if v then e ∷ owned es else owned es) mid ≡ without_parent t (e ∷ listed es) mid
       child true h rest = rest (if is_child t e then fin.insert mid (kind.Token, e.0.1) (orphaned e.1) else mid)
       child false h rest =
@@ -190,7 +203,8 @@ module _ (t : Text) where
 pub no_children : (rows : Rows) → children rows [] ≡ []
 no_children rows = none (entries rows)
   where
-    none : (es : List (RowKey × Row)) → filter (λ e. is_of_kind kind.Token e.0 && of_owner (λ owner. same owner []) e.1.owner) es ≡ []
+    none : (es : List (RowKey × Row))
+        → filter (λ e. is_of_kind kind.Token e.0 && of_owner (λ owner. same owner []) e.1.owner) es ≡ []
     none [] = refl
     none (e ∷ es) =
         (λ i. if (is_of_kind kind.Token e.0 && nobody e.1.owner i)

@@ -30,7 +30,8 @@ abbrev pub listing : Tokens → List (RowKey × Row)
 listing ts = map (λ e. node e.0 e.1) (entries ts)
 
 -- what holds of the row of each token holds of each entry
-pub each_listed : (ts : Tokens) (P : RowKey × Row → Type 0) → ((t : Text) (x : Token) → get ts t ≡ Some x → P (node t x)) → AllByRecursion P (listing ts)
+pub each_listed : (ts : Tokens) (P : RowKey × Row → Type 0)
+    → ((t : Text) (x : Token) → get ts t ≡ Some x → P (node t x)) → AllByRecursion P (listing ts)
 each_listed ts P h = walk (entries ts) (each_entry (λ e. P (node e.0 e.1)) ts h)
   where
     walk : (es : List (Text × Token)) → All (λ e. P (node e.0 e.1)) es → AllByRecursion P (map (λ e. node e.0 e.1) es)
@@ -38,10 +39,12 @@ each_listed ts P h = walk (entries ts) (each_entry (λ e. P (node e.0 e.1)) ts h
     walk (e ∷ es) a = (All-head (λ e. P (node e.0 e.1)) e es a, walk es (All-tail (λ e. P (node e.0 e.1)) e es a))
 
 -- and the other way round
-pub listed_at : (ts : Tokens) (P : RowKey × Row → Type 0) (t : Text) (x : Token) → get ts t ≡ Some x → AllByRecursion P (listing ts) → P (node t x)
+pub listed_at : (ts : Tokens) (P : RowKey × Row → Type 0) (t : Text) (x : Token) → get ts t ≡ Some x
+    → AllByRecursion P (listing ts) → P (node t x)
 listed_at ts P t x is all = walk (entries ts) (sym (get-lookup ts t) ∙ is) all
   where
-    walk : (es : List (Text × Token)) → lookup (same t) es ≡ Some x → AllByRecursion P (map (λ e. node e.0 e.1) es) → P (node t x)
+    walk : (es : List (Text × Token)) → lookup (same t) es ≡ Some x → AllByRecursion P (map (λ e. node e.0 e.1) es)
+        → P (node t x)
     walk [] e a = absurd (none-some _ e)
     walk (e ∷ es) found a =
         elim (same t e.0) as (λ v. same t e.0 ≡ v → cond v (Some e.1) (lookup (same t) es) ≡ Some x → P (node t x)) [
@@ -50,6 +53,8 @@ listed_at ts P t x is all = walk (entries ts) (sym (get-lookup ts t) ∙ is) all
         ] refl found
 
 -- the rows of tokens are listed in the order of their texts
-pub lists_tokens : (b : Broker) (rows : Rows) → Tells of_tokens (table_of rows) b → rows_under rows kind.Token [] ≡ listing b.tokens
+pub lists_tokens : (b : Broker) (rows : Rows) → Tells of_tokens (table_of rows) b
+    → rows_under rows kind.Token [] ≡ listing b.tokens
 unfolding rows_of
-lists_tokens b rows tells = rows_under-listing kind.Token (λ (t : Text) (x : Token). token_row x) rows b.tokens (λ q. tells kind.Token q refl)
+lists_tokens b rows tells = rows_under-listing kind.Token (λ (t : Text) (x : Token). token_row x) rows b.tokens
+    (λ q. tells kind.Token q refl)

@@ -1,5 +1,6 @@
 -- The rows of tokens as a map, and what is said of them one by one.
-use Rattle.std.specs.Prelude.{◌≡◌, List, [], ◌∷◌, Bool, true, false, cond, ◌||◌, ◌&&◌, map, filter, nat_eq, Option, Some, None, option_map, All}
+use Rattle.std.specs.Prelude.{◌≡◌, List, [], ◌∷◌, Bool, true, false, cond, ◌||◌, ◌&&◌, map, filter, nat_eq, Option}
+use Rattle.std.specs.Prelude.{Some, None, option_map, All}
 use Rattle.std.specs.Cmp.Lexicographic.{nat_list_cmp_total}
 use Rattle.std.specs.FinMap as fin
 use Rattle.std.specs.FinMap.{find, from_entries, get-from_entries}
@@ -29,18 +30,21 @@ use Rattle.records.specs.Transaction.{Rows, rows_under}
 -- what one of the texts passes
 pub any_of : (p : Text → Bool) (list : List Text) (t : Text) → has list t ≡ true → p t ≡ true → list_any p list ≡ true
 any_of p [] t h g = absurd (false≢true h)
-any_of p (u ∷ us) t h g = elim (same t u) as (λ v. same t u ≡ v → (v || has us t) ≡ true → (p u || list_any p us) ≡ true) [
-  | true ↦ λ s _. or_left (p u) _ (ap p (sym (same_true t u s)) ∙ g)
-  | false ↦ λ _ r. or_right (p u) _ (any_of p us t r g)
-] refl h
+any_of p (u ∷ us) t h g =
+    elim (same t u) as (λ v. same t u ≡ v → (v || has us t) ≡ true → (p u || list_any p us) ≡ true) [
+      | true ↦ λ s _. or_left (p u) _ (ap p (sym (same_true t u s)) ∙ g)
+      | false ↦ λ _ r. or_right (p u) _ (any_of p us t r g)
+    ] refl h
 
 -- and a text that passes, if there is one
-pub some_of : (p : Text → Bool) (list : List Text) → list_any p list ≡ true → (t : Text) × (has list t ≡ true) × (p t ≡ true)
+pub some_of : (p : Text → Bool) (list : List Text) → list_any p list ≡ true → (t : Text) × (has list t ≡ true)
+    × (p t ≡ true)
 some_of p [] h = absurd (false≢true h)
-some_of p (u ∷ us) h = elim (p u) as (λ v. p u ≡ v → (v || list_any p us) ≡ true → (t : Text) × (has (u ∷ us) t ≡ true) × (p t ≡ true)) [
-  | true ↦ λ is _. (u, or_left (same u u) _ (same_self u), is)
-  | false ↦ λ _ g. let r = some_of p us g in (r.0, or_right (same r.0 u) _ r.1, r.2)
-] refl h
+some_of p (u ∷ us) h =
+    elim (p u) as (λ v. p u ≡ v → (v || list_any p us) ≡ true → (t : Text) × (has (u ∷ us) t ≡ true) × (p t ≡ true)) [
+      | true ↦ λ is _. (u, or_left (same u u) _ (same_self u), is)
+      | false ↦ λ _ g. let r = some_of p us g in (r.0, or_right (same r.0 u) _ r.1, r.2)
+    ] refl h
 
 -- ---- the map
 
@@ -57,12 +61,15 @@ is_token : (x : RowKey) → takes x ≡ true → x.0 ≡ kind.Token
 is_token x h = same_kind x.0 kind.Token (and_parts (is_of_kind kind.Token x) _ h).0
 
 found_listed : (q : Text) (es : List (RowKey × Row))
-    → find key_cmp (kind.Token, q) (filter (λ e. takes e.0) es) ≡ find text_cmp q (map unplaced (filter (λ e. takes e.0) es))
+    → find key_cmp (kind.Token, q) (filter (λ e. takes e.0) es)
+    ≡ find text_cmp q (map unplaced (filter (λ e. takes e.0) es))
 found_listed q [] = refl
 found_listed q (e ∷ es) =
-    elim (takes e.0) as (λ v. takes e.0 ≡ v → find key_cmp (kind.Token, q) (cond v (e ∷ filter (λ e. takes e.0) es) (filter (λ e. takes e.0) es))
+    elim (takes e.0) as (λ v. takes e.0 ≡ v
+    → find key_cmp (kind.Token, q) (cond v (e ∷ filter (λ e. takes e.0) es) (filter (λ e. takes e.0) es))
     ≡ find text_cmp q (map unplaced (cond v (e ∷ filter (λ e. takes e.0) es) (filter (λ e. takes e.0) es)))) [
-      | true ↦ λ is. ap (λ k. find key_cmp (kind.Token, q) (((k, e.0.1), e.1) ∷ filter (λ e. takes e.0) es)) (is_token e.0 is)
+      | true ↦ λ is. ap (λ k. find key_cmp (kind.Token, q) (((k, e.0.1), e.1) ∷ filter (λ e. takes e.0) es))
+          (is_token e.0 is)
           ∙ ap (cond _ (Some e.1)) (found_listed q es)
       | false ↦ λ _. found_listed q es
     ] refl
@@ -76,7 +83,8 @@ module _ (rows : Rows) where
   at_token q =
       get-from_entries nat_list_cmp_total _ q
       ∙ sym (found_listed q (fin.entries rows))
-      ∙ find-where_key key_cmp takes (kind.Token, q) (λ x e. ap takes (sym (key_cmp_exact (kind.Token, q) x e))) (fin.entries rows)
+      ∙ find-where_key key_cmp takes (kind.Token, q) (λ x e. ap takes (sym (key_cmp_exact (kind.Token, q) x e)))
+      (fin.entries rows)
       ∙ sym (fin.get-entries rows (kind.Token, q))
 
   same_row : (o : Option Row) → option_map (λ (r : Row). r) o ≡ o
@@ -85,12 +93,14 @@ module _ (rows : Rows) where
 
   -- the rows of tokens in the order of their texts
   pub listed_tokens : rows_under rows kind.Token [] ≡ map row_node (entries token_map)
-  listed_tokens = rows_under-listing kind.Token (λ (q : Text) (r : Row). r) rows token_map (λ q. sym (at_token q) ∙ sym (same_row (get token_map q)))
+  listed_tokens = rows_under-listing kind.Token (λ (q : Text) (r : Row). r) rows token_map
+      (λ q. sym (at_token q) ∙ sym (same_row (get token_map q)))
 
   -- ---- one row after the other
 
   -- what holds of each row of a token
-  pub each_token : (P : RowKey × Row → Type 0) → ((t : Text) (r : Row) → table_of rows kind.Token t ≡ Some r → P (row_node (t, r)))
+  pub each_token : (P : RowKey × Row → Type 0)
+      → ((t : Text) (r : Row) → table_of rows kind.Token t ≡ Some r → P (row_node (t, r)))
       → AllByRecursion P (rows_under rows kind.Token [])
   each_token P h = subst (AllByRecursion P) (sym listed_tokens)
       (walk (entries token_map) (each_entry (λ e. P (row_node e)) token_map (λ t r is. h t r (sym (at_token t) ∙ is))))
@@ -103,19 +113,23 @@ module _ (rows : Rows) where
   pub token_each : (P : RowKey × Row → Type 0) (t : Text) (r : Row) → table_of rows kind.Token t ≡ Some r
       → AllByRecursion P (rows_under rows kind.Token []) → P (row_node (t, r))
   token_each P t r is all =
-      walk (entries token_map) (sym (get-lookup token_map t) ∙ at_token t ∙ is) (subst (AllByRecursion P) listed_tokens all)
+      walk (entries token_map) (sym (get-lookup token_map t) ∙ at_token t ∙ is)
+      (subst (AllByRecursion P) listed_tokens all)
     where
-      walk : (es : List (Text × Row)) → lookup (same t) es ≡ Some r → AllByRecursion P (map row_node es) → P (row_node (t, r))
+      walk : (es : List (Text × Row)) → lookup (same t) es ≡ Some r → AllByRecursion P (map row_node es)
+          → P (row_node (t, r))
       walk [] e a = absurd (none-some _ e)
       walk (e ∷ es) found a =
-          elim (same t e.0) as (λ v. same t e.0 ≡ v → cond v (Some e.1) (lookup (same t) es) ≡ Some r → P (row_node (t, r))) [
+          elim (same t e.0) as (λ v. same t e.0 ≡ v → cond v (Some e.1) (lookup (same t) es) ≡ Some r
+          → P (row_node (t, r))) [
             | true ↦ λ at one. subst P (λ i. row_node (sym (same_true t e.0 at) i, (same_Some _ _ one) i)) a.0
             | false ↦ λ _ rest. walk es rest a.1
           ] refl found
 
   -- a test that no row of a token passes
   pub no_token_passes : (p : RowKey × Row → Bool)
-      → ((t : Text) (r : Row) → table_of rows kind.Token t ≡ Some r → p (row_node (t, r)) ≡ false) → list_any p (rows_under rows kind.Token []) ≡ false
+      → ((t : Text) (r : Row) → table_of rows kind.Token t ≡ Some r → p (row_node (t, r)) ≡ false)
+      → list_any p (rows_under rows kind.Token []) ≡ false
   no_token_passes p h = walk (rows_under rows kind.Token []) (each_token (λ e. p e ≡ false) h)
     where
       walk : (es : List (RowKey × Row)) → AllByRecursion (λ e. p e ≡ false) es → list_any p es ≡ false
@@ -123,12 +137,16 @@ module _ (rows : Rows) where
       walk (e ∷ es) a = (λ i. a.0 i || list_any p es) ∙ walk es a.1
 
   -- a test that one passes
-  pub token_passes : (p : RowKey × Row → Bool) (t : Text) (r : Row) → table_of rows kind.Token t ≡ Some r → p (row_node (t, r)) ≡ true
+  pub token_passes : (p : RowKey × Row → Bool) (t : Text) (r : Row) → table_of rows kind.Token t ≡ Some r
+      → p (row_node (t, r)) ≡ true
       → list_any p (rows_under rows kind.Token []) ≡ true
-  token_passes p t r is passes = elim (list_any p (rows_under rows kind.Token [])) as (λ v. list_any p (rows_under rows kind.Token []) ≡ v → v ≡ true) [
-    | true ↦ λ _. refl
-    | false ↦ λ none. absurd (false≢true (sym (token_each (λ e. p e ≡ false) t r is (walk (rows_under rows kind.Token []) none)) ∙ passes))
-  ] refl
+  token_passes p t r is passes = elim (list_any p (rows_under rows kind.Token [])) as
+      (λ v. list_any p (rows_under rows kind.Token []) ≡ v → v ≡ true) [
+        | true ↦ λ _. refl
+        | false ↦ λ none. absurd
+            (false≢true (sym (token_each (λ e. p e ≡ false) t r is (walk (rows_under rows kind.Token []) none))
+            ∙ passes))
+      ] refl
     where
       walk : (es : List (RowKey × Row)) → list_any p es ≡ false → AllByRecursion (λ e. p e ≡ false) es
       walk [] h = tt

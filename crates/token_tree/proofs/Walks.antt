@@ -1,11 +1,13 @@
 -- What a walk has found, after some of its tokens have been asked for their children.
-use Rattle.std.specs.Prelude.{◌≡◌, ◌≤◌, ◌<◌, ◌+◌, ◌||◌, ◌&&◌, ◌++◌, ℕ, zero, suc, List, [], ◌∷◌, Bool, true, false, not, length, take, get_or, filter, Some, All, Contains}
+use Rattle.std.specs.Prelude.{◌≡◌, ◌≤◌, ◌<◌, ◌+◌, ◌||◌, ◌&&◌, ◌++◌, ℕ, zero, suc, List, [], ◌∷◌, Bool, true, false, not}
+use Rattle.std.specs.Prelude.{length, take, get_or, filter, Some, All, Contains}
 use Rattle.std.specs.FinMap.{get}
 use Rattle.std.specs.List.{IsDistinct, list_any}
 use Rattle.std.proofs.Common.{refl, sym, ◌∙◌, ap, arith, length-append}
 use Rattle.std.proofs.lemmas.Bool.{false≢true, and_parts, or_left, or_right, not-true}
 use Rattle.std.proofs.lemmas.List.{take_more}
-use Rattle.std.proofs.lemmas.List.Elements.{All-append, All-filter, All-contains, Contains-append_left, Contains-append_right, filter_passes}
+use Rattle.std.proofs.lemmas.List.Elements.{All-append, All-filter, All-contains, Contains-append_left}
+use Rattle.std.proofs.lemmas.List.Elements.{Contains-append_right, filter_passes}
 use Rattle.std.proofs.lemmas.Map.Made.{IsDistinct-keys_filter}
 use Rattle.broker_types.specs.Text.{Text, same}
 use Rattle.broker_types.specs.TextLaws.{same_self, same_true}
@@ -24,7 +26,8 @@ use Rattle.token_tree.proofs.TokenMap.{each_token, token_each, token_passes}
 -- ---- owners
 
 -- what passes for an owner by one test passes by a weaker one
-weaker_owner : (p r : Text → Bool) → ((q : Text) → p q ≡ true → r q ≡ true) → (o : Text) → of_owner p o ≡ true → of_owner r o ≡ true
+weaker_owner : (p r : Text → Bool) → ((q : Text) → p q ≡ true → r q ≡ true) → (o : Text) → of_owner p o ≡ true
+    → of_owner r o ≡ true
 weaker_owner p r f [] h = h
 weaker_owner p r f (c ∷ o) h = f (c ∷ o) h
 
@@ -58,9 +61,11 @@ pub record IsWalk (s : Start) (rows : Rows) (es : List (RowKey × Row)) (n : ℕ
   pub whole : (t : Text) (row : Row) → get rows (kind.Token, t) ≡ Some row → s ((kind.Token, t), row) ≡ true
       → Contains es ((kind.Token, t), row)
   pub origin : All (λ e. (s e || of_owner (has (texts (take n es))) e.1.owner) ≡ true) es
-  pub closed : (t : Text) (row : Row) → get rows (kind.Token, t) ≡ Some row → of_owner (has (texts (take n es))) row.owner ≡ true
+  pub closed : (t : Text) (row : Row) → get rows (kind.Token, t) ≡ Some row
+      → of_owner (has (texts (take n es))) row.owner ≡ true
       → Contains es ((kind.Token, t), row)
-  pub least : (p : Text → Bool) → Starts p s (rows_under rows kind.Token []) → IsClosed p (rows_under rows kind.Token [])
+  pub least : (p : Text → Bool) → Starts p s (rows_under rows kind.Token [])
+      → IsClosed p (rows_under rows kind.Token [])
       → All (λ e. p e.0.1 ≡ true) es
   pub within : n ≤ length es
 
@@ -83,7 +88,8 @@ walk_begins s rows es started = record {
   within = omega arith;
 }
 
-module _ (s : Start) (rows : Rows) (es : List (RowKey × Row)) (n : ℕ) (d : RowKey × Row) (below : n < length es) (walk : IsWalk s rows es n) where
+module _ (s : Start) (rows : Rows) (es : List (RowKey × Row)) (n : ℕ) (d : RowKey × Row) (below : n < length es)
+    (walk : IsWalk s rows es n) where
   -- the token that is asked next, and its children that do not end by themselves
   abbrev asked : Text
   asked = (get_or es n d).0.1
@@ -98,16 +104,22 @@ module _ (s : Start) (rows : Rows) (es : List (RowKey × Row)) (n : ℕ) (d : Ro
   is_child e = is_of_kind kind.Token e.0 && of_owner (λ owner. same owner asked) e.1.owner
 
   abbrev IsFound : RowKey × Row → Type 0
-  IsFound e = (e.0.0 ≡ kind.Token) × (get rows e.0 ≡ Some e.1) × (of_owner (λ owner. same owner asked) e.1.owner ≡ true) × (s e ≡ false)
+  IsFound e = (e.0.0 ≡ kind.Token) × (get rows e.0 ≡ Some e.1) × (of_owner (λ owner. same owner asked) e.1.owner ≡ true)
+      × (s e ≡ false)
 
   found_each : All IsFound found
   found_each k c within =
       let row = All-filter (λ e. not (s e)) (λ e. (get rows e.0 ≡ Some e.1) × (is_child e ≡ true)) (children rows asked)
       (passing_each rows is_child) k c within in
-      let child = and_parts (is_of_kind kind.Token (get_or found k c).0) _ row.1 in
-      (same_kind _ kind.Token child.0, row.0, child.1, not-true _ (filter_passes (λ e. not (s e)) (children rows asked) k c within))
+      let child = and_parts (is_of_kind kind.Token (get_or found k c).0) _ row.1 in (
+        same_kind _ kind.Token child.0,
+        row.0,
+        child.1,
+        not-true _ (filter_passes (λ e. not (s e)) (children rows asked) k c within),
+      )
 
-  found_whole : (t : Text) (row : Row) → get rows (kind.Token, t) ≡ Some row → of_owner (λ owner. same owner asked) row.owner ≡ true
+  found_whole : (t : Text) (row : Row) → get rows (kind.Token, t) ≡ Some row
+      → of_owner (λ owner. same owner asked) row.owner ≡ true
       → s ((kind.Token, t), row) ≡ false → Contains found ((kind.Token, t), row)
   found_whole t row is owned stays =
       Contains-filter (λ e. not (s e)) (children rows asked) ((kind.Token, t), row)
@@ -130,7 +142,8 @@ module _ (s : Start) (rows : Rows) (es : List (RowKey × Row)) (n : ℕ) (d : Ro
       take_first (x ∷ xs) zero within = refl
       take_first (x ∷ xs) (suc i) within = ap (λ l. x ∷ l) (take_first xs i (omega (arith, within)))
 
-      joined : (xs : List (RowKey × Row)) → has (texts (xs ++ get_or es n d ∷ [])) q ≡ (has (texts xs) q || same q asked)
+      joined : (xs : List (RowKey × Row)) → has (texts (xs ++ get_or es n d ∷ [])) q
+          ≡ (has (texts xs) q || same q asked)
       joined [] = last (same q asked)
         where
           last : (v : Bool) → (v || false) ≡ v
@@ -153,8 +166,10 @@ module _ (s : Start) (rows : Rows) (es : List (RowKey × Row)) (n : ℕ) (d : Ro
       let here : get rows (kind.Token, t) ≡ Some c.0.1 = (λ i. get rows (sym child.0 i, sym c.2 i)) ∙ child.1 in
       let at = at_text rows es walk.tokens t c.0.1 here h in
       let one : c.0 ≡ ((kind.Token, t), c.0.1) = λ i. ((child.0 i, c.2 i), c.0.1) in
-      let from = All-contains (λ e. (s e || of_owner before e.1.owner) ≡ true) es ((kind.Token, t), c.0.1) walk.origin at in
-      let owned : of_owner before c.0.1.owner ≡ true = (λ i. (sym child.3 ∙ ap s one) i || of_owner before c.0.1.owner) ∙ from in
+      let from = All-contains (λ e. (s e || of_owner before e.1.owner) ≡ true) es
+      ((kind.Token, t), c.0.1) walk.origin at in
+      let owned : of_owner before c.0.1.owner ≡ true = (λ i. (sym child.3 ∙ ap s one) i || of_owner before c.0.1.owner)
+      ∙ from in
       false≢true (sym (none_before es n d below walk.tokens.once) ∙ of_one before asked c.0.1.owner child.2 owned)
 
   pub walk_goes_on : IsWalk s rows (es ++ found) (n + 1)
@@ -167,10 +182,12 @@ module _ (s : Start) (rows : Rows) (es : List (RowKey × Row)) (n : ℕ) (d : Ro
     whole = λ t row is begins. Contains-append_left es found ((kind.Token, t), row) (walk.whole t row is begins);
     origin = All-append (λ e. (s e || of_owner (has (texts (take (n + 1) (es ++ found)))) e.1.owner) ≡ true) es found
         (λ k c within. or_weaker (s (get_or es k c)) _ _
-        (weaker_owner before (has (texts (take (n + 1) (es ++ found)))) (λ q h. has_more q ∙ or_left _ _ h) (get_or es k c).1.owner)
+        (weaker_owner before (has (texts (take (n + 1) (es ++ found)))) (λ q h. has_more q ∙ or_left _ _ h)
+        (get_or es k c).1.owner)
         (walk.origin k c within))
         (λ k c within. or_right (s (get_or found k c)) _
-        (weaker_owner (λ o. same o asked) (has (texts (take (n + 1) (es ++ found)))) (λ q h. has_more q ∙ or_right (before q) _ h)
+        (weaker_owner (λ o. same o asked) (has (texts (take (n + 1) (es ++ found))))
+        (λ q h. has_more q ∙ or_right (before q) _ h)
         (get_or found k c).1.owner (found_each k c within).2));
     closed = λ t row is owned.
         owner_cases (has (texts (take (n + 1) (es ++ found)))) before (λ o. same o asked) has_more row.owner
@@ -179,24 +196,31 @@ module _ (s : Start) (rows : Rows) (es : List (RowKey × Row)) (n : ℕ) (d : Ro
         (λ h. child t row is h (s ((kind.Token, t), row)) refl) owned;
     least = λ p starts closed. All-append (λ e. p e.0.1 ≡ true) es found (walk.least p starts closed) (λ k c within.
         let e = found_each k c within in
-        let at : get rows (kind.Token, (get_or found k c).0.1) ≡ Some (get_or found k c).1 = (λ i. get rows (sym e.0 i, (get_or found k c).0.1)) ∙ e.1 in
-        token_each rows (λ e. of_owner p e.1.owner ≡ true → p e.0.1 ≡ true) (get_or found k c).0.1 (get_or found k c).1 at closed
+        let at : get rows (kind.Token, (get_or found k c).0.1) ≡ Some (get_or found k c).1 =
+        (λ i. get rows (sym e.0 i, (get_or found k c).0.1)) ∙ e.1 in
+        token_each rows (λ e. of_owner p e.1.owner ≡ true → p e.0.1 ≡ true) (get_or found k c).0.1
+        (get_or found k c).1 at closed
         (to_one p asked (get_or found k c).1.owner e.2 (walk.least p starts closed n d below)));
     within = omega (arith, below, length-append es found);
   }
     where
-      child : (t : Text) (row : Row) → get rows (kind.Token, t) ≡ Some row → of_owner (λ o. same o asked) row.owner ≡ true
+      child : (t : Text) (row : Row) → get rows (kind.Token, t) ≡ Some row
+          → of_owner (λ o. same o asked) row.owner ≡ true
           → (v : Bool) → s ((kind.Token, t), row) ≡ v → Contains (es ++ found) ((kind.Token, t), row)
-      child t row is owned true begins = Contains-append_left es found ((kind.Token, t), row) (walk.whole t row is begins)
-      child t row is owned false stays = Contains-append_right es found ((kind.Token, t), row) (found_whole t row is owned stays)
+      child t row is owned true begins = Contains-append_left es found ((kind.Token, t), row)
+          (walk.whole t row is begins)
+      child t row is owned false stays = Contains-append_right es found ((kind.Token, t), row)
+          (found_whole t row is owned stays)
 
 -- once all have been asked it has all that end
-pub walk_ends : (s : Start) (rows : Rows) (es : List (RowKey × Row)) (n : ℕ) → IsWalk s rows es n → (n < length es → ⊥) → AreDescending s rows es
+pub walk_ends : (s : Start) (rows : Rows) (es : List (RowKey × Row)) (n : ℕ) → IsWalk s rows es n → (n < length es → ⊥)
+    → AreDescending s rows es
 walk_ends s rows es n walk done = record {
   tokens = walk.tokens;
   descent = record {
     once = walk.tokens.once;
-    stay = each_token rows (λ e. goes s (texts es) e ≡ false) (λ t row is. stays t row is (s ((kind.Token, t), row)) (of_owner (has (texts es)) row.owner) refl refl);
+    stay = each_token rows (λ e. goes s (texts es) e ≡ false)
+        (λ t row is. stays t row is (s ((kind.Token, t), row)) (of_owner (has (texts es)) row.owner) refl refl);
     keys = λ q h. let r = text_row rows es walk.tokens q h in
         mapped q (rows_under rows kind.Token []) (token_passes rows (λ e. same q e.0.1) q r.0 r.1 (same_self q));
     least = λ p starts closed q h. let e = text_of es q h in
@@ -220,14 +244,16 @@ walk_ends s rows es n walk done = record {
         same_any [] = refl
         same_any (g ∷ gs) = ap (λ v. same q g.0.1 || v) (same_any gs)
 
-    stays : (t : Text) (row : Row) → get rows (kind.Token, t) ≡ Some row → (a b : Bool) → s ((kind.Token, t), row) ≡ a → of_owner (has (texts es)) row.owner ≡ b
+    stays : (t : Text) (row : Row) → get rows (kind.Token, t) ≡ Some row → (a b : Bool) → s ((kind.Token, t), row) ≡ a
+        → of_owner (has (texts es)) row.owner ≡ b
         → goes s (texts es) ((kind.Token, t), row) ≡ false
     stays t row is true b begins owned =
         ap (λ v. not v && (s ((kind.Token, t), row) || of_owner (has (texts es)) row.owner))
         (has_text es ((kind.Token, t), row) (walk.whole t row is begins))
     stays t row is false true begins owned =
         ap (λ v. not v && (s ((kind.Token, t), row) || of_owner (has (texts es)) row.owner))
-        (has_text es ((kind.Token, t), row) (walk.closed t row is ((λ i. of_owner (has (texts (all_asked i))) row.owner) ∙ owned)))
+        (has_text es ((kind.Token, t), row)
+        (walk.closed t row is ((λ i. of_owner (has (texts (all_asked i))) row.owner) ∙ owned)))
     stays t row is false false begins owned =
         (λ i. not (has (texts es) t) && (begins i || owned i)) ∙ never (not (has (texts es) t))
       where

@@ -16,7 +16,8 @@ use Rattle.records.specs.TokenEntry.{TokenEntry, token_entry}
 use Rattle.token_tree.specs.TokenRows.{IsTokenAt, SpendsUse, spent_entry, with_entry}
 
 -- the row is that of what is left
-pub spent_row : (t : Text) (old new : Table) (left : Option TokenEntry) → SpendsUse t old new left → IsTokenAt new t left
+pub spent_row : (t : Text) (old new : Table) (left : Option TokenEntry) → SpendsUse t old new left
+    → IsTokenAt new t left
 spent_row t old new left s =
     ap (λ (rows : Table). rows kind.Token t) s.changes.is ∙ after s.changes.entry s.changes.was
     ∙ ap (option_map entry_row) (sym s.told)

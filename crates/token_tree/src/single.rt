@@ -109,8 +109,8 @@ fn rewrite<T: RecordsTx>(
 }
 
 /// Takes one use from a token whose uses are limited, and answers what its row says then. Any other token stays as it
-/// is, and an unknown text changes nothing. It fails as `Damaged` if the row of the token is not one, and also if memory
-/// runs out or the storage fails (Vault's documentation, "Tokens", use limits).
+/// is, and an unknown text changes nothing. It fails as `Damaged` if the row of the token is not one, and also if
+/// memory runs out or the storage fails (Vault's documentation, "Tokens", use limits).
 pub fn spend<T: RecordsTx>(
     alloc: Global,
     tx: &mut T,

@@ -138,7 +138,8 @@ module _ (now : ℕ) (b : Broker) (old : Table) (r : RepresentsWaiting old b) wh
       kept_search : first_where (has_accessor q) left ≡ if_kept stays (first_where (has_accessor q) b.waiting)
       kept_search = first_where-keep (has_accessor q) stays b.waiting (one_accessor b r.one_place q)
 
-      accessor_left : (if is_told kind.Waiting ended old q then None else joined b q (first_where (has_accessor q) b.waiting))
+      accessor_left : (if is_told kind.Waiting ended old q then None else joined b q
+          (first_where (has_accessor q) b.waiting))
           ≡ joined b q (first_where (has_accessor q) left)
       accessor_left = elim (found_or_not (first_where (has_accessor q) b.waiting)) [
         | inl none ↦
@@ -169,4 +170,5 @@ module _ (now : ℕ) (b : Broker) (old : Table) (r : RepresentsWaiting old b) wh
       tells_waiting (without_ended b now) new
       (λ q. ap (λ (t : Table). t kind.Waiting q) s.rows ∙ waiting_left s.ended s.each q)
       (λ q. ap (λ (t : Table). t kind.Accessor q) s.rows
-      ∙ (λ i. if is_told kind.Waiting s.ended old q then None else accessor_told b old r.tells q i) ∙ accessor_left s.ended s.each q)
+      ∙ (λ i. if is_told kind.Waiting s.ended old q then None else accessor_told b old r.tells q i)
+      ∙ accessor_left s.ended s.each q)

@@ -11,7 +11,8 @@ use Rattle.broker_types.specs.Sound.{Forms, Sound, SoundIdentifiers, IsMoment, I
 use Rattle.broker_types.specs.Spending.{drop_waiting}
 use Rattle.records.specs.Parts.{of_tokens, of_waiting, Tells, KeepsOthers}
 use Rattle.records.specs.Table.{Table}
-use Rattle.wrapping.specs.Wrapping.{AddsNone, find_accessor, with_waiting, stored, MayBeStored, moved, rewrap, drop_accessor}
+use Rattle.wrapping.specs.Wrapping.{AddsNone, find_accessor, with_waiting, stored, MayBeStored, moved, rewrap}
+use Rattle.wrapping.specs.Wrapping.{drop_accessor}
 use Rattle.wrapping.specs.Wrapping.{without_ended}
 
 -- ---- a response moves whole

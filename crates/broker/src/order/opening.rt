@@ -101,8 +101,8 @@ pub(crate) fn answer_openly<T: RecordsTx>(
         → Begins None context.now (T.seen tx.old).rows b
         → IfOk result (λ a. Gives a (T.seen tx.new).rows (answered_openly b (names_of context.now.words) ask.now)) }
 
-    // Whatever the rows are: it is not answered if a row that its command reads is damaged, unless an identifier that it
-    // needs was given out.
+    // Whatever the rows are: it is not answered if a row that its command reads is damaged, unless an identifier that
+    // it needs was given out.
     ensures readable { IsHonest (T.seen tx.new)
         → OnOk result (IsReadableOpenAsk (T.seen tx.old).rows (names_of context.now.words) ask.now) }
     ensures safely { AnswersSafely (T.seen tx.old) (T.seen tx.new)

@@ -69,8 +69,8 @@ pub(crate) fn operate<T: RecordsTx>(
     carry_out(alloc, tx, context, asker, ask, &needed, command)
 }
 
-/// Whether a command of an ask may be carried out: the identifiers that it needs have to be new, and the ask has to have
-/// the wrap TTL that the command must have.
+/// Whether a command of an ask may be carried out: the identifiers that it needs have to be new, and the ask has to
+/// have the wrap TTL that the command must have.
 fn check<T: RecordsTx>(
     tx: &mut T,
     ask: &Ask<'_>,

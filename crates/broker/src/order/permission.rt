@@ -53,7 +53,8 @@ pub(crate) fn permitted<T: RecordsTx>(
 
     // And it fails as damaged only if the row of one of the caller's policies is.
     ensures call { IsReading (T.seen tx.old) (T.seen tx.new) result
-        (IsReadFault (IsHonest (T.seen tx.new) → Any (IsUnreadable (table (T.seen tx.old))) caller.now.known.policies)) }
+        (IsReadFault (IsHonest (T.seen tx.new)
+        → Any (IsUnreadable (table (T.seen tx.old))) caller.now.known.policies)) }
 {
     let path = ask.path.as_str();
     let asked = capability(alloc, tx, caller.token, ask.verb, found)?;

@@ -1,7 +1,8 @@
 -- Where in a mount a command acts (this project's definition).
 use Rattle.broker_types.specs.Text.{Text}
 
--- The mount, and the path there: that of a secret, of a folder, whose path is empty for the whole mount, or the name of a
+-- The mount, and the path there: that of a secret, of a folder, whose path is empty for the whole mount, or the name of
+-- a
 -- role.
 pub record Place : Type 0 where
   pub mount : Text

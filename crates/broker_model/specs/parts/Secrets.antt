@@ -1,4 +1,5 @@
--- The part of versioned secrets: what the routes of a mount of secrets mean, by a body or a version, and what they do to
+-- The part of versioned secrets: what the routes of a mount of secrets mean, by a body or a version, and what they do
+-- to
 -- the maps (Vault's documentation, "KV secrets engine - version 2 (API)").
 use Rattle.std.specs.Prelude.{ℕ, List, Option, Some, None, Result, Ok}
 use Rattle.broker_types.specs.Refuse.{◌>>=◌, some_or}

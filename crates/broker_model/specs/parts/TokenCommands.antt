@@ -6,7 +6,8 @@ use Rattle.mounts.specs.declared.operation.TokenOperation.{TokenOperation}
 use Rattle.mounts.specs.declared.operation.TokenOperation.TheVariants as operation
 use Rattle.records.specs.Parts.{Part, of_tokens, of_tokens_and_theirs, of_used, of_waiting}
 use Rattle.api_json.specs.Readers as reader
-use Rattle.broker_model.specs.Traits.{Fate, Traits, by_accessor, by_text, itself, make, names_needed, orphan, plain, renew, revoke, stay}
+use Rattle.broker_model.specs.Traits.{Fate, Traits, by_accessor, by_text, itself, make, names_needed, orphan, plain}
+use Rattle.broker_model.specs.Traits.{renew, revoke, stay}
 use Rattle.broker_model.specs.declared.commands.Needs.{Needs}
 use Rattle.broker_model.specs.declared.commands.Needs.TheVariants as needs
 use Rattle.broker_model.specs.declared.commands.TokenCommand.{TokenCommand}

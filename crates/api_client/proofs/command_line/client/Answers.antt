@@ -25,10 +25,14 @@ top e = ap (λ (a : App). a.top) e
 pub returns : goal.returns
 unfolding client_app
 returns c =
-    let one = c.in_ok-subcommand.ensures.shape (local _ _ c.in_ok-read.ensures refl) ∙ ap₂ with_subcommand c.in_ok-options.ensures (top c.in_ok-read.ensures) in
-    let two = c.in_ok-subcommand-2.ensures.shape (local _ _ c.in_ok-write.ensures refl) ∙ ap₂ with_subcommand one (top c.in_ok-write.ensures) in
-    let three = c.in_ok-subcommand-3.ensures.shape (local _ _ c.in_ok-list.ensures refl) ∙ ap₂ with_subcommand two (top c.in_ok-list.ensures) in
-    let four = c.in_ok-subcommand-4.ensures.shape (local _ _ c.in_ok-delete.ensures refl) ∙ ap₂ with_subcommand three (top c.in_ok-delete.ensures) in
+    let one = c.in_ok-subcommand.ensures.shape (local _ _ c.in_ok-read.ensures refl)
+    ∙ ap₂ with_subcommand c.in_ok-options.ensures (top c.in_ok-read.ensures) in
+    let two = c.in_ok-subcommand-2.ensures.shape (local _ _ c.in_ok-write.ensures refl)
+    ∙ ap₂ with_subcommand one (top c.in_ok-write.ensures) in
+    let three = c.in_ok-subcommand-3.ensures.shape (local _ _ c.in_ok-list.ensures refl)
+    ∙ ap₂ with_subcommand two (top c.in_ok-list.ensures) in
+    let four = c.in_ok-subcommand-4.ensures.shape (local _ _ c.in_ok-delete.ensures refl)
+    ∙ ap₂ with_subcommand three (top c.in_ok-delete.ensures) in
     IfOk-weaker c.subcommand-5.result _ _
     (λ d h. h.shape (local _ _ c.in_ok-unwrap.ensures refl) ∙ ap₂ with_subcommand four (top c.in_ok-unwrap.ensures))
     c.subcommand-5.ensures

@@ -1,5 +1,7 @@
-use Rattle.std.proofs.Common.{◌≡◌, ◌∙◌, List, [], ◌∷◌, None, Ok, Err, Result, IsErrAnd, MatchResult, Option, map, string_bytes, refl, sym, ap, ap₂, subst, true, inl, inr}
-use Rattle.clap.specs.Words.{App, HasKind, IsAmong, Kinds, Row, Text, fault_of, found_of, is_simple, is_simple_and_free, kind_of, matches_of, rows_of, subcommand_of, subcommand_rows_of}
+use Rattle.std.proofs.Common.{◌≡◌, ◌∙◌, List, [], ◌∷◌, None, Ok, Err, Result, IsErrAnd, MatchResult, Option, map}
+use Rattle.std.proofs.Common.{string_bytes, refl, sym, ap, ap₂, subst, true, inl, inr}
+use Rattle.clap.specs.Words.{App, HasKind, IsAmong, Kinds, Row, Text, fault_of, found_of, is_simple, is_simple_and_free}
+use Rattle.clap.specs.Words.{kind_of, matches_of, rows_of, subcommand_of, subcommand_rows_of}
 use Rattle.clap.specs.declared.error.Error.{Error}
 use Rattle.clap.specs.declared.error.kind.ErrorKind.{ErrorKind}
 use Rattle.clap.specs.declared.error.kind.ErrorKind.TheVariants.{ValueValidation}
@@ -22,28 +24,34 @@ unfolding clap_on_literals client_app
 simple a e = rw e refl
 
 -- `clap` refuses the words
-refused : (kinds : Kinds) (k : ErrorKind) (command : Option Command) → IsAmong k kinds → unless_refused kinds command ≡ None
+refused : (kinds : Kinds) (k : ErrorKind) (command : Option Command) → IsAmong k kinds
+    → unless_refused kinds command ≡ None
 refused [] k command among = absurd among
 refused (x ∷ xs) k command among = refl
 
-no_command : (words : List Text) (error : Error) (told : NoCommand) → Tells error told → HasKind (fault_of client_app words) error → IsNoCommand words told
+no_command : (words : List Text) (error : Error) (told : NoCommand) → Tells error told
+    → HasKind (fault_of client_app words) error → IsNoCommand words told
 no_command words error (Fault fault) tells kind = tells.0
 no_command words error (Usage usage) tells (inl memory) = absurd (tells.1 memory)
 no_command words error (Usage usage) tells (inr among) =
     (refused (fault_of client_app words) (kind_of error) _ among, λ memory. tells.1 (ap kind_of (sym tells.0) ∙ memory))
 
 -- what `clap` makes of the words
-meant : (words : List Text) (rows : List Row) (entered : Option (Text × List Row)) (r : Result Command Mistake) → fault_of client_app words ≡ [] → rows ≡ matches_of client_app words
+meant : (words : List Text) (rows : List Row) (entered : Option (Text × List Row)) (r : Result Command Mistake)
+    → fault_of client_app words ≡ [] → rows ≡ matches_of client_app words
     → entered ≡ subcommand_of client_app words → r ≡ command_in rows entered → command_meant words ≡ without_mistake r
 meant words rows entered r taken own sub is =
-    ap (λ (kinds : Kinds). unless_refused kinds (without_mistake (command_in (matches_of client_app words) (subcommand_of client_app words)))) taken
+    ap (λ (kinds : Kinds). unless_refused kinds
+    (without_mistake (command_in (matches_of client_app words) (subcommand_of client_app words)))) taken
     ∙ ap without_mistake (ap₂ command_in (sym own) (sym sub) ∙ sym is)
 
-mistaken : (words : List Text) (error : Error) (told : NoCommand) → Tells error told → kind_of error ≡ ValueValidation → command_meant words ≡ None → IsNoCommand words told
+mistaken : (words : List Text) (error : Error) (told : NoCommand) → Tells error told → kind_of error ≡ ValueValidation
+    → command_meant words ≡ None → IsNoCommand words told
 mistaken words error (Fault fault) tells kind none = tells.0
 mistaken words error (Usage usage) tells kind none = (none, λ memory. tells.1 (ap kind_of (sym tells.0) ∙ memory))
 
-told_as : {A E : Type 0} (r : Result A E) (P : A → Type 0) (Q R : E → Type 0) → IsErrAnd r Q → ((e : E) → Q e → R e) → MatchResult r P R
+told_as : {A E : Type 0} (r : Result A E) (P : A → Type 0) (Q R : E → Type 0) → IsErrAnd r Q → ((e : E) → Q e → R e)
+    → MatchResult r P R
 told_as (Ok x) P Q R h next = absurd h
 told_as (Err e) P Q R h next = next e h
 
@@ -51,8 +59,11 @@ pub returns-in_err-matches : goal.returns-in_err-matches
 returns-in_err-matches c =
     let words : List Text = map string_bytes c.args.words.now in
     let kinds = c.in_err-matches.ensures.kinds (free _ c.in_ok-parser.ensures) in
-    told_as c.from_residual-in_err-matches.result _ (Tells c.in_err-matches.field-0.0) (IsNoCommand words) c.from_residual-in_err-matches.ensures.1
-    (λ told tells. no_command words c.in_err-matches.field-0.0 told tells (subst (λ (ks : Kinds). HasKind ks c.in_err-matches.field-0.0) (ap (λ (a : App). fault_of a words) c.in_ok-parser.ensures) kinds))
+    told_as c.from_residual-in_err-matches.result _ (Tells c.in_err-matches.field-0.0)
+    (IsNoCommand words) c.from_residual-in_err-matches.ensures.1
+    (λ told tells. no_command words c.in_err-matches.field-0.0 told tells
+    (subst (λ (ks : Kinds). HasKind ks c.in_err-matches.field-0.0)
+    (ap (λ (a : App). fault_of a words) c.in_ok-parser.ensures) kinds))
 
 pub returns-in-Ok : goal.returns-in-Ok
 returns-in-Ok c =
@@ -61,8 +72,10 @@ returns-in-Ok c =
     let parser = c.in_ok-parser.ensures in
     let taken = c.in_ok-matches.ensures.kinds (free _ parser) in
     let found = c.in_ok-matches.ensures.ok.2 (simple _ parser) in
-    meant words (rows_of (found_of m)) (subcommand_rows_of m) (Ok c.in-Ok.command) (ap (λ (a : App). fault_of a words) (sym parser) ∙ taken)
-    (found.0 ∙ ap (λ (a : App). matches_of a words) parser) (found.1 ∙ ap (λ (a : App). subcommand_of a words) parser) c.in-Ok.ensures
+    meant words (rows_of (found_of m)) (subcommand_rows_of m) (Ok c.in-Ok.command)
+    (ap (λ (a : App). fault_of a words) (sym parser) ∙ taken)
+    (found.0 ∙ ap (λ (a : App). matches_of a words) parser)
+    (found.1 ∙ ap (λ (a : App). subcommand_of a words) parser) c.in-Ok.ensures
 
 pub returns : goal.returns
 returns c =
@@ -71,6 +84,8 @@ returns c =
     let parser = c.in_ok-parser.ensures in
     let taken = c.in_ok-matches.ensures.kinds (free _ parser) in
     let found = c.in_ok-matches.ensures.ok.2 (simple _ parser) in
-    let none = meant words (rows_of (found_of m)) (subcommand_rows_of m) (Err c.in-Err.mistake) (ap (λ (a : App). fault_of a words) (sym parser) ∙ taken)
-    (found.0 ∙ ap (λ (a : App). matches_of a words) parser) (found.1 ∙ ap (λ (a : App). subcommand_of a words) parser) c.in-Err.ensures in
+    let none = meant words (rows_of (found_of m)) (subcommand_rows_of m) (Err c.in-Err.mistake)
+    (ap (λ (a : App). fault_of a words) (sym parser) ∙ taken)
+    (found.0 ∙ ap (λ (a : App). matches_of a words) parser)
+    (found.1 ∙ ap (λ (a : App). subcommand_of a words) parser) c.in-Err.ensures in
     mistaken words c.in_ok-error-in-Err.field-0 c.into.result c.into.ensures c.in_ok-error-in-Err.ensures.kind none

@@ -5,4 +5,5 @@ use Rattle.api_client.proofs.reply_head.first_length.Given as goal
 
 -- no field so far has the name
 abbrev pub invariant-loop-header : goal.invariant-loop-header
-invariant-loop-header l = values_named (codes "content-length") (map (header_bytes l.bytes) (take l.header-index l.headers)) ≡ []
+invariant-loop-header l = values_named (codes "content-length")
+    (map (header_bytes l.bytes) (take l.header-index l.headers)) ≡ []

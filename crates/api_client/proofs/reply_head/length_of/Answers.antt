@@ -1,4 +1,6 @@
-use Rattle.std.proofs.Common.{◌≡◌, ℕ, ◌==◌, ◌&&◌, ◌<◌, ◌^◌, Bool, true, false, cond, List, [], ◌∷◌, length, drop, Some, None, Result, Ok, Err, MatchResult, IsUtf8, nat_le, nat_lt, refl, sym, ap, ◌∙◌, subst, arith}
+use Rattle.std.proofs.Common.{◌≡◌, ℕ, ◌==◌, ◌&&◌, ◌<◌, ◌^◌, Bool, true, false, cond, List, [], ◌∷◌, length, drop, Some}
+use Rattle.std.proofs.Common.{None, Result, Ok, Err, MatchResult, IsUtf8, nat_le, nat_lt, refl, sym, ap, ◌∙◌, subst}
+use Rattle.std.proofs.Common.{arith}
 use Rattle.std.proofs.lemmas.Bool.{and_parts, ltb-true}
 use Rattle.std.proofs.lemmas.Bool.Decides.{nat_tests}
 use Rattle.std.proofs.lemmas.Fmt.{IsAscii-from_digits}
@@ -20,7 +22,8 @@ all_digits (c ∷ cs) h = let p = and_parts _ _ h in (digit_below c p.0, all_dig
 
 not_plus : (ds : List ℕ) → list_all is_ascii_digit ds ≡ true → without_leading_plus ds ≡ ds
 not_plus [] h = refl
-not_plus (c ∷ cs) h = ap (λ (b : Bool). drop (cond b 1 0) (c ∷ cs)) (other c (and_parts (is_ascii_digit c) (list_all is_ascii_digit cs) h).0)
+not_plus (c ∷ cs) h = ap (λ (b : Bool). drop (cond b 1 0) (c ∷ cs))
+    (other c (and_parts (is_ascii_digit c) (list_all is_ascii_digit cs) h).0)
   where
     other : (c : ℕ) → is_ascii_digit c ≡ true → (c == 43) ≡ false
     other c digit = grind (arith, nat_tests)
@@ -31,7 +34,8 @@ numeral v number =
     let p = and_parts (nat_lt 0 (length v)) (list_all is_ascii_digit v) number in
     (ltb-true 0 (length v) p.0, all_digits v p.1)
 
-is_text : {T E : Type 0} (r : Result T E) (v : List ℕ) (P : T → Type 0) (Q : E → Type 0) → MatchResult r P (λ e. ¬ (IsUtf8 v) × Q e) → IsUtf8 v → IsOk r
+is_text : {T E : Type 0} (r : Result T E) (v : List ℕ) (P : T → Type 0) (Q : E → Type 0)
+    → MatchResult r P (λ e. ¬ (IsUtf8 v) × Q e) → IsUtf8 v → IsOk r
 is_text (Ok x) v P Q h text = refl
 is_text (Err e) v P Q h text = absurd (h.0 text)
 
@@ -39,18 +43,22 @@ pub unwrap-requires : goal.unwrap-requires
 unwrap-requires c =
     let number : is_number c.args.value.now ≡ true = sym c.is_number.ensures ∙ c.if-not-is_number.false in
     let digits = numeral c.args.value.now number in
-    is_text c.from_utf8.result c.args.value.now _ _ c.from_utf8.ensures.cases (IsUtf8-from_ascii c.args.value.now (IsAscii-from_digits c.args.value.now digits.1))
+    is_text c.from_utf8.result c.args.value.now _ _ c.from_utf8.ensures.cases
+    (IsUtf8-from_ascii c.args.value.now (IsAscii-from_digits c.args.value.now digits.1))
 
 -- a number that does not fit 32 bits is above the limit
-too_great : (v : List ℕ) → is_number v ≡ true → ¬ (IsNumeral 10 (without_leading_plus v) × (digits_value 10 (without_leading_plus v) < 2 ^ 32)) → None ≡ length_told v
+too_great : (v : List ℕ) → is_number v ≡ true → ¬
+    (IsNumeral 10 (without_leading_plus v) × (digits_value 10 (without_leading_plus v) < 2 ^ 32)) → None ≡ length_told v
 too_great v number unfit =
     let digits = numeral v number in
-    let plain : without_leading_plus v ≡ v = not_plus v (and_parts (nat_lt 0 (length v)) (list_all is_ascii_digit v) number).1 in
+    let plain : without_leading_plus v ≡ v =
+    not_plus v (and_parts (nat_lt 0 (length v)) (list_all is_ascii_digit v) number).1 in
     let beyond : nat_le (digits_value 10 v) longest_reply_body ≡ false = past (digits_value 10 v) (λ small. unfit (
       subst (λ (ds : List ℕ). IsNumeral 10 ds) (sym plain) digits,
       subst (λ (ds : List ℕ). digits_value 10 ds < 2 ^ 32) (sym plain) small,
     )) in
-    ap (λ (b : Bool). cond b (Some (digits_value 10 v)) None) (sym (ap (λ (b : Bool). is_number v && b) beyond ∙ both (is_number v)))
+    ap (λ (b : Bool). cond b (Some (digits_value 10 v)) None)
+    (sym (ap (λ (b : Bool). is_number v && b) beyond ∙ both (is_number v)))
   where
     both : (b : Bool) → (b && false) ≡ false
     both true = refl
@@ -64,4 +72,5 @@ returns-in_default-2 c =
     let number : is_number c.args.value.now ≡ true = sym c.is_number.ensures ∙ c.if-not-is_number.false in
     let text : c.unwrap.result.now ≡ c.args.value.now = (rw c.unwrap.ensures at c.from_utf8.ensures.cases).0 in
     too_great c.args.value.now number
-    (subst (λ (t : List ℕ). ¬ (IsNumeral 10 (without_leading_plus t) × (digits_value 10 (without_leading_plus t) < 2 ^ 32))) text c.in_default.ensures.value.0)
+    (subst (λ (t : List ℕ). ¬ (IsNumeral 10 (without_leading_plus t)
+    × (digits_value 10 (without_leading_plus t) < 2 ^ 32))) text c.in_default.ensures.value.0)

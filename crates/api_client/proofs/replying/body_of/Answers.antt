@@ -10,5 +10,6 @@ loop-reader-preserved g c =
     let short : length c.loop-reader.body.items < c.args.len = omega (arith, c.loop-reader.body.ok.0) in (
       i.0 ++ r.more,
       Consumes-trans _ _ _ i.0 r.more i.1 r.consumed,
-      body_more c.args.len c.args.begun.now i.0 r.more c.loop-reader.body.items c.read_some.new.bytes.items i.2 short r.added r.fits,
+      body_more c.args.len c.args.begun.now i.0 r.more c.loop-reader.body.items c.read_some.new.bytes.items i.2 short
+          r.added r.fits,
     )

@@ -21,5 +21,6 @@ overflow_mul-count c =
 pub overflow_add-count : goal.overflow_add-count
 overflow_add-count c =
     let digit : c.from.result < 10 = grind (arith, nat_tests, common_steps) in
-    let h = room c.loop-digit.count c.loop-digit.digit-index c.from.result c.loop-digit.invariant.small (omega arith) digit in
+    let h = room c.loop-digit.count c.loop-digit.digit-index c.from.result c.loop-digit.invariant.small
+    (omega arith) digit in
     omega arith

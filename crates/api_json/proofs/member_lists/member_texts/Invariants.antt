@@ -5,4 +5,5 @@ use Rattle.api_json.proofs.Gathering.{onto}
 use Rattle.api_json.proofs.member_lists.member_texts.Given as goal
 
 abbrev pub invariant-loop-name : goal.invariant-loop-name
-invariant-loop-name l = onto l.list.items (each_text (members_view l.name-iterator)) ≡ each_text (members_view l.members.entries)
+invariant-loop-name l = onto l.list.items (each_text (members_view l.name-iterator))
+    ≡ each_text (members_view l.members.entries)

@@ -12,6 +12,8 @@ returns-clause-kept c bytes fits is =
     let accepted = passed c.is_custom.result (invalid field.CustomMetadata) _ c.in_ok-unless.ensures in
     record {
       custom_metadata = λ es given.
-          custom_kept bytes ms field.CustomMetadata c.in_ok-custom_metadata.custom_metadata es fits (given_members bytes ms is)
-          c.in_ok-custom_metadata.ensures given (sym c.is_custom.ensures.value ∙ accepted) (c.is_custom.ensures.accepted accepted es given);
+          custom_kept bytes ms field.CustomMetadata c.in_ok-custom_metadata.custom_metadata es fits
+          (given_members bytes ms is)
+          c.in_ok-custom_metadata.ensures given (sym c.is_custom.ensures.value ∙ accepted)
+          (c.is_custom.ensures.accepted accepted es given);
     }

@@ -20,18 +20,22 @@ returns-in_default-clause-told g c honest b st =
 pub returns-in_err-token-clause-wants : goal.returns-in_err-token-clause-wants
 returns-in_err-token-clause-wants g c honest b st =
     let p = err_from_is_err_and c.from_residual.result c.from_residual.ensures.1 in
-    rw (p.1, p.2) (c.in_err-token.ensures.wants honest forms b (represents_tokens b (g.T.RecordsTx.seen c.args.tx.now).rows st))
+    rw (p.1, p.2) (c.in_err-token.ensures.wants honest forms b
+    (represents_tokens b (g.T.RecordsTx.seen c.args.tx.now).rows st))
 
 pub returns-in-None-clause-told : goal.returns-in-None-clause-told
 returns-in-None-clause-told g c honest b st =
-    let told = c.in_ok-token.ensures.told honest forms b (represents_tokens b (g.T.RecordsTx.seen c.args.tx.now).rows st) in
-    let uses : c.in-Some.token.uses_left ≡ None = ap (λ (e : TokenEntry). e.uses_left) (sym c.token.view_is) ∙ c.in-None.is in
+    let told = c.in_ok-token.ensures.told honest forms b
+    (represents_tokens b (g.T.RecordsTx.seen c.args.tx.now).rows st) in
+    let uses : c.in-Some.token.uses_left ≡ None = ap (λ (e : TokenEntry). e.uses_left) (sym c.token.view_is)
+    ∙ c.in-None.is in
     limit_told (get b.tokens c.args.caller.now) c.in_ok-token.field-0 c.in-Some.token false told c.in-Some.is
     (ap (λ o. option_map_or (λ n. n == 0) o false) (sym uses))
 
 pub returns-clause-told : goal.returns-clause-told
 returns-clause-told g c honest b st =
-    let told = c.in_ok-token.ensures.told honest forms b (represents_tokens b (g.T.RecordsTx.seen c.args.tx.now).rows st) in
+    let told = c.in_ok-token.ensures.told honest forms b
+    (represents_tokens b (g.T.RecordsTx.seen c.args.tx.now).rows st) in
     let uses : c.in-Some.token.uses_left ≡ Some c.in-Some-uses_left.uses =
     ap (λ (e : TokenEntry). e.uses_left) (sym c.token.view_is) ∙ c.in-Some-uses_left.is in
     limit_told (get b.tokens c.args.caller.now) c.in_ok-token.field-0 c.in-Some.token _ told c.in-Some.is
@@ -47,11 +51,13 @@ returns-in_default-clause-found g c honest = (
 
 pub returns-in-None-clause-found : goal.returns-in-None-clause-found
 returns-in-None-clause-found g c honest =
-    let uses : c.in-Some.token.uses_left ≡ None = ap (λ (e : TokenEntry). e.uses_left) (sym c.token.view_is) ∙ c.in-None.is in (
+    let uses : c.in-Some.token.uses_left ≡ None = ap (λ (e : TokenEntry). e.uses_left) (sym c.token.view_is)
+    ∙ c.in-None.is in (
       c.in_ok-token.field-0,
       c.in_ok-token.ensures.in_range,
       c.in_ok-token.ensures.found honest,
-      sym (ap (λ o. option_map_or has_no_uses o false) c.in-Some.is ∙ ap (λ o. option_map_or (λ n. n == 0) o false) uses),
+      sym (ap (λ o. option_map_or has_no_uses o false) c.in-Some.is
+          ∙ ap (λ o. option_map_or (λ n. n == 0) o false) uses),
     )
 
 pub returns-clause-found : goal.returns-clause-found
@@ -61,5 +67,6 @@ returns-clause-found g c honest =
       c.in_ok-token.field-0,
       c.in_ok-token.ensures.in_range,
       c.in_ok-token.ensures.found honest,
-      sym (ap (λ o. option_map_or has_no_uses o false) c.in-Some.is ∙ ap (λ o. option_map_or (λ n. n == 0) o false) uses),
+      sym (ap (λ o. option_map_or has_no_uses o false) c.in-Some.is
+          ∙ ap (λ o. option_map_or (λ n. n == 0) o false) uses),
     )

@@ -14,7 +14,8 @@ use Rattle.broker_rows.proofs.expiry.advance_clock.Goals as goal
 
 pub returns-in_default-clause-wants : goal.returns-in_default-clause-wants
 returns-in_default-clause-wants g c honest b st =
-    c.in_default.not-Some (clock_row b.clock) (c.in_ok-kept.ensures.found honest ∙ clock_found b (g.T.RecordsTx.seen c.args.tx.now).rows st)
+    c.in_default.not-Some (clock_row b.clock)
+    (c.in_ok-kept.ensures.found honest ∙ clock_found b (g.T.RecordsTx.seen c.args.tx.now).rows st)
 
 pub returns-in_err-clock-clause-wants : goal.returns-in_err-clock-clause-wants
 returns-in_err-clock-clause-wants g c honest b st =
@@ -28,7 +29,8 @@ pub returns-then-seconds-clause-told : goal.returns-then-seconds-clause-told
 returns-then-seconds-clause-told g c honest b st =
     let seen = g.T.RecordsTx.seen in
     let old = (seen c.args.tx.now).rows in
-    let is : c.in-Some.kept ≡ clock_row b.clock = same_Some _ _ (sym c.in-Some.is ∙ c.in_ok-kept.ensures.found honest ∙ clock_found b old st) in
+    let is : c.in-Some.kept ≡ clock_row b.clock =
+    same_Some _ _ (sym c.in-Some.is ∙ c.in_ok-kept.ensures.found honest ∙ clock_found b old st) in
     let clock : c.in_ok-clock.clock ≡ b.clock = ok_inj (c.in_ok-clock.ensures.again b.clock st.sound.clock is) in
     let stays : c.later-now.result ≡ c.in_ok-clock.clock = search rules in (
       c.later-now.ensures.value ∙ ap (λ n. max n c.args.moment) clock,
@@ -61,10 +63,13 @@ returns-clause-told g c honest b st =
     let is : c.in-Some.kept ≡ clock_row b.clock = same_Some _ _ (sym c.in-Some.is ∙ c.in_ok-kept.ensures.found mid
     ∙ clock_found b (seen c.args.tx.now).rows st) in
     let clock : c.in_ok-clock.clock ≡ b.clock = ok_inj (c.in_ok-clock.ensures.again b.clock st.sound.clock is) in
-    let later : c.later-now.result ≡ max b.clock c.args.moment = c.later-now.ensures.value ∙ ap (λ n. max n c.args.moment) clock in (
+    let later : c.later-now.result ≡ max b.clock c.args.moment = c.later-now.ensures.value
+    ∙ ap (λ n. max n c.args.moment) clock in (
       later,
-      clock_put b (seen c.args.tx.now).rows (seen c.put.new.self).rows c.later-now.result c.in_ok-row.row st c.later-now.ensures.within c.in_ok-row.ensures
-          (c.in_ok-put.ensures.rows honest ∙ ap (λ rows. map.insert rows (kind.Clock, []) c.in_ok-row.row) (c.in_ok-kept.ensures.call.same mid)),
+      clock_put b (seen c.args.tx.now).rows (seen c.put.new.self).rows c.later-now.result c.in_ok-row.row st
+          c.later-now.ensures.within c.in_ok-row.ensures
+          (c.in_ok-put.ensures.rows honest ∙ ap (λ rows. map.insert rows (kind.Clock, []) c.in_ok-row.row)
+          (c.in_ok-kept.ensures.call.same mid)),
     )
 
 pub returns-clause-call : goal.returns-clause-call
@@ -74,7 +79,8 @@ returns-clause-call g c =
           let seen = g.T.RecordsTx.seen in
           let mid = honest_before (seen c.get.new.self) (seen c.put.new.self) _ c.put.ensures.call.goes_on honest in
           clock_keeps (seen c.args.tx.now).rows (seen c.put.new.self).rows c.in_ok-row.row
-          (c.in_ok-put.ensures.rows honest ∙ ap (λ rows. map.insert rows (kind.Clock, []) c.in_ok-row.row) (c.in_ok-kept.ensures.call.same mid));
+          (c.in_ok-put.ensures.rows honest ∙ ap (λ rows. map.insert rows (kind.Clock, []) c.in_ok-row.row)
+          (c.in_ok-kept.ensures.call.same mid));
       faults = tt;
       goes_on = search rules;
     }
@@ -83,11 +89,13 @@ pub returns-clause-rows : goal.returns-clause-rows
 returns-clause-rows g c honest =
     let seen = g.T.RecordsTx.seen in
     let mid = honest_before (seen c.get.new.self) (seen c.put.new.self) _ c.put.ensures.call.goes_on honest in
-    let rows = c.in_ok-put.ensures.rows honest ∙ ap (λ rows. map.insert rows (kind.Clock, []) c.in_ok-row.row) (c.in_ok-kept.ensures.call.same mid) in
+    let rows = c.in_ok-put.ensures.rows honest
+    ∙ ap (λ rows. map.insert rows (kind.Clock, []) c.in_ok-row.row) (c.in_ok-kept.ensures.call.same mid) in
     record {
       clock = c.in_ok-clock.clock;
       in_range = c.in_ok-clock.ensures.exact.0;
       was = sym (c.in_ok-kept.ensures.found mid) ∙ c.in-Some.is ∙ ap Some c.in_ok-clock.ensures.exact.1;
       later = c.later-now.ensures.value;
-      is = clock_written (seen c.args.tx.now).rows (seen c.put.new.self).rows c.later-now.result c.in_ok-row.row c.in_ok-row.ensures rows;
+      is = clock_written (seen c.args.tx.now).rows
+          (seen c.put.new.self).rows c.later-now.result c.in_ok-row.row c.in_ok-row.ensures rows;
     }

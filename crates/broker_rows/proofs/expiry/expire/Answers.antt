@@ -20,11 +20,16 @@ pub returns-clause-rows : goal.returns-clause-rows
 returns-clause-rows g c honest =
     let seen = g.T.RecordsTx.seen in
     let now = c.in_ok-now.now in
-    let left = honest_before (seen c.leave_nothing.new.tx) (seen c.drop_due.new.tx) _ c.drop_due.ensures.call.goes_on honest in
-    let live = honest_before (seen c.end_due-2.new.tx) (seen c.leave_nothing.new.tx) _ c.leave_nothing.ensures.call.goes_on left in
-    let swept = honest_before (seen c.end_due.new.tx) (seen c.end_due-2.new.tx) _ c.end_due-2.ensures.call.goes_on live in
-    let asked = honest_before (seen c.due_until.new.self) (seen c.end_due.new.tx) _ c.end_due.ensures.call.goes_on swept in
-    let ticked = honest_before (seen c.advance_clock.new.tx) (seen c.due_until.new.self) _ c.due_until.ensures.call.goes_on asked in
+    let left = honest_before (seen c.leave_nothing.new.tx)
+    (seen c.drop_due.new.tx) _ c.drop_due.ensures.call.goes_on honest in
+    let live = honest_before (seen c.end_due-2.new.tx)
+    (seen c.leave_nothing.new.tx) _ c.leave_nothing.ensures.call.goes_on left in
+    let swept = honest_before (seen c.end_due.new.tx)
+    (seen c.end_due-2.new.tx) _ c.end_due-2.ensures.call.goes_on live in
+    let asked = honest_before (seen c.due_until.new.self)
+    (seen c.end_due.new.tx) _ c.end_due.ensures.call.goes_on swept in
+    let ticked = honest_before (seen c.advance_clock.new.tx)
+    (seen c.due_until.new.self) _ c.due_until.ensures.call.goes_on asked in
     let timed = (seen c.advance_clock.new.tx).rows in
     let old = (seen c.due_until.new.self).rows in
     let same = c.in_ok-due.ensures.call.same asked in
@@ -43,13 +48,17 @@ returns-clause-rows g c honest =
       left = (seen c.leave_nothing.new.tx).rows;
       ended = c.in_ok-ended.ended.items;
       advances = c.in_ok-now.ensures.rows ticked;
-      ends = subst (λ (rows : Rows). EndsDescent (has_come now) rows c.in_ok-ended.ended.items (seen c.end_due.new.tx).rows) same
+      ends = subst (λ (rows : Rows). EndsDescent (has_come now) rows c.in_ok-ended.ended.items
+          (seen c.end_due.new.tx).rows) same
           (c.in_ok-ended.ensures.rows swept due);
       due = leases;
-      leaves = subst (λ ended. LeavesNothing ended (seen c.end_due-2.new.tx).rows (seen c.leave_nothing.new.tx).rows) c.deref-3.ensures.value leaves;
+      leaves = subst (λ ended. LeavesNothing ended (seen c.end_due-2.new.tx).rows (seen c.leave_nothing.new.tx).rows)
+          c.deref-3.ensures.value leaves;
       responses = c.in_ok-drop_due.ensures.rows honest now
-          (due_yet timed old (seen c.end_due.new.tx).rows (seen c.end_due-2.new.tx).rows (seen c.leave_nothing.new.tx).rows now c.deref-4.result.now
-          c.deref-3.result.now (subst (AreDue timed now) (sym c.deref-4.ensures.value) (c.in_ok-due.ensures.listed asked)) same
+          (due_yet timed old (seen c.end_due.new.tx).rows (seen c.end_due-2.new.tx).rows
+          (seen c.leave_nothing.new.tx).rows now c.deref-4.result.now
+          c.deref-3.result.now
+          (subst (AreDue timed now) (sym c.deref-4.ensures.value) (c.in_ok-due.ensures.listed asked)) same
           (c.in_ok-ended.ensures.call.others swept) leases.others leaves);
     }
 
@@ -58,7 +67,8 @@ returns-clause-call g c =
     let seen = g.T.RecordsTx.seen in
     record {
       others = λ honest.
-          others_expired c.args.moment c.in_ok-now.now (seen c.args.tx.now).rows (seen c.drop_due.new.tx).rows (returns-clause-rows g c honest);
+          others_expired c.args.moment c.in_ok-now.now (seen c.args.tx.now).rows (seen c.drop_due.new.tx).rows
+          (returns-clause-rows g c honest);
       faults = tt;
       goes_on = search rules;
     }
@@ -66,17 +76,23 @@ returns-clause-call g c =
 pub returns-clause-kept : goal.returns-clause-kept
 returns-clause-kept g c honest =
     let seen = g.T.RecordsTx.seen in
-    damaged_before c.args.moment c.in_ok-now.now (seen c.args.tx.now).rows (seen c.drop_due.new.tx).rows (returns-clause-rows g c honest)
+    damaged_before c.args.moment c.in_ok-now.now (seen c.args.tx.now).rows (seen c.drop_due.new.tx).rows
+    (returns-clause-rows g c honest)
 
 pub returns-clause-told : goal.returns-clause-told
 returns-clause-told g c honest b st =
     let seen = g.T.RecordsTx.seen in
     let now = c.in_ok-now.now in
-    let left = honest_before (seen c.leave_nothing.new.tx) (seen c.drop_due.new.tx) _ c.drop_due.ensures.call.goes_on honest in
-    let live = honest_before (seen c.end_due-2.new.tx) (seen c.leave_nothing.new.tx) _ c.leave_nothing.ensures.call.goes_on left in
-    let swept = honest_before (seen c.end_due.new.tx) (seen c.end_due-2.new.tx) _ c.end_due-2.ensures.call.goes_on live in
-    let asked = honest_before (seen c.due_until.new.self) (seen c.end_due.new.tx) _ c.end_due.ensures.call.goes_on swept in
-    let ticked = honest_before (seen c.advance_clock.new.tx) (seen c.due_until.new.self) _ c.due_until.ensures.call.goes_on asked in
+    let left = honest_before (seen c.leave_nothing.new.tx)
+    (seen c.drop_due.new.tx) _ c.drop_due.ensures.call.goes_on honest in
+    let live = honest_before (seen c.end_due-2.new.tx)
+    (seen c.leave_nothing.new.tx) _ c.leave_nothing.ensures.call.goes_on left in
+    let swept = honest_before (seen c.end_due.new.tx)
+    (seen c.end_due-2.new.tx) _ c.end_due-2.ensures.call.goes_on live in
+    let asked = honest_before (seen c.due_until.new.self)
+    (seen c.end_due.new.tx) _ c.end_due.ensures.call.goes_on swept in
+    let ticked = honest_before (seen c.advance_clock.new.tx)
+    (seen c.due_until.new.self) _ c.due_until.ensures.call.goes_on asked in
     let at = with_clock b now in
     let first = (seen c.args.tx.now).rows in
     let timed = (seen c.advance_clock.new.tx).rows in
@@ -94,28 +110,38 @@ returns-clause-told g c honest b st =
     subst (AreDue timed now) (sym c.deref-2.ensures.value) (c.in_ok-due.ensures.listed asked) in
     let leases = c.in_ok-end_due.ensures.rows live now
     (still_due timed old mid now c.deref-2.result.now listed_too same (c.in_ok-ended.ensures.call.others swept)) in
-    let are = subst (AreEnded at (without_expired at now)) (sym c.deref-3.ensures.value) (c.in_ok-ended.ensures.ended swept forms at tokens due) in
-    let ended = swept_left b c.args.moment now first old st later.0 still mid (seen c.end_due-2.new.tx).rows c.deref-3.result.now are
+    let are = subst (AreEnded at (without_expired at now)) (sym c.deref-3.ensures.value)
+    (c.in_ok-ended.ensures.ended swept forms at tokens due) in
+    let ended = swept_left b c.args.moment now first old st later.0 still mid
+    (seen c.end_due-2.new.tx).rows c.deref-3.result.now are
     (c.in_ok-ended.ensures.told swept forms at tokens due) (c.in_ok-ended.ensures.call.others swept) leases in
     let gone = c.in_ok-leave_nothing.ensures.told left None None at (alive_at now b.tokens) ended in
-    let due_now = due_yet timed old mid (seen c.end_due-2.new.tx).rows rest now c.deref-4.result.now c.deref-3.result.now
-    (subst (AreDue timed now) (sym c.deref-4.ensures.value) (c.in_ok-due.ensures.listed asked)) same (c.in_ok-ended.ensures.call.others swept)
+    let due_now = due_yet timed old mid (seen c.end_due-2.new.tx).rows rest now c.deref-4.result.now
+    c.deref-3.result.now
+    (subst (AreDue timed now) (sym c.deref-4.ensures.value) (c.in_ok-due.ensures.listed asked)) same
+    (c.in_ok-ended.ensures.call.others swept)
     leases.others (c.in_ok-leave_nothing.ensures.rows left) in
     let waiting = represents_waiting (without_expired at now) rest gone in (
       later.0,
       responses_swept b c.args.moment now first old st later.0 still rest (seen c.drop_due.new.tx).rows gone
-          (c.in_ok-drop_due.ensures.told honest (without_expired at now) waiting now due_now) (c.in_ok-drop_due.ensures.call.others honest),
+          (c.in_ok-drop_due.ensures.told honest (without_expired at now) waiting now due_now)
+          (c.in_ok-drop_due.ensures.call.others honest),
     )
 
 pub returns-in_err-drop_due-clause-wants : goal.returns-in_err-drop_due-clause-wants
 returns-in_err-drop_due-clause-wants g c honest b st =
     let seen = g.T.RecordsTx.seen in
     let now = c.in_ok-now.now in
-    let left = honest_before (seen c.leave_nothing.new.tx) (seen c.drop_due.new.tx) _ c.drop_due.ensures.call.goes_on honest in
-    let live = honest_before (seen c.end_due-2.new.tx) (seen c.leave_nothing.new.tx) _ c.leave_nothing.ensures.call.goes_on left in
-    let swept = honest_before (seen c.end_due.new.tx) (seen c.end_due-2.new.tx) _ c.end_due-2.ensures.call.goes_on live in
-    let asked = honest_before (seen c.due_until.new.self) (seen c.end_due.new.tx) _ c.end_due.ensures.call.goes_on swept in
-    let ticked = honest_before (seen c.advance_clock.new.tx) (seen c.due_until.new.self) _ c.due_until.ensures.call.goes_on asked in
+    let left = honest_before (seen c.leave_nothing.new.tx)
+    (seen c.drop_due.new.tx) _ c.drop_due.ensures.call.goes_on honest in
+    let live = honest_before (seen c.end_due-2.new.tx)
+    (seen c.leave_nothing.new.tx) _ c.leave_nothing.ensures.call.goes_on left in
+    let swept = honest_before (seen c.end_due.new.tx)
+    (seen c.end_due-2.new.tx) _ c.end_due-2.ensures.call.goes_on live in
+    let asked = honest_before (seen c.due_until.new.self)
+    (seen c.end_due.new.tx) _ c.end_due.ensures.call.goes_on swept in
+    let ticked = honest_before (seen c.advance_clock.new.tx)
+    (seen c.due_until.new.self) _ c.due_until.ensures.call.goes_on asked in
     let at = with_clock b now in
     let first = (seen c.args.tx.now).rows in
     let timed = (seen c.advance_clock.new.tx).rows in
@@ -133,12 +159,16 @@ returns-in_err-drop_due-clause-wants g c honest b st =
     subst (AreDue timed now) (sym c.deref-2.ensures.value) (c.in_ok-due.ensures.listed asked) in
     let leases = c.in_ok-end_due.ensures.rows live now
     (still_due timed old mid now c.deref-2.result.now listed_too same (c.in_ok-ended.ensures.call.others swept)) in
-    let are = subst (AreEnded at (without_expired at now)) (sym c.deref-3.ensures.value) (c.in_ok-ended.ensures.ended swept forms at tokens due) in
-    let ended = swept_left b c.args.moment now first old st later.0 still mid (seen c.end_due-2.new.tx).rows c.deref-3.result.now are
+    let are = subst (AreEnded at (without_expired at now)) (sym c.deref-3.ensures.value)
+    (c.in_ok-ended.ensures.ended swept forms at tokens due) in
+    let ended = swept_left b c.args.moment now first old st later.0 still mid
+    (seen c.end_due-2.new.tx).rows c.deref-3.result.now are
     (c.in_ok-ended.ensures.told swept forms at tokens due) (c.in_ok-ended.ensures.call.others swept) leases in
     let gone = c.in_ok-leave_nothing.ensures.told left None None at (alive_at now b.tokens) ended in
-    let due_now = due_yet timed old mid (seen c.end_due-2.new.tx).rows rest now c.deref-4.result.now c.deref-3.result.now
-    (subst (AreDue timed now) (sym c.deref-4.ensures.value) (c.in_ok-due.ensures.listed asked)) same (c.in_ok-ended.ensures.call.others swept)
+    let due_now = due_yet timed old mid (seen c.end_due-2.new.tx).rows rest now c.deref-4.result.now
+    c.deref-3.result.now
+    (subst (AreDue timed now) (sym c.deref-4.ensures.value) (c.in_ok-due.ensures.listed asked)) same
+    (c.in_ok-ended.ensures.call.others swept)
     leases.others (c.in_ok-leave_nothing.ensures.rows left) in
     let waiting = represents_waiting (without_expired at now) rest gone in
     let p = err_from_is_err_and c.from_residual-in_err-drop_due.result c.from_residual-in_err-drop_due.ensures.1 in
@@ -148,8 +178,10 @@ pub returns-in_err-ended-clause-wants : goal.returns-in_err-ended-clause-wants
 returns-in_err-ended-clause-wants g c honest b st =
     let seen = g.T.RecordsTx.seen in
     let now = c.in_ok-now.now in
-    let asked = honest_before (seen c.due_until.new.self) (seen c.end_due.new.tx) _ c.end_due.ensures.call.goes_on honest in
-    let ticked = honest_before (seen c.advance_clock.new.tx) (seen c.due_until.new.self) _ c.due_until.ensures.call.goes_on asked in
+    let asked = honest_before (seen c.due_until.new.self)
+    (seen c.end_due.new.tx) _ c.end_due.ensures.call.goes_on honest in
+    let ticked = honest_before (seen c.advance_clock.new.tx)
+    (seen c.due_until.new.self) _ c.due_until.ensures.call.goes_on asked in
     let at = with_clock b now in
     let timed = (seen c.advance_clock.new.tx).rows in
     let old = (seen c.due_until.new.self).rows in
@@ -167,9 +199,12 @@ pub returns-in_err-end_due-clause-wants : goal.returns-in_err-end_due-clause-wan
 returns-in_err-end_due-clause-wants g c honest b st =
     let seen = g.T.RecordsTx.seen in
     let now = c.in_ok-now.now in
-    let swept = honest_before (seen c.end_due.new.tx) (seen c.end_due-2.new.tx) _ c.end_due-2.ensures.call.goes_on honest in
-    let asked = honest_before (seen c.due_until.new.self) (seen c.end_due.new.tx) _ c.end_due.ensures.call.goes_on swept in
-    let ticked = honest_before (seen c.advance_clock.new.tx) (seen c.due_until.new.self) _ c.due_until.ensures.call.goes_on asked in
+    let swept = honest_before (seen c.end_due.new.tx)
+    (seen c.end_due-2.new.tx) _ c.end_due-2.ensures.call.goes_on honest in
+    let asked = honest_before (seen c.due_until.new.self)
+    (seen c.end_due.new.tx) _ c.end_due.ensures.call.goes_on swept in
+    let ticked = honest_before (seen c.advance_clock.new.tx)
+    (seen c.due_until.new.self) _ c.due_until.ensures.call.goes_on asked in
     let at = with_clock b now in
     let timed = (seen c.advance_clock.new.tx).rows in
     let old = (seen c.due_until.new.self).rows in
@@ -178,20 +213,26 @@ returns-in_err-end_due-clause-wants g c honest b st =
     let still = still_represented at timed old same later.1 in
     let listed_too : AreDue timed now c.deref-2.result.now =
     subst (AreDue timed now) (sym c.deref-2.ensures.value) (c.in_ok-due.ensures.listed asked) in
-    let due_too = still_due timed old (seen c.end_due.new.tx).rows now c.deref-2.result.now listed_too same (c.in_ok-ended.ensures.call.others swept) in
+    let due_too = still_due timed old (seen c.end_due.new.tx).rows now c.deref-2.result.now listed_too same
+    (c.in_ok-ended.ensures.call.others swept) in
     let p = err_from_is_err_and c.from_residual-in_err-end_due.result c.from_residual-in_err-end_due.ensures.1 in
     rw (p.1, p.2) (not_damaged (λ damage. damage honest now due_too
-    (due_readable b c.args.moment now (seen c.args.tx.now).rows old st later.0 still (seen c.end_due.new.tx).rows (c.in_ok-ended.ensures.call.others swept))) _
+    (due_readable b c.args.moment now (seen c.args.tx.now).rows old st later.0 still (seen c.end_due.new.tx).rows
+    (c.in_ok-ended.ensures.call.others swept))) _
     c.in_err-end_due.ensures.call.faults)
 
 pub returns-in_err-leave_nothing-clause-wants : goal.returns-in_err-leave_nothing-clause-wants
 returns-in_err-leave_nothing-clause-wants g c honest b st =
     let seen = g.T.RecordsTx.seen in
     let now = c.in_ok-now.now in
-    let live = honest_before (seen c.end_due-2.new.tx) (seen c.leave_nothing.new.tx) _ c.leave_nothing.ensures.call.goes_on honest in
-    let swept = honest_before (seen c.end_due.new.tx) (seen c.end_due-2.new.tx) _ c.end_due-2.ensures.call.goes_on live in
-    let asked = honest_before (seen c.due_until.new.self) (seen c.end_due.new.tx) _ c.end_due.ensures.call.goes_on swept in
-    let ticked = honest_before (seen c.advance_clock.new.tx) (seen c.due_until.new.self) _ c.due_until.ensures.call.goes_on asked in
+    let live = honest_before (seen c.end_due-2.new.tx)
+    (seen c.leave_nothing.new.tx) _ c.leave_nothing.ensures.call.goes_on honest in
+    let swept = honest_before (seen c.end_due.new.tx)
+    (seen c.end_due-2.new.tx) _ c.end_due-2.ensures.call.goes_on live in
+    let asked = honest_before (seen c.due_until.new.self)
+    (seen c.end_due.new.tx) _ c.end_due.ensures.call.goes_on swept in
+    let ticked = honest_before (seen c.advance_clock.new.tx)
+    (seen c.due_until.new.self) _ c.due_until.ensures.call.goes_on asked in
     let at = with_clock b now in
     let timed = (seen c.advance_clock.new.tx).rows in
     let old = (seen c.due_until.new.self).rows in
@@ -204,10 +245,15 @@ returns-in_err-leave_nothing-clause-wants g c honest b st =
     let due = subst (λ (rows : Rows). AreDue rows now c.deref.result.now) (sym same) listed in
     let listed_too : AreDue timed now c.deref-2.result.now =
     subst (AreDue timed now) (sym c.deref-2.ensures.value) (c.in_ok-due.ensures.listed asked) in
-    let due_too = still_due timed old (seen c.end_due.new.tx).rows now c.deref-2.result.now listed_too same (c.in_ok-ended.ensures.call.others swept) in
-    let are = subst (AreEnded at (without_expired at now)) (sym c.deref-3.ensures.value) (c.in_ok-ended.ensures.ended swept forms at tokens due) in
-    let left = swept_left b c.args.moment now (seen c.args.tx.now).rows old st later.0 still (seen c.end_due.new.tx).rows (seen c.end_due-2.new.tx).rows
-    c.deref-3.result.now are (c.in_ok-ended.ensures.told swept forms at tokens due) (c.in_ok-ended.ensures.call.others swept)
+    let due_too = still_due timed old (seen c.end_due.new.tx).rows now c.deref-2.result.now listed_too same
+    (c.in_ok-ended.ensures.call.others swept) in
+    let are = subst (AreEnded at (without_expired at now)) (sym c.deref-3.ensures.value)
+    (c.in_ok-ended.ensures.ended swept forms at tokens due) in
+    let left = swept_left b c.args.moment now (seen c.args.tx.now).rows old st later.0 still
+    (seen c.end_due.new.tx).rows (seen c.end_due-2.new.tx).rows
+    c.deref-3.result.now are (c.in_ok-ended.ensures.told swept forms at tokens due)
+    (c.in_ok-ended.ensures.call.others swept)
     (c.in_ok-end_due.ensures.rows live now due_too) in
-    let p = err_from_is_err_and c.from_residual-in_err-leave_nothing.result c.from_residual-in_err-leave_nothing.ensures.1 in
+    let p = err_from_is_err_and c.from_residual-in_err-leave_nothing.result
+    c.from_residual-in_err-leave_nothing.ensures.1 in
     rw (p.1, p.2) (c.in_err-leave_nothing.ensures.wants honest None None at (alive_at now b.tokens) left)

@@ -10,4 +10,5 @@ returns-clause-rows g c honest =
     let rows = (g.T.RecordsTx.seen c.args.tx.now).rows in
     on_ok_weaker c.put.result (λ put.
     ap table_of put ∙ table_of-insert rows kind.Used c.args.identifier.now c.in_ok-write_used.field-0
-    ∙ ap (with_row (table_of rows) kind.Used c.args.identifier.now) c.in_ok-write_used.ensures) (c.put.ensures.rows honest)
+    ∙ ap (with_row (table_of rows) kind.Used c.args.identifier.now) c.in_ok-write_used.ensures)
+    (c.put.ensures.rows honest)

@@ -1,4 +1,5 @@
-use Rattle.broker_types.specs.TreeLaws.{orphan_unknown, orphan_gone, orphan_child, orphan_unrelated, orphan_none, orphan_tree}
+use Rattle.broker_types.specs.TreeLaws.{orphan_unknown, orphan_gone, orphan_child, orphan_unrelated, orphan_none}
+use Rattle.broker_types.specs.TreeLaws.{orphan_tree}
 use Rattle.broker_types.proofs.laws.revocation_orphans_children.Goals as goal
 
 pub returns-clause-unknown : goal.returns-clause-unknown

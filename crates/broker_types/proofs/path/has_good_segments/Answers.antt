@@ -12,11 +12,13 @@ loop-i-preserved c =
     let within : i < length s = omega arith in
     elim c.if-byte-eq47.branch [
       | then-byte-eq47+else-not-is_good_segment w ↦ record {
-        rest = rw w.start-is (sym (at_slash s old i within w.if-byte-eq47.true (sym w.if-not-is_good_segment.ensures)) ∙ c.loop-i.invariant.rest);
+        rest = rw w.start-is (sym (at_slash s old i within w.if-byte-eq47.true (sym w.if-not-is_good_segment.ensures))
+            ∙ c.loop-i.invariant.rest);
         order = omega arith;
       }
       | else-byte-eq47 w ↦ record {
-        rest = rw w.start-is (sym (at_other s old i c.loop-i.invariant.order within (grind (arith, nat_tests))) ∙ c.loop-i.invariant.rest);
+        rest = rw w.start-is (sym (at_other s old i c.loop-i.invariant.order within (grind (arith, nat_tests)))
+            ∙ c.loop-i.invariant.rest);
         order = omega arith;
       }
     ]

@@ -5,6 +5,7 @@ use Rattle.broker_types.proofs.path.has_good_segments.Given as goal
 
 abbrev pub invariant-loop-i : goal.invariant-loop-i
 invariant-loop-i l = record {
-  rest : list_all is_segment (segments (slice_range l.text l.start l.i) (drop l.i l.text)) ≡ list_all is_segment (segments [] l.text);
+  rest : list_all is_segment (segments (slice_range l.text l.start l.i) (drop l.i l.text))
+      ≡ list_all is_segment (segments [] l.text);
   order : l.start ≤ l.i;
 }

@@ -10,7 +10,8 @@ use Rattle.broker_types.proofs.time.time_text.Goals as goal
 shows : (n : ℕ) (dt : DateTime) (text : List ℕ) → epoch_day dt.date ≡ pos (n / 86400) → IsClock (n % 86400) dt.time
     → text ≡ iso_datetime_text dt ++ 90 ∷ [] → text ≡ time_text n
 shows n dt text day clock e =
-    let found = civil_of_date dt.date.year dt.date.month dt.date.day (n / 86400) (dt.date.year_in, dt.date.month_in, dt.date.day_in) day in
+    let found = civil_of_date dt.date.year dt.date.month dt.date.day (n / 86400)
+    (dt.date.year_in, dt.date.month_in, dt.date.day_in) day in
     e ∙ rw (clock.0, clock.1, clock.2, clock.3, ← found.0, ← found.1, ← found.2) refl
 
 pub returns : goal.returns

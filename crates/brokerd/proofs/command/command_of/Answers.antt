@@ -1,4 +1,5 @@
-use Rattle.std.proofs.Common.{◌≡◌, ◌∙◌, List, Option, Some, None, IfErr, IsErrAnd, Result, Ok, Err, map, option_map, string_bytes, refl, sym, ap}
+use Rattle.std.proofs.Common.{◌≡◌, ◌∙◌, List, Option, Some, None, IfErr, IsErrAnd, Result, Ok, Err, map, option_map}
+use Rattle.std.proofs.Common.{string_bytes, refl, sym, ap}
 use Rattle.std.proofs.Common.{subst, true}
 use Rattle.clap.specs.Words.{App, Row, Text, found_of, is_simple, rows_of, subcommand_of, subcommand_rows_of, takes}
 use Rattle.clap.proofs.OnLiterals.{clap_on_literals}
@@ -44,7 +45,8 @@ returns-in-Some-clause-ok c =
     let words : List Text = map string_bytes c.args.words.now in
     let rows = rows_of (found_of c.in-Some.found.now) in
     let given = c.in_ok-matches.ensures.matches (simple _ c.in_ok-program.ensures) in
-    let found = both (subcommand_rows_of m) c.in-Some.name.now rows (c.in-Some.ensures.name ∙ via _ _ _) c.in-Some.ensures.rows in
+    let found = both (subcommand_rows_of m) c.in-Some.name.now rows
+    (c.in-Some.ensures.name ∙ via _ _ _) c.in-Some.ensures.rows in
     meant_of _ c.in-Some.name.now rows c.meant.result
     (found ∙ given.1 ∙ ap (λ (a : App). subcommand_of a words) c.in_ok-program.ensures) c.meant.ensures
 

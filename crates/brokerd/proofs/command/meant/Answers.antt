@@ -1,4 +1,5 @@
-use Rattle.std.proofs.Common.{◌≡◌, ◌≢◌, ◌∙◌, ◌∷◌, [], arith, inl, inr, List, ℕ, Option, Some, None, option_map, sym, refl, ap, codes, Bor, rules}
+use Rattle.std.proofs.Common.{◌≡◌, ◌≢◌, ◌∙◌, ◌∷◌, [], arith, inl, inr, List, ℕ, Option, Some, None, option_map, sym}
+use Rattle.std.proofs.Common.{refl, ap, codes, Bor, rules}
 use Rattle.clap.specs.Words.{found_of, one_text}
 use Rattle.clap.proofs.WalkLemmas.{first_value-rows, one_text-rows}
 use Rattle.brokerd.proofs.FlagLemmas.{is_flag}
@@ -19,7 +20,11 @@ pub returns-in_err-db : goal.returns-in_err-db
 returns-in_err-db c =
     let f = found_of c.args.found.now in
     let is : c.args.name.now ≡ codes "check" = search rules in
-    rw (c.from_residual.ensures) (search rules, λ _. sym (c.in_err-db.ensures ∙ first_value-rows f (codes "db")), λ other. absurd (differ (sym is ∙ other)))
+    rw (c.from_residual.ensures) (
+      search rules,
+      λ _. sym (c.in_err-db.ensures ∙ first_value-rows f (codes "db")),
+      λ other. absurd (differ (sym is ∙ other)),
+    )
 
 pub returns-then-eq-2 : goal.returns-then-eq-2
 returns-then-eq-2 c =
@@ -30,31 +35,40 @@ pub returns-in_default : goal.returns-in_default
 returns-in_default c =
     let f = found_of c.args.found.now in
     let none = none_of c.get_str-2.result c.in_default.not-Some in
-    let differs : c.args.name.now ≢ codes "check" = search rules in
-    (search rules, λ is. absurd (differs is), λ _. inl (sym (c.get_str-2.ensures ∙ first_value-rows f (codes "listen")) ∙ ap (option_map _) none))
+    let differs : c.args.name.now ≢ codes "check" = search rules in (
+      search rules,
+      λ is. absurd (differs is),
+      λ _. inl (sym (c.get_str-2.ensures ∙ first_value-rows f (codes "listen")) ∙ ap (option_map _) none),
+    )
 
 pub returns-in_err-count : goal.returns-in_err-count
 returns-in_err-count c =
     let differs : c.args.name.now ≢ codes "check" = search rules in
-    rw (c.from_residual-in_err-count.ensures) (search rules, λ is. absurd (differs is), λ _. inr (inl (c.in_err-count.ensures.none refl)))
+    rw (c.from_residual-in_err-count.ensures)
+    (search rules, λ is. absurd (differs is), λ _. inr (inl (c.in_err-count.ensures.none refl)))
 
 pub returns-in_err-places : goal.returns-in_err-places
 returns-in_err-places c =
     let differs : c.args.name.now ≢ codes "check" = search rules in
-    rw (c.from_residual-in_err-places.ensures) (search rules, λ is. absurd (differs is), λ _. inr (inr (c.in_err-places.ensures.none refl)))
+    rw (c.from_residual-in_err-places.ensures)
+    (search rules, λ is. absurd (differs is), λ _. inr (inr (c.in_err-places.ensures.none refl)))
 
 pub returns : goal.returns
 returns c =
     let f = found_of c.args.found.now in (
       search rules,
       c.get_str-3.ensures ∙ first_value-rows f (codes "db"),
-      sym (c.get_str-2.ensures ∙ first_value-rows f (codes "listen")) ∙ ap (λ (o : Option (Bor (List ℕ))). option_map (λ s. s.now) o) c.in-Some.is,
+      sym (c.get_str-2.ensures ∙ first_value-rows f (codes "listen"))
+          ∙ ap (λ (o : Option (Bor (List ℕ))). option_map (λ s. s.now) o) c.in-Some.is,
       c.in_ok-count.ensures.some,
       c.in_ok-places.ensures.some,
       rw (← one_text-rows f (codes "stop-on-input"))
-          (is_flag (one_text f (codes "stop-on-input")) c.get_flag.result c.get_flag.ensures.none c.get_flag.ensures.other c.get_flag.ensures.value),
+          (is_flag (one_text f (codes "stop-on-input")) c.get_flag.result c.get_flag.ensures.none
+          c.get_flag.ensures.other c.get_flag.ensures.value),
       rw (← one_text-rows f (codes "log"))
-          (is_flag (one_text f (codes "log")) c.get_flag-2.result c.get_flag-2.ensures.none c.get_flag-2.ensures.other c.get_flag-2.ensures.value),
+          (is_flag (one_text f (codes "log")) c.get_flag-2.result c.get_flag-2.ensures.none c.get_flag-2.ensures.other
+          c.get_flag-2.ensures.value),
       rw (← one_text-rows f (codes "check"))
-          (is_flag (one_text f (codes "check")) c.get_flag-3.result c.get_flag-3.ensures.none c.get_flag-3.ensures.other c.get_flag-3.ensures.value),
+          (is_flag (one_text f (codes "check")) c.get_flag-3.result c.get_flag-3.ensures.none c.get_flag-3.ensures.other
+          c.get_flag-3.ensures.value),
     )

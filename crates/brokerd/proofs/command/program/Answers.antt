@@ -33,10 +33,14 @@ pub returns : goal.returns
 unfolding program_app
 returns c =
     let told : app_of c.about.result ≡ new_app _ = ap app_of_fields c.about.ensures ∙ c.new.ensures.app in
-    let versioned : app_of c.version.result ≡ has_a_version (new_app _) = ap app_of_fields c.version.ensures ∙ ap has_a_version told in
-    let begun : app_of c.subcommand_required.result ≡ top_app = ap app_of_fields c.subcommand_required.ensures ∙ ap wants_subcommand versioned in
-    let one = c.in_ok-subcommand.ensures.shape (local _ _ c.replay.ensures refl) ∙ ap₂ with_subcommand begun (top c.replay.ensures) in
-    let two = c.in_ok-subcommand-2.ensures.shape (local _ _ c.in_ok-check.ensures refl) ∙ ap₂ with_subcommand one (top c.in_ok-check.ensures) in
+    let versioned : app_of c.version.result ≡ has_a_version (new_app _) = ap app_of_fields c.version.ensures
+    ∙ ap has_a_version told in
+    let begun : app_of c.subcommand_required.result ≡ top_app = ap app_of_fields c.subcommand_required.ensures
+    ∙ ap wants_subcommand versioned in
+    let one = c.in_ok-subcommand.ensures.shape (local _ _ c.replay.ensures refl)
+    ∙ ap₂ with_subcommand begun (top c.replay.ensures) in
+    let two = c.in_ok-subcommand-2.ensures.shape (local _ _ c.in_ok-check.ensures refl)
+    ∙ ap₂ with_subcommand one (top c.in_ok-check.ensures) in
     IfOk-weaker c.subcommand-3.result _ _
     (λ d h. h.shape (local _ _ c.in_ok-serve.ensures refl) ∙ ap₂ with_subcommand two (top c.in_ok-serve.ensures))
     c.subcommand-3.ensures

@@ -1,5 +1,6 @@
 use Rattle.cubbyhole.proofs.Filed.{key_tells}
-use Rattle.cubbyhole.proofs.FiledRows.{brokers_filed, written_filed, deleted_filed, dropped_filed, owned_alike, others_stay}
+use Rattle.cubbyhole.proofs.FiledRows.{brokers_filed, written_filed, deleted_filed, dropped_filed, owned_alike}
+use Rattle.cubbyhole.proofs.FiledRows.{others_stay}
 use Rattle.cubbyhole.proofs.laws.rows_are_filed_under_owners.Goals as goal
 
 pub returns-clause-brokers : goal.returns-clause-brokers

@@ -20,7 +20,8 @@ returns-clause-rows g c honest =
     let key : Text = c.as_str.result.now in
     on_ok_weaker {P = new.rows ≡ map.remove old.rows (kind.Cubby, key)} c.remove.result (λ removed.
     ap table_of removed ∙ table_of-remove old.rows kind.Cubby key
-    ∙ ap (without_row (table old) kind.Cubby) (c.as_str.ensures.value ∙ c.in_ok-key.ensures)) (c.remove.ensures.rows honest)
+    ∙ ap (without_row (table old) kind.Cubby) (c.as_str.ensures.value ∙ c.in_ok-key.ensures))
+    (c.remove.ensures.rows honest)
 
 pub returns-clause-call : goal.returns-clause-call
 returns-clause-call g c =
@@ -30,7 +31,8 @@ returns-clause-call g c =
     record {
       others = λ honest.
           on_ok_weaker c.remove.result (λ rows.
-          others_kept t (λ q. same q (object_key t path)) None (table (seen c.args.tx.now)) (table (seen c.remove.new.self)) rows (key_under t path))
+          others_kept t (λ q. same q (object_key t path)) None (table (seen c.args.tx.now))
+          (table (seen c.remove.new.self)) rows (key_under t path))
           (returns-clause-rows g c honest);
       faults = c.remove.ensures.call.faults;
       goes_on = search rules;
@@ -42,5 +44,6 @@ returns-clause-told g c honest part b told len =
     let t = c.args.token.now in
     let path = c.args.path.now in
     on_ok_weaker c.remove.result (λ rows.
-    tells_edited b t (λ m. without m path) (λ q. same q (object_key t path)) None (table (seen c.args.tx.now)) (table (seen c.remove.new.self)) rows
+    tells_edited b t (λ m. without m path) (λ q. same q (object_key t path)) None (table (seen c.args.tx.now))
+    (table (seen c.remove.new.self)) rows
     (cubby-delete b t len path) part told) (returns-clause-rows g c honest)

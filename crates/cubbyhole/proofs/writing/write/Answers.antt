@@ -23,7 +23,8 @@ returns-clause-rows g c honest =
     let row : Row = c.in_ok-row.row in
     on_ok_weaker {P = new.rows ≡ map.insert old.rows (kind.Cubby, key) row} c.put.result (λ put.
     ap table_of put ∙ table_of-insert old.rows kind.Cubby key row
-    ∙ (λ i. with_row (table old) kind.Cubby ((c.as_str.ensures.value ∙ c.in_ok-key.ensures) i) (c.in_ok-row.ensures i))) (c.put.ensures.rows honest)
+    ∙ (λ i. with_row (table old) kind.Cubby ((c.as_str.ensures.value ∙ c.in_ok-key.ensures) i) (c.in_ok-row.ensures i)))
+    (c.put.ensures.rows honest)
 
 pub returns-clause-call : goal.returns-clause-call
 returns-clause-call g c =
@@ -33,7 +34,8 @@ returns-clause-call g c =
     record {
       others = λ honest.
           on_ok_weaker c.put.result (λ rows.
-          others_kept t (λ q. same q (object_key t path)) (Some (cubby_row t c.args.object.now)) (table (seen c.args.tx.now)) (table (seen c.put.new.self)) rows
+          others_kept t (λ q. same q (object_key t path)) (Some (cubby_row t c.args.object.now))
+          (table (seen c.args.tx.now)) (table (seen c.put.new.self)) rows
           (key_under t path)) (returns-clause-rows g c honest);
       faults = c.put.ensures.call.faults;
       goes_on = search rules;
@@ -46,6 +48,7 @@ returns-clause-told g c honest part b told here len =
     let path = c.args.path.now in
     let object = c.args.object.now in
     on_ok_weaker c.put.result (λ rows.
-    tells_edited b t (λ m. put m path object) (λ q. same q (object_key t path)) (Some (cubby_row t object)) (table (seen c.args.tx.now))
+    tells_edited b t (λ m. put m path object) (λ q. same q (object_key t path)) (Some (cubby_row t object))
+    (table (seen c.args.tx.now))
     (table (seen c.put.new.self)) rows
     (cubby-write b t len path object here) part told) (returns-clause-rows g c honest)

@@ -8,6 +8,8 @@ use Rattle.database_check.proofs.checking.check_from.Goals as goal
 pub returns-clause-sound : goal.returns-clause-sound
 returns-clause-sound g c honest =
     let opened = kept_records over_files c.in_ok-records.records in
-    let less : opened.mismatches ≤ (kept_records over_files c.check_records.new.records).mismatches = c.in_ok-finding.ensures.mismatches in
+    let less : opened.mismatches ≤ (kept_records over_files c.check_records.new.records).mismatches =
+    c.in_ok-finding.ensures.mismatches in
     let before : IsHonestStore opened = omega (arith, less, honest) in
-    if_sound c.in_ok-finding.finding (λ opens. (opened.rows, c.in_ok-records.ensures.found before, opens)) (c.in_ok-finding.ensures.sound honest)
+    if_sound c.in_ok-finding.finding (λ opens. (opened.rows, c.in_ok-records.ensures.found before, opens))
+    (c.in_ok-finding.ensures.sound honest)

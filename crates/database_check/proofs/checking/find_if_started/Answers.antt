@@ -11,7 +11,8 @@ use Rattle.database_check.proofs.checking.find_if_started.Goals as goal
 pub returns-clause-sound : goal.returns-clause-sound
 returns-clause-sound g c honest =
     let seen = g.T.RecordsTx.seen in
-    let asked : IsHonest (seen c.get.new.self) = honest_before (seen c.get.new.self) (seen c.find_defect.new.tx) _ c.find_defect.ensures.call.goes_on honest in
+    let asked : IsHonest (seen c.get.new.self) =
+    honest_before (seen c.get.new.self) (seen c.find_defect.new.tx) _ c.find_defect.ensures.call.goes_on honest in
     subst (λ (rows : Rows). IfOk c.find_defect.result (λ defect. IfNone defect (HasNoClock rows ⊎ OpenAsABroker rows)))
     (c.in_ok-get.ensures.call.same asked)
     (IfOk-weaker c.find_defect.result _ _ (λ defect. if_none defect inr) (c.find_defect.ensures.sound honest))

@@ -7,4 +7,5 @@ pub returns-clause-no_memory : goal.returns-clause-no_memory
 returns-clause-no_memory c =
     λ plain.
     c.read_path.ensures.no_memory
-    (subst HasNoEscape (sym (c.range_from.ensures.value ∙ ap (drop 4) c.split_target.ensures.path)) (HasNoEscape-drop 4 _ plain))
+    (subst HasNoEscape (sym (c.range_from.ensures.value ∙ ap (drop 4) c.split_target.ensures.path))
+    (HasNoEscape-drop 4 _ plain))

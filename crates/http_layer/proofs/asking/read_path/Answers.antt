@@ -21,5 +21,6 @@ returns-in-Ok-read-clause-path c =
     c.percent_decode.ensures.bytes ∙ ap percent_decode c.as_bytes.ensures.value in
     let path : c.in-Ok-read.path ≡ without_slash (percent_decode c.args.encoded.now) =
     c.in-Ok-read.ensures.0 ∙ ap without_slash (c.in-Ok.ensures.value ∙ decoded) in
-    path_read-path _ (subst IsUtf8 decoded c.in-Ok.ensures.ok_only_if_utf8) (ap is_path (sym path) ∙ c.in-Ok-read.ensures.1)
+    path_read-path _ (subst IsUtf8 decoded c.in-Ok.ensures.ok_only_if_utf8)
+    (ap is_path (sym path) ∙ c.in-Ok-read.ensures.1)
     ∙ ap Ok (sym path)

@@ -8,4 +8,5 @@ returns-in-Ok c =
     ∙ ap (λ (v : List ℕ). Ok (Some v)) (sym c.in-Ok.ensures.cases.0)
 
 pub returns-in-Err : goal.returns-in-Err
-returns-in-Err c = value_asked-no_text _ _ c.in-Once.ensures c.in-Err.ensures.cases.0 ∙ ap Err (sym c.bad_request-in-Err.ensures)
+returns-in-Err c = value_asked-no_text _ _ c.in-Once.ensures c.in-Err.ensures.cases.0
+    ∙ ap Err (sym c.bad_request-in-Err.ensures)

@@ -16,6 +16,8 @@ returns-then-lists_close c =
     let h = get_or c.args.headers.now c.loop-header.header-index none in
     let is : is_closing (header_bytes text h) ≡ true =
     and_from _ _
-    (ap (λ (t : List ℕ). same_in_any_case t (codes "connection")) (sym c.of.ensures) ∙ sym c.same_in_any_case.ensures ∙ c.if-same_in_any_case.true)
+    (ap (λ (t : List ℕ). same_in_any_case t (codes "connection")) (sym c.of.ensures) ∙ sym c.same_in_any_case.ensures
+    ∙ c.if-same_in_any_case.true)
     (ap lists_close (sym c.of-then-same_in_any_case.ensures) ∙ sym c.lists_close.ensures ∙ c.if-lists_close.true) in
-    list_any-map_at is_closing (header_bytes text) c.args.headers.now c.loop-header.header-index none c.loop-header-test.true is
+    list_any-map_at is_closing (header_bytes text) c.args.headers.now c.loop-header.header-index none
+    c.loop-header-test.true is

@@ -8,7 +8,8 @@ use Rattle.http_layer.specs.declared.fields.Named.TheVariants.{Several}
 use Rattle.http_layer.specs.Named.{AreNamed}
 use Rattle.http_layer.proofs.NamedLemmas.{values_named-hit, values_named-miss, AreNamed-several}
 use Rattle.http_layer.proofs.fields.find_named.Goals as goal
-use Rattle.http_layer.proofs.fields.find_named.Goals.{then-same_in_any_case+in-Absent, then-same_in_any_case+in_default, else-same_in_any_case}
+use Rattle.http_layer.proofs.fields.find_named.Goals.{then-same_in_any_case+in-Absent, then-same_in_any_case+in_default}
+use Rattle.http_layer.proofs.fields.find_named.Goals.{else-same_in_any_case}
 
 abbrev none : HeaderSpan
 none = record { name = record { start = 0; end = 0 }; value = record { start = 0; end = 0 } }
@@ -28,14 +29,18 @@ loop-header-preserved c =
       | then-same_in_any_case+in-Absent w ↦
           rw w.named-is
           (values_named-hit name so_far f (test ∙ w.if-same_in_any_case.true)
-          ∙ ap (λ (l : List (List ℕ)). l ++ f.1 ∷ []) (subst (λ (n : Named). AreNamed (values_named name so_far) n) w.in-Absent.is c.loop-header.invariant)
+          ∙ ap (λ (l : List (List ℕ)). l ++ f.1 ∷ [])
+          (subst (λ (n : Named). AreNamed (values_named name so_far) n) w.in-Absent.is c.loop-header.invariant)
           ∙ ap (λ (v : List ℕ). v ∷ []) (sym w.of-in-Absent.ensures))
       | then-same_in_any_case+in_default w ↦
           rw w.named-is
-          (subst (λ (l : List (List ℕ)). AreNamed l Several) (sym (values_named-hit name so_far f (test ∙ w.if-same_in_any_case.true)))
-          (AreNamed-several (values_named name so_far) c.loop-header.named f.1 c.loop-header.invariant w.in_default.not-Absent))
+          (subst (λ (l : List (List ℕ)). AreNamed l Several)
+          (sym (values_named-hit name so_far f (test ∙ w.if-same_in_any_case.true)))
+          (AreNamed-several (values_named name so_far) c.loop-header.named f.1 c.loop-header.invariant
+          w.in_default.not-Absent))
       | else-same_in_any_case w ↦
           rw w.named-is
-          (subst (λ (l : List (List ℕ)). AreNamed l c.loop-header.named) (sym (values_named-miss name so_far f (test ∙ w.if-same_in_any_case.false)))
+          (subst (λ (l : List (List ℕ)). AreNamed l c.loop-header.named)
+          (sym (values_named-miss name so_far f (test ∙ w.if-same_in_any_case.false)))
           c.loop-header.invariant)
     ])

@@ -12,4 +12,5 @@ returns-in-Some c =
     ∙ ap (λ p. version_in (option_map (λ q. q.now) p)) (sym c.in-Some.is) ∙ ap version_in c.version_part.ensures.first
 
 pub returns-in-None : goal.returns-in-None
-returns-in-None c = ap (λ p. version_in (option_map (λ q. q.now) p)) (sym c.in-None.is) ∙ ap version_in c.version_part.ensures.first
+returns-in-None c = ap (λ p. version_in (option_map (λ q. q.now) p)) (sym c.in-None.is)
+    ∙ ap version_in c.version_part.ensures.first

@@ -7,6 +7,7 @@ use Rattle.http_layer.proofs.query.version_part.Goals as goal
 pub returns-clause-first : goal.returns-clause-first
 returns-clause-first c =
     find_from_yields_List is_version_part _ _ _ c.find.ensures.ran
-    (YieldsList-from_slice_split _ (λ b. b == 38) c.args.query.now c.split.ensures.rest c.split.ensures.done c.split.ensures.closure
+    (YieldsList-from_slice_split _ (λ b. b == 38) c.args.query.now c.split.ensures.rest c.split.ensures.done
+    c.split.ensures.closure
     (λ x b q k. search (rules, tests)))
     (λ x b q k. search (rules, tests))

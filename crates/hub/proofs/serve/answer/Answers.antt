@@ -22,8 +22,10 @@ returns-in_err-more-2-clause-served g c =
     rw (p.1 ∙ ap Err p.2)
     (serves_err
     (serves_on c.loop-more.invariant.served c.in_err-more-2.ensures.served (joins_nothing c.args.piece.now _ refl)
-    (Appends-append (g.W.Sink.written c.args.writer.now) (g.W.Sink.written c.loop-more.writer) (g.W.Sink.written c.answer_one-in-loop-more.new.writer))
-    (Supplies-append g.C.Clock.may_tell c.args.clock.now c.loop-more.clock c.answer_one-in-loop-more.new.clock g.D.WordSource.may_give
+    (Appends-append (g.W.Sink.written c.args.writer.now) (g.W.Sink.written c.loop-more.writer)
+    (g.W.Sink.written c.answer_one-in-loop-more.new.writer))
+    (Supplies-append g.C.Clock.may_tell c.args.clock.now c.loop-more.clock c.answer_one-in-loop-more.new.clock
+    g.D.WordSource.may_give
     c.args.words.now c.loop-more.words c.answer_one-in-loop-more.new.words))
     (λ failed. failed))
 
@@ -32,13 +34,16 @@ returns-in_err-more-2-clause-served g c =
 pub loop-more-smaller : goal.loop-more-smaller
 loop-more-smaller g c =
     measure_falls c.loop-more.more c.in_ok-more-2.more (hub_waiting c.answer_one-in-loop-more.new.hub c.args.conn)
-    (hub_waiting c.loop-more.hub c.args.conn) c.loop-more-test.true (λ is. c.answer_one-in-loop-more.ensures.falls refl (c.in_ok-more-2.was ∙ ap Ok is))
+    (hub_waiting c.loop-more.hub c.args.conn) c.loop-more-test.true
+    (λ is. c.answer_one-in-loop-more.ensures.falls refl (c.in_ok-more-2.was ∙ ap Ok is))
 
 pub loop-more-preserved : goal.loop-more-preserved
 loop-more-preserved g c = record {
   served = serves_on c.loop-more.invariant.served c.in_ok-more-2.ensures.served (joins_nothing c.args.piece.now _ refl)
-      (Appends-append (g.W.Sink.written c.args.writer.now) (g.W.Sink.written c.loop-more.writer) (g.W.Sink.written c.answer_one-in-loop-more.new.writer))
-      (Supplies-append g.C.Clock.may_tell c.args.clock.now c.loop-more.clock c.answer_one-in-loop-more.new.clock g.D.WordSource.may_give
+      (Appends-append (g.W.Sink.written c.args.writer.now) (g.W.Sink.written c.loop-more.writer)
+      (g.W.Sink.written c.answer_one-in-loop-more.new.writer))
+      (Supplies-append g.C.Clock.may_tell c.args.clock.now c.loop-more.clock c.answer_one-in-loop-more.new.clock
+      g.D.WordSource.may_give
       c.args.words.now c.loop-more.words c.answer_one-in-loop-more.new.words);
   answered = c.in_ok-more-2.ensures.answered;
 }

@@ -23,7 +23,8 @@ returns-in_err-serve_piece-clause-served g c =
     let p = err_from_is_err_and c.from_residual.result c.from_residual.ensures.1 in
     rw (p.1 ∙ ap Err p.2)
     (serves_err
-    (serves_next (g.R.Source.left c.args.reader.now) (g.R.Source.left c.loop.reader) (g.R.Source.left c.serve_piece.new.reader)
+    (serves_next (g.R.Source.left c.args.reader.now) (g.R.Source.left c.loop.reader)
+    (g.R.Source.left c.serve_piece.new.reader)
     (g.W.Sink.written c.args.writer.now) (g.W.Sink.written c.loop.writer) (g.W.Sink.written c.serve_piece.new.writer)
     c.loop.invariant.served c.in_err-serve_piece.ensures.served) inl)
 
@@ -32,7 +33,8 @@ returns-in_err-serve_piece-clause-served g c =
 pub returns-then-branch-clause-served : goal.returns-then-branch-clause-served
 returns-then-branch-clause-served g c =
     serves_ok
-    (serves_next (g.R.Source.left c.args.reader.now) (g.R.Source.left c.loop.reader) (g.R.Source.left c.serve_piece.new.reader)
+    (serves_next (g.R.Source.left c.args.reader.now) (g.R.Source.left c.loop.reader)
+    (g.R.Source.left c.serve_piece.new.reader)
     (g.W.Sink.written c.args.writer.now) (g.W.Sink.written c.loop.writer) (g.W.Sink.written c.serve_piece.new.writer)
     c.loop.invariant.served c.in_ok-serve_piece.ensures.served)
 
@@ -51,7 +53,8 @@ loop-init g c = record {
 pub loop-preserved : goal.loop-preserved
 loop-preserved g c = record {
   served = serves_ok
-      (serves_next (g.R.Source.left c.args.reader.now) (g.R.Source.left c.loop.reader) (g.R.Source.left c.serve_piece.new.reader)
+      (serves_next (g.R.Source.left c.args.reader.now) (g.R.Source.left c.loop.reader)
+      (g.R.Source.left c.serve_piece.new.reader)
       (g.W.Sink.written c.args.writer.now) (g.W.Sink.written c.loop.writer) (g.W.Sink.written c.serve_piece.new.writer)
       c.loop.invariant.served c.in_ok-serve_piece.ensures.served);
   counted = omega (arith, c.in_ok-serve_piece.ensures.counted, c.loop.invariant.counted);
@@ -63,7 +66,8 @@ pub returns-clause-served : goal.returns-clause-served
 returns-clause-served g c =
     let left = g.R.Source.left c.loop.reader in
     let now = g.W.Sink.written c.loop.writer in
-    serves_next (g.R.Source.left c.args.reader.now) left left (g.W.Sink.written c.args.writer.now) now now c.loop.invariant.served
+    serves_next (g.R.Source.left c.args.reader.now) left left
+    (g.W.Sink.written c.args.writer.now) now now c.loop.invariant.served
     (serves_closing g.S.Store.seen c.args.conn _ _ _ _ _ Read c.loop.hub c.close.new.self refl
     (λ is. inr (search rules)) (λ is. cc is) (Consumes-nil left) (Appends-nil now)
     (Supplies-nil g.C.Clock.may_tell c.loop.clock g.D.WordSource.may_give c.loop.words)

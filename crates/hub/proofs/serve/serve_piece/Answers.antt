@@ -15,7 +15,8 @@ use Rattle.hub.proofs.serve.serve_piece.Goals as goal
 pub returns-in_default-clause-served : goal.returns-in_default-clause-served
 returns-in_default-clause-served g c =
     serves_closing g.S.Store.seen c.args.conn _ _ _ _ _ Read c.args.hub.now c.close.new.self refl
-    (λ is. failed_now (g.R.Source.has_failed c.args.reader.now) _ c.in_default.ensures.failing) (λ is. cc is) (Consumes-kept _ _ c.in_default.ensures.bytes) (Appends-nil _)
+    (λ is. failed_now (g.R.Source.has_failed c.args.reader.now) _ c.in_default.ensures.failing) (λ is. cc is)
+    (Consumes-kept _ _ c.in_default.ensures.bytes) (Appends-nil _)
     (Supplies-nil g.C.Clock.may_tell c.args.clock.now g.D.WordSource.may_give c.args.words.now)
     (record { store = c.close.ensures.store; connections = c.close.ensures.connections })
 
@@ -26,7 +27,8 @@ returns-in_err-answer-clause-served g c =
     let p = err_from_is_err_and c.from_residual.result c.from_residual.ensures.1 in
     let Reads = Consumes (g.R.Source.left c.args.reader.now) (g.R.Source.left c.pull.new.self) in
     rw (p.1 ∙ ap Err p.2)
-    (serves_so _ (serves_err c.in_err-answer.ensures.served (λ failed. absurd failed)) (λ l is. subst Reads (sym is) c.in-Ok.ensures.bytes.0))
+    (serves_so _ (serves_err c.in_err-answer.ensures.served (λ failed. absurd failed))
+    (λ l is. subst Reads (sym is) c.in-Ok.ensures.bytes.0))
 
 -- ---- the input has ended
 

@@ -14,8 +14,10 @@ returns-in-Some-clause-some c =
     let conn = c.args.conn in
     let h = c.range.ensures.in_range tt in
     let e = h.3 _ _ c.in-Some.ensures.steps in
-    last_from (λ (k : ℕ). get nat_cmp c.args.connections.now k) conn c.in-Some.first.now c.in-Some.entry.now e.1 (le_from_not_gt _ conn e.0.1)
+    last_from (λ (k : ℕ). get nat_cmp c.args.connections.now k) conn c.in-Some.first.now c.in-Some.entry.now e.1
+    (le_from_not_gt _ conn e.0.1)
     (λ k le there. ge_from_not_lt _ k (h.4 _ _ c.in-Some.ensures.steps k (tt, not_gt k conn le) there))
 
 pub returns-in-None-clause-none : goal.returns-in-None-clause-none
-returns-in-None-clause-none c = λ nothing k le. (c.range.ensures.in_range tt).5 c.in-None.ensures.steps.0 k (tt, not_gt k c.args.conn le)
+returns-in-None-clause-none c = λ nothing k le. (c.range.ensures.in_range tt).5 c.in-None.ensures.steps.0 k
+    (tt, not_gt k c.args.conn le)

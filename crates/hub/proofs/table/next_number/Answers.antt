@@ -9,7 +9,8 @@ returns-in-Some c =
     let f = λ (k : ℕ). get nat_cmp c.args.connections.now k in
     let first = c.in-Some.first.now in
     next_after f first c.in-Some.entry.now c.next.result c.in-Some.ensures.value
-    (none_past f first (λ k there. ge_from_not_lt first k (c.in-Some.ensures.greatest k there))) (omega arith) c.next.ensures
+    (none_past f first (λ k there. ge_from_not_lt first k (c.in-Some.ensures.greatest k there)))
+    (omega arith) c.next.ensures
 
 pub returns-in-None : goal.returns-in-None
 returns-in-None c =

@@ -30,7 +30,8 @@ returns-in-Ok-clause-room g c = λ is nothing.
 
 pub returns-in-Err-clause-took : goal.returns-in-Err-clause-took
 returns-in-Err-clause-took g c =
-    turns_err c.args.link.now c.send_rest.new.link c.conn.result (c.conn.ensures ∙ c.send_rest.ensures.same) c.send_rest.ensures.same
+    turns_err c.args.link.now c.send_rest.new.link c.conn.result
+    (c.conn.ensures ∙ c.send_rest.ensures.same) c.send_rest.ensures.same
     (serves_closing g.S.Store.seen c.conn.result _ _ _ _ _ Write c.args.hub.now c.close.new.self refl
     (λ is. cc is) (λ is. c.in-Err.ensures.failed) (Consumes-nil _) c.send_rest.ensures.sent
     (Supplies-nil g.C.Clock.may_tell c.args.clock.now g.D.WordSource.may_give c.args.words.now)
@@ -59,7 +60,8 @@ returns-then-is_closed-clause-ended g c = λ is. (
 -- ---- a request waits
 
 pub returns-then-has_request-clause-took : goal.returns-then-has_request-clause-took
-returns-then-has_request-clause-took g c = turns_so (Consumes-nil (g.R.NowSource.left c.args.reader.now)) c.feed_piece.ensures.took
+returns-then-has_request-clause-took g c =
+    turns_so (Consumes-nil (g.R.NowSource.left c.args.reader.now)) c.feed_piece.ensures.took
 
 -- ---- a piece is read
 

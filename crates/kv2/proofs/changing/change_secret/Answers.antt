@@ -27,11 +27,15 @@ returns g c timely =
     } in
     let made = c.change_versions.ensures in
     record {
-      rows = λ honest. subst (λ (q : Text). OnOk c.change_versions.result (AreChanged f ns q old new)) is (made.rows honest timely);
+      rows = λ honest. subst (λ (q : Text). OnOk c.change_versions.result (AreChanged f ns q old new)) is
+          (made.rows honest timely);
       told = λ honest forms b sound told is_name.
-          on_ok_weaker c.change_versions.result (versions_told forms b sound old told mount path name is laws is_name f ns new) (made.rows honest timely);
+          on_ok_weaker c.change_versions.result
+          (versions_told forms b sound old told mount path name is laws is_name f ns new) (made.rows honest timely);
       wants = λ honest forms b sound told is_name.
-          made.faults honest timely (λ n small _. its_versions forms b sound old told mount path name is laws is_name n small);
-      faults = λ honest versions. made.faults honest timely (subst (λ (q : Text). AreReadableVersions old q ns) (sym is) versions);
+          made.faults honest timely
+          (λ n small _. its_versions forms b sound old told mount path name is laws is_name n small);
+      faults = λ honest versions. made.faults honest timely
+          (subst (λ (q : Text). AreReadableVersions old q ns) (sym is) versions);
       call = made.call;
     }

@@ -19,8 +19,10 @@ returns-in_default-clause-rows g c honest timely =
     let old = table_of (g.T.RecordsTx.seen c.args.tx.now).rows in
     let f = change_of c.args.change in
     let none : old kind.KvVersion (version_key c.args.name.now c.args.number) ≡ None =
-    ap (old kind.KvVersion) (sym (c.as_str.ensures.value ∙ c.in_ok-key.ensures)) ∙ sym (c.in_ok-kept.ensures.found honest) ∙ none_of _ c.in_default.not-Some in
-    subst (λ (t : Table). AreChanged f (c.args.number ∷ []) c.args.name.now old t) (ap table_of (sym (c.in_ok-kept.ensures.call.same honest)))
+    ap (old kind.KvVersion) (sym (c.as_str.ensures.value ∙ c.in_ok-key.ensures))
+    ∙ sym (c.in_ok-kept.ensures.found honest) ∙ none_of _ c.in_default.not-Some in
+    subst (λ (t : Table). AreChanged f (c.args.number ∷ []) c.args.name.now old t)
+    (ap table_of (sym (c.in_ok-kept.ensures.call.same honest)))
     (missing_changed f c.args.name.now old c.args.number small none)
 
 pub returns-clause-rows : goal.returns-clause-rows
@@ -30,8 +32,10 @@ returns-clause-rows g c honest timely =
     let small : c.args.number < 2 ^ 64 = omega arith in
     let old = table_of (seen c.args.tx.now).rows in
     let f = change_of c.args.change in
-    let at = ap (old kind.KvVersion) (sym (c.as_str.ensures.value ∙ c.in_ok-key.ensures)) ∙ sym (c.in_ok-kept.ensures.found first) ∙ c.in-Some.is in
-    let one = row_changed f c.args.name.now old c.args.number small c.in-Some.kept c.in_ok-read_version.field-0 c.changed-version.result at
+    let at = ap (old kind.KvVersion) (sym (c.as_str.ensures.value ∙ c.in_ok-key.ensures))
+    ∙ sym (c.in_ok-kept.ensures.found first) ∙ c.in-Some.is in
+    let one = row_changed f c.args.name.now old c.args.number small c.in-Some.kept c.in_ok-read_version.field-0
+    c.changed-version.result at
     c.in_ok-read_version.ensures.exact.0 c.in_ok-read_version.ensures.exact.1
     (λ v range row. c.changed-version.ensures ∙ ap f (ok_inj (c.in_ok-read_version.ensures.again v range row)))
     (λ v range. stays_in_range c.args.change v timely range) in

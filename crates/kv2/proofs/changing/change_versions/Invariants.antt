@@ -11,6 +11,7 @@ invariant-loop-number g l =
     let seen = g.T.RecordsTx.seen in
     record {
       rows : IsHonest (seen l.tx) → IsTimely l.change
-          → AreChanged (change_of l.change) (take l.number-index l.numbers) l.name (table_of (seen l.fn.tx).rows) (table_of (seen l.tx).rows);
+          → AreChanged (change_of l.change) (take l.number-index l.numbers) l.name (table_of (seen l.fn.tx).rows)
+          (table_of (seen l.tx).rows);
       goes_on : GoesOn (seen l.fn.tx) (seen l.tx) false;
     }

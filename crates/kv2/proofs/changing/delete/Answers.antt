@@ -20,7 +20,8 @@ returns-clause-call g c =
       others = λ honest.
           on_ok_weaker c.change_current.result (λ keeps.
           subst (λ (q : Text). KeepsOtherNames q (table (seen c.args.tx.now)) (table (seen c.change_current.new.tx)))
-          (c.as_str.ensures.value ∙ c.in_ok-name.ensures) keeps) (c.change_current.ensures.others honest c.seconds-now.ensures.within);
+          (c.as_str.ensures.value ∙ c.in_ok-name.ensures) keeps)
+          (c.change_current.ensures.others honest c.seconds-now.ensures.within);
       faults = c.change_current.ensures.call.faults;
       goes_on = search rules;
     }
@@ -41,9 +42,11 @@ returns-clause-told g c honest forms b sound told at is_name =
       split = c.versions_have_keys.ensures.split;
     } in
     on_ok_weaker c.change_current.result (λ rows.
-    subst (λ n. Tells of_secrets new (with_key b mount path (λ (k : Key). with_changed (soft_deleted n) (k.current ∷ []) k))) (c.seconds-now.ensures.value ∙ at)
+    subst (λ n. Tells of_secrets new (with_key b mount path
+    (λ (k : Key). with_changed (soft_deleted n) (k.current ∷ []) k))) (c.seconds-now.ensures.value ∙ at)
     (current_told forms b sound old told mount path name is laws is_name (soft_deleted c.seconds-now.result) new rows))
-    (c.change_current.ensures.rows honest c.seconds-now.ensures.within (option_map key_entry (get b.secrets (secret_name mount path)))
+    (c.change_current.ensures.rows honest c.seconds-now.ensures.within
+    (option_map key_entry (get b.secrets (secret_name mount path)))
     (its_key forms b sound old told mount path name is))
 
 pub returns-clause-wants : goal.returns-clause-wants
@@ -60,7 +63,8 @@ returns-clause-wants g c honest forms b sound told is_name =
       split = c.versions_have_keys.ensures.split;
     } in
     c.change_current.ensures.faults honest (option_map key_entry (get b.secrets (secret_name mount path)))
-    (its_key forms b sound old told mount path name is) (λ n small _. its_versions forms b sound old told mount path name is laws is_name n small)
+    (its_key forms b sound old told mount path name is)
+    (λ n small _. its_versions forms b sound old told mount path name is laws is_name n small)
 
 pub returns-clause-faults : goal.returns-clause-faults
 returns-clause-faults g c honest k has versions =

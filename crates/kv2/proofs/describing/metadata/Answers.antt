@@ -18,13 +18,16 @@ pub returns-in_err-key-clause-wants : goal.returns-in_err-key-clause-wants
 returns-in_err-key-clause-wants g c honest forms b sound told =
     let rows = (g.T.RecordsTx.seen c.args.tx.now).rows in
     let p = err_from_is_err_and c.from_residual-in_err-key.result c.from_residual-in_err-key.ensures.1 in
-    rw (p.1, p.2) (c.in_err-key.ensures.faults honest (option_map key_entry (get b.secrets (secret_name c.args.mount.now c.args.path.now)))
-    (key_told forms b sound rows told c.args.mount.now c.args.path.now c.as_str.result.now (c.as_str.ensures.value ∙ c.in_ok-name.ensures)))
+    rw (p.1, p.2) (c.in_err-key.ensures.faults honest
+    (option_map key_entry (get b.secrets (secret_name c.args.mount.now c.args.path.now)))
+    (key_told forms b sound rows told c.args.mount.now c.args.path.now c.as_str.result.now
+    (c.as_str.ensures.value ∙ c.in_ok-name.ensures)))
 
 pub returns-in_default-clause-told : goal.returns-in_default-clause-told
 returns-in_default-clause-told g c honest forms b sound told =
     let rows = (g.T.RecordsTx.seen c.args.tx.now).rows in
-    describe_none forms b sound rows told c.args.mount.now c.args.path.now c.as_str.result.now (c.as_str.ensures.value ∙ c.in_ok-name.ensures)
+    describe_none forms b sound rows told c.args.mount.now c.args.path.now c.as_str.result.now
+    (c.as_str.ensures.value ∙ c.in_ok-name.ensures)
     c.in_ok-key.field-0 (λ k has. c.in_ok-key.ensures.found honest k has) (none_of _ c.in_default.not-Some)
 
 pub returns-in_err-versions-clause-wants : goal.returns-in_err-versions-clause-wants
@@ -38,7 +41,8 @@ returns-in_err-versions-clause-wants g c honest forms b sound told =
       order = c.versions_have_keys.ensures.order;
       split = c.versions_have_keys.ensures.split;
     } in
-    let r = describe_some forms b sound rows told c.args.mount.now c.args.path.now c.as_str.result.now (c.as_str.ensures.value ∙ c.in_ok-name.ensures)
+    let r = describe_some forms b sound rows told c.args.mount.now c.args.path.now c.as_str.result.now
+    (c.as_str.ensures.value ∙ c.in_ok-name.ensures)
     laws c.in_ok-key.field-0 c.in-Some.key (λ k has. c.in_ok-key.ensures.found first k has) c.in-Some.is in
     let p = err_from_is_err_and c.from_residual-in_err-versions.result c.from_residual-in_err-versions.ensures.1 in
     rw (p.1, p.2) (c.in_err-versions.ensures.told honest r.0
@@ -57,8 +61,10 @@ returns-clause-found g c honest =
           (subst (HasKey (table_of rows) c.as_str.result.now) c.in-Some.is (c.in_ok-key.ensures.exact first)),
       (
         r.0,
-        subst (λ (z : Rows). AreVersions z (secret_name c.args.mount.now c.args.path.now) r.0) (c.in_ok-key.ensures.call.same first)
-            (subst (λ q. AreVersions (seen c.find_key.new.tx).rows q r.0) (c.as_str-2.ensures.value ∙ c.in_ok-name.ensures) r.1),
+        subst (λ (z : Rows). AreVersions z (secret_name c.args.mount.now c.args.path.now) r.0)
+            (c.in_ok-key.ensures.call.same first)
+            (subst (λ q. AreVersions (seen c.find_key.new.tx).rows q r.0)
+            (c.as_str-2.ensures.value ∙ c.in_ok-name.ensures) r.1),
         ap Some (c.with_versions.ensures.told r.0 r.2),
       ),
     )
@@ -74,7 +80,8 @@ returns-clause-told g c honest forms b sound told =
       order = c.versions_have_keys.ensures.order;
       split = c.versions_have_keys.ensures.split;
     } in
-    let r = describe_some forms b sound rows told c.args.mount.now c.args.path.now c.as_str.result.now (c.as_str.ensures.value ∙ c.in_ok-name.ensures)
+    let r = describe_some forms b sound rows told c.args.mount.now c.args.path.now c.as_str.result.now
+    (c.as_str.ensures.value ∙ c.in_ok-name.ensures)
     laws c.in_ok-key.field-0 c.in-Some.key (λ k has. c.in_ok-key.ensures.found first k has) c.in-Some.is in
     let versions = c.in_ok-versions.ensures.told honest r.0
     (subst (λ (z : Rows). AreVersions z c.as_str-2.result.now r.0) (sym (c.in_ok-key.ensures.call.same first))
@@ -84,17 +91,20 @@ returns-clause-told g c honest forms b sound told =
 pub returns-clause-in_range : goal.returns-clause-in_range
 returns-clause-in_range g c x is =
     subst IsMetadataInRange (same_Some _ _ is)
-    (c.with_versions.ensures.in_range (c.in_ok-key.ensures.in_range c.in-Some.key c.in-Some.is) c.in_ok-versions.ensures.in_range)
+    (c.with_versions.ensures.in_range (c.in_ok-key.ensures.in_range c.in-Some.key c.in-Some.is)
+    c.in_ok-versions.ensures.in_range)
 
 pub returns-clause-call : goal.returns-clause-call
 returns-clause-call g c =
     let seen = g.T.RecordsTx.seen in
     record {
       same = λ honest.
-          let first : IsHonest (seen c.find_key.new.tx) = honest_before _ _ _ c.find_versions.ensures.call.goes_on honest in
+          let first : IsHonest (seen c.find_key.new.tx) =
+          honest_before _ _ _ c.find_versions.ensures.call.goes_on honest in
           c.in_ok-versions.ensures.call.same honest ∙ c.in_ok-key.ensures.call.same first;
       faults = tt;
       goes_on =
-          goes_further (seen c.args.tx.now) (seen c.find_key.new.tx) (seen c.find_versions.new.tx) false c.in_ok-key.ensures.call.goes_on
+          goes_further (seen c.args.tx.now) (seen c.find_key.new.tx)
+          (seen c.find_versions.new.tx) false c.in_ok-key.ensures.call.goes_on
           c.in_ok-versions.ensures.call.goes_on;
     }

@@ -13,7 +13,8 @@ returns-in_err-version-clause-told c vs are =
     let i = c.loop-entry.entry-index in
     let prefix : c.as_str.result.now ≡ versions_prefix name = c.as_str.ensures.value ∙ c.in_ok-prefix.ensures in
     let p = err_from_is_err_and c.from_residual-in_err-version.result c.from_residual-in_err-version.ensures.1 in
-    rw (p.1 ∙ ap Err p.2) (c.in_err-version.ensures.told prefix (get_or vs i no_version) (numbered_at name listed vs are i c.loop-entry-test.true)
+    rw (p.1 ∙ ap Err p.2) (c.in_err-version.ensures.told prefix (get_or vs i no_version)
+    (numbered_at name listed vs are i c.loop-entry-test.true)
     (entry_at name listed vs are i c.loop-entry-test.true c.entry-item.result c.entry-item.is))
 
 pub loop-entry-preserved : goal.loop-entry-preserved
@@ -27,13 +28,16 @@ loop-entry-preserved c =
     record {
       told = λ vs are.
           let next : c.in_ok-version.version ≡ version_metadata (get_or vs i no_version) =
-          c.in_ok-version.ensures.told prefix (get_or vs i no_version) (numbered_at name listed vs are i c.loop-entry-test.true)
+          c.in_ok-version.ensures.told prefix (get_or vs i no_version)
+          (numbered_at name listed vs are i c.loop-entry-test.true)
           (entry_at name listed vs are i c.loop-entry-test.true c.entry-item.result c.entry-item.is) in
           c.in_ok-push.ensures.items ∙ (λ j. old.told vs are j ++ next j ∷ [])
           ∙ sym (map_more version_metadata vs i no_version (as_far name listed vs are i c.loop-entry-test.true));
       exact = (
         old.exact.0 ++ one.0 ∷ [],
-        one_more name listed i old.exact.0 old.exact.1 c.loop-entry-test.true c.entry-item.result c.entry-item.is one.0 one.1 one.2,
-        c.in_ok-push.ensures.items ∙ (λ j. old.exact.2 j ++ one.3 j ∷ []) ∙ sym (map_push version_metadata old.exact.0 one.0),
+        one_more name listed i old.exact.0 old.exact.1 c.loop-entry-test.true c.entry-item.result c.entry-item.is one.0
+            one.1 one.2,
+        c.in_ok-push.ensures.items ∙ (λ j. old.exact.2 j ++ one.3 j ∷ [])
+            ∙ sym (map_push version_metadata old.exact.0 one.0),
       );
     }

@@ -1,10 +1,12 @@
 use Rattle.std.proofs.Common.{◌∷◌, []}
 use Rattle.kv2.specs.Versions.{soft_deleted, restored, destroyed}
-use Rattle.kv2.proofs.KeyHistory.{write_restores_nothing, nothing_restored, nothing_brought_back, deleted_gone, restored_gone, destroyed_gone}
+use Rattle.kv2.proofs.KeyHistory.{write_restores_nothing, nothing_restored, nothing_brought_back, deleted_gone}
+use Rattle.kv2.proofs.KeyHistory.{restored_gone, destroyed_gone}
 use Rattle.kv2.proofs.laws.destroyed_secrets_stay_away.Goals as goal
 
 pub returns-clause-written : goal.returns-clause-written
-returns-clause-written c forms b mount path cas object w n sound is there h = write_restores_nothing b mount path cas object w is forms n sound there h
+returns-clause-written c forms b mount path cas object w n sound is there h =
+    write_restores_nothing b mount path cas object w is forms n sound there h
 
 pub returns-clause-changed : goal.returns-clause-changed
 returns-clause-changed c b mount path ns n h = record {

@@ -1,4 +1,5 @@
-use Rattle.kv2.specs.SoundLaws.{write_sound, delete_sound, delete_versions_sound, undelete_sound, destroy_sound, remove_key_sound, drop_mount_sound}
+use Rattle.kv2.specs.SoundLaws.{write_sound, delete_sound, delete_versions_sound, undelete_sound, destroy_sound}
+use Rattle.kv2.specs.SoundLaws.{remove_key_sound, drop_mount_sound}
 use Rattle.kv2.specs.SoundLaws.{set_metadata_sound, set_config_sound}
 use Rattle.kv2.proofs.laws.operations_keep_soundness.Goals as goal
 
@@ -21,7 +22,9 @@ returns-clause-removed c forms who b mount path sound = record {
 }
 
 pub returns-clause-described : goal.returns-clause-described
-returns-clause-described c forms who b mount path given sound is_name within = set_metadata_sound forms who b sound mount path given is_name within
+returns-clause-described c forms who b mount path given sound is_name within =
+    set_metadata_sound forms who b sound mount path given is_name within
 
 pub returns-clause-set : goal.returns-clause-set
-returns-clause-set c forms who b mount cas_required max_versions sound wide = set_config_sound forms who b sound mount cas_required max_versions wide
+returns-clause-set c forms who b mount cas_required max_versions sound wide =
+    set_config_sound forms who b sound mount cas_required max_versions wide

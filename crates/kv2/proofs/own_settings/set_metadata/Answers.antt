@@ -25,14 +25,17 @@ returns-clause-rows g c honest k has =
     let now = c.args.now in
     let given = c.args.given in
     let s = c.seconds-now.result in
-    let found = c.in_ok-found.ensures.found first k (subst (λ (q : Text). HasKey old q k) (sym (c.as_str.ensures.value ∙ c.in_ok-name.ensures)) has) in
+    let found = c.in_ok-found.ensures.found first k
+    (subst (λ (q : Text). HasKey old q k) (sym (c.as_str.ensures.value ∙ c.in_ok-name.ensures)) has) in
     let name = c.as_str-2.ensures.value ∙ c.in_ok-name.ensures in
     let row = c.in_ok-row.ensures
-    ∙ ap key_entry_row (c.described-key.ensures.key ∙ ap (described_entry s given) (c.key_or_new.ensures.key ∙ ap (λ o. unwrap_or o (new_entry s)) found))
+    ∙ ap key_entry_row (c.described-key.ensures.key
+    ∙ ap (described_entry s given) (c.key_or_new.ensures.key ∙ ap (λ o. unwrap_or o (new_entry s)) found))
     ∙ ap (λ n. key_entry_row (described_entry n given (unwrap_or k (new_entry n)))) c.seconds-now.ensures.value in
     on_ok_weaker c.put.result (λ put.
     ap table_of put ∙ table_of-insert (seen c.find_key.new.tx).rows kind.KvKey c.as_str-2.result.now c.in_ok-row.row
-    ∙ (λ i. with_row (table_of (c.in_ok-found.ensures.call.same first i)) kind.KvKey (name i) (row i))) (c.put.ensures.rows honest)
+    ∙ (λ i. with_row (table_of (c.in_ok-found.ensures.call.same first i)) kind.KvKey (name i) (row i)))
+    (c.put.ensures.rows honest)
 
 pub returns-clause-readable : goal.returns-clause-readable
 returns-clause-readable g c honest =
@@ -40,7 +43,8 @@ returns-clause-readable g c honest =
     let first : IsHonest (seen c.find_key.new.tx) = honest_before _ _ _ c.put.ensures.call.goes_on honest in
     let old = table_of (seen c.args.tx.now).rows in
     let found = c.in_ok-found.found in
-    let has = subst (λ (q : Text). HasKey old q found) (c.as_str.ensures.value ∙ c.in_ok-name.ensures) (c.in_ok-found.ensures.exact first) in
+    let has = subst (λ (q : Text). HasKey old q found) (c.as_str.ensures.value ∙ c.in_ok-name.ensures)
+    (c.in_ok-found.ensures.exact first) in
     on_ok_weaker c.put.result (λ put. (found, has)) (c.put.ensures.rows honest)
 
 pub returns-clause-told : goal.returns-clause-told
@@ -52,7 +56,8 @@ returns-clause-told g c honest forms b sound told at =
     let name = secret_name mount path in
     let k = option_map key_entry (get b.secrets name) in
     on_ok_weaker c.put.result (λ rows.
-    subst (λ (t : Table). Tells of_secrets t (set_metadata b mount path given)) (sym (rows ∙ ap (λ n. with_description old name n given k) at))
+    subst (λ (t : Table). Tells of_secrets t (set_metadata b mount path given))
+    (sym (rows ∙ ap (λ n. with_description old name n given k) at))
     (described_told old b told mount path given (λ es is. (c.requires es is).ascend)))
     (returns-clause-rows g c honest k (has_key forms b sound old told name))
 
@@ -65,9 +70,11 @@ returns-clause-call g c =
       others = λ honest.
           let first : IsHonest (seen c.find_key.new.tx) = honest_before _ _ _ c.put.ensures.call.goes_on honest in
           let found = c.in_ok-found.found in
-          let has = subst (λ (q : Text). HasKey old q found) (c.as_str.ensures.value ∙ c.in_ok-name.ensures) (c.in_ok-found.ensures.exact first) in
+          let has = subst (λ (q : Text). HasKey old q found) (c.as_str.ensures.value ∙ c.in_ok-name.ensures)
+          (c.in_ok-found.ensures.exact first) in
           on_ok_weaker c.put.result (λ rows.
-          subst (λ (t : Table). KeepsOtherNames name old t) (sym rows) (described_keeps name old c.args.now c.args.given found))
+          subst (λ (t : Table). KeepsOtherNames name old t) (sym rows)
+          (described_keeps name old c.args.now c.args.given found))
           (returns-clause-rows g c honest found has);
       faults = search rules;
       goes_on = search rules;
@@ -80,4 +87,5 @@ returns-in_err-found-clause-wants g c honest forms b sound told =
     let k = option_map key_entry (get b.secrets name) in
     let p = err_from_is_err_and c.from_residual-in_err-found.result c.from_residual-in_err-found.ensures.1 in
     rw (p.1, p.2) (c.in_err-found.ensures.faults honest k
-    (subst (λ (q : Text). HasKey old q k) (sym (c.as_str.ensures.value ∙ c.in_ok-name.ensures)) (has_key forms b sound old told name)))
+    (subst (λ (q : Text). HasKey old q k) (sym (c.as_str.ensures.value ∙ c.in_ok-name.ensures))
+    (has_key forms b sound old told name)))

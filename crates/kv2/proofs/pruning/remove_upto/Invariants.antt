@@ -9,7 +9,8 @@ invariant-loop-entry g l =
     let seen = g.T.RecordsTx.seen in
     record {
       rows : IsHonest (seen l.tx)
-          → without_listed (seen l.tx).rows (drop l.entry-index l.entry-items) ≡ without_listed (seen l.initial.tx).rows l.entry-items;
+          → without_listed (seen l.tx).rows (drop l.entry-index l.entry-items)
+          ≡ without_listed (seen l.initial.tx).rows l.entry-items;
       mismatches : (seen l.initial.tx).mismatches ≤ (seen l.tx).mismatches;
       goes_on : GoesOn (seen l.fn.tx) (seen l.tx) false;
     }

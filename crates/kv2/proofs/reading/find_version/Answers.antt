@@ -13,7 +13,9 @@ returns-clause-exact g c honest =
     let old = table_of (g.T.RecordsTx.seen c.args.tx.now).rows in
     let name = c.args.name.now in
     let number = c.args.number in
-    let at = ap (old kind.KvVersion) (sym (c.as_str.ensures.value ∙ c.in_ok-key.ensures)) ∙ sym (c.in_ok-kept.ensures.found honest) ∙ c.in-Some.is in
+    let at = ap (old kind.KvVersion) (sym (c.as_str.ensures.value ∙ c.in_ok-key.ensures))
+    ∙ sym (c.in_ok-kept.ensures.found honest) ∙ c.in-Some.is in
     let read = c.in_ok-found.ensures.exact in
     subst (λ v. HasVersion old name number (Some v)) (sym c.in_ok-version.ensures)
-    (some_read IsVersionInRange version_row (old kind.KvVersion (version_key name number)) c.in-Some.kept c.in_ok-found.found at read.0 read.1)
+    (some_read IsVersionInRange version_row (old kind.KvVersion (version_key name number)) c.in-Some.kept
+    c.in_ok-found.found at read.0 read.1)

@@ -8,5 +8,6 @@ use Rattle.kv2.proofs.reading.is_there.Goals as goal
 pub returns-clause-told : goal.returns-clause-told
 returns-clause-told g c honest b told =
     let old = table_of (g.T.RecordsTx.seen c.args.tx.now).rows in
-    c.is_some.ensures ∙ ap is_some (c.in_ok-get.ensures.found honest ∙ ap (old kind.KvKey) (c.as_str.ensures.value ∙ c.in_ok-name.ensures))
+    c.is_some.ensures ∙ ap is_some (c.in_ok-get.ensures.found honest
+    ∙ ap (old kind.KvKey) (c.as_str.ensures.value ∙ c.in_ok-name.ensures))
     ∙ key_there old b (secret_name c.args.mount.now c.args.path.now) told

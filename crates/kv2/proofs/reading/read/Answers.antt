@@ -17,7 +17,8 @@ use Rattle.kv2.proofs.reading.read.Goals as goal
 pub returns-in_default-clause-told : goal.returns-in_default-clause-told
 returns-in_default-clause-told g c honest forms b sound told =
     let old = table_of (g.T.RecordsTx.seen c.args.tx.now).rows in
-    read_none forms b sound old told c.args.mount.now c.args.path.now c.as_str.result.now (c.as_str.ensures.value ∙ c.in_ok-name.ensures) c.args.number
+    read_none forms b sound old told c.args.mount.now c.args.path.now c.as_str.result.now
+    (c.as_str.ensures.value ∙ c.in_ok-name.ensures) c.args.number
     c.in_ok-key.field-0 (λ k has. c.in_ok-key.ensures.found honest k has) (none_of _ c.in_default.not-Some)
 
 pub returns-clause-told : goal.returns-clause-told
@@ -32,12 +33,16 @@ returns-clause-told g c honest forms b sound told =
       split = c.versions_have_keys.ensures.split;
     } in
     let small : c.asked_number-asked.result < 2 ^ 64 = omega arith in
-    let r = read_some forms b sound old told c.args.mount.now c.args.path.now c.as_str.result.now (c.as_str.ensures.value ∙ c.in_ok-name.ensures) c.args.number
-    laws c.in_ok-key.field-0 c.in-Some.key (λ k has. c.in_ok-key.ensures.found first k has) c.in-Some.is c.asked_number-asked.result
+    let r = read_some forms b sound old told c.args.mount.now c.args.path.now c.as_str.result.now
+    (c.as_str.ensures.value ∙ c.in_ok-name.ensures) c.args.number
+    laws c.in_ok-key.field-0 c.in-Some.key (λ k has. c.in_ok-key.ensures.found first k has) c.in-Some.is
+    c.asked_number-asked.result
     (c.asked_number-asked.ensures ∙ ap (λ (e : KeyEntry). asked_number e.current c.args.number) c.key.view_is) small in
     let version = c.in_ok-found.ensures.found honest r.0
-    (subst (λ q. HasVersion q c.as_str-2.result.now c.asked_number-asked.result r.0) (ap table_of (sym (c.in_ok-key.ensures.call.same first)))
-    (subst (λ q. HasVersion old q c.asked_number-asked.result r.0) (c.as_str.ensures.value ∙ sym c.as_str-2.ensures.value) r.1)) in
+    (subst (λ q. HasVersion q c.as_str-2.result.now c.asked_number-asked.result r.0)
+    (ap table_of (sym (c.in_ok-key.ensures.call.same first)))
+    (subst (λ q. HasVersion old q c.asked_number-asked.result r.0)
+    (c.as_str.ensures.value ∙ sym c.as_str-2.ensures.value) r.1)) in
     c.numbered.ensures.value
     ∙ (λ i. option_map (numbered (c.key.view_is i).custom_metadata c.asked_number-asked.result) (version i))
     ∙ r.2
@@ -46,8 +51,10 @@ pub returns-in_err-key-clause-wants : goal.returns-in_err-key-clause-wants
 returns-in_err-key-clause-wants g c honest forms b sound told =
     let old = table_of (g.T.RecordsTx.seen c.args.tx.now).rows in
     let p = err_from_is_err_and c.from_residual-in_err-key.result c.from_residual-in_err-key.ensures.1 in
-    rw (p.1, p.2) (c.in_err-key.ensures.faults honest (option_map key_entry (get b.secrets (secret_name c.args.mount.now c.args.path.now)))
-    (its_key forms b sound old told c.args.mount.now c.args.path.now c.as_str.result.now (c.as_str.ensures.value ∙ c.in_ok-name.ensures) c.args.number))
+    rw (p.1, p.2) (c.in_err-key.ensures.faults honest
+    (option_map key_entry (get b.secrets (secret_name c.args.mount.now c.args.path.now)))
+    (its_key forms b sound old told c.args.mount.now c.args.path.now c.as_str.result.now
+    (c.as_str.ensures.value ∙ c.in_ok-name.ensures) c.args.number))
 
 pub returns-in_err-found-clause-wants : goal.returns-in_err-found-clause-wants
 returns-in_err-found-clause-wants g c honest forms b sound told =
@@ -61,10 +68,14 @@ returns-in_err-found-clause-wants g c honest forms b sound told =
       split = c.versions_have_keys.ensures.split;
     } in
     let small : c.asked_number-asked.result < 2 ^ 64 = omega arith in
-    let r = read_some forms b sound old told c.args.mount.now c.args.path.now c.as_str.result.now (c.as_str.ensures.value ∙ c.in_ok-name.ensures) c.args.number
-    laws c.in_ok-key.field-0 c.in-Some.key (λ k has. c.in_ok-key.ensures.found first k has) c.in-Some.is c.asked_number-asked.result
+    let r = read_some forms b sound old told c.args.mount.now c.args.path.now c.as_str.result.now
+    (c.as_str.ensures.value ∙ c.in_ok-name.ensures) c.args.number
+    laws c.in_ok-key.field-0 c.in-Some.key (λ k has. c.in_ok-key.ensures.found first k has) c.in-Some.is
+    c.asked_number-asked.result
     (c.asked_number-asked.ensures ∙ ap (λ (e : KeyEntry). asked_number e.current c.args.number) c.key.view_is) small in
     let p = err_from_is_err_and c.from_residual-in_err-found.result c.from_residual-in_err-found.ensures.1 in
     rw (p.1, p.2) (c.in_err-found.ensures.faults honest r.0
-    (subst (λ q. HasVersion q c.as_str-2.result.now c.asked_number-asked.result r.0) (ap table_of (sym (c.in_ok-key.ensures.call.same first)))
-    (subst (λ q. HasVersion old q c.asked_number-asked.result r.0) (c.as_str.ensures.value ∙ sym c.as_str-2.ensures.value) r.1)))
+    (subst (λ q. HasVersion q c.as_str-2.result.now c.asked_number-asked.result r.0)
+    (ap table_of (sym (c.in_ok-key.ensures.call.same first)))
+    (subst (λ q. HasVersion old q c.asked_number-asked.result r.0)
+    (c.as_str.ensures.value ∙ sym c.as_str-2.ensures.value) r.1)))

@@ -25,9 +25,11 @@ returns-in_default-clause-told g c honest b sound told =
     let edit = with_settings c.args.cas_required c.args.max_versions in
     let next = set_config b mount c.args.cas_required c.args.max_versions in
     let none : get b.mounts mount ≡ None =
-    sym (c.in_ok-found.ensures.found honest (get b.mounts mount) (has_mount b sound old told mount)) ∙ none_of _ c.in_default.not-Some in
+    sym (c.in_ok-found.ensures.found honest (get b.mounts mount) (has_mount b sound old told mount))
+    ∙ none_of _ c.in_default.not-Some in
     subst (λ (t : Table). Tells of_mounts t next)
-    (ap (λ o. rows.with_settings old mount (option_map edit o)) none ∙ ap table_of (sym (c.in_ok-found.ensures.call.same honest)))
+    (ap (λ o. rows.with_settings old mount (option_map edit o)) none
+    ∙ ap table_of (sym (c.in_ok-found.ensures.call.same honest)))
     (settings_told old b told mount c.args.cas_required c.args.max_versions)
 
 pub returns-clause-rows : goal.returns-clause-rows
@@ -38,12 +40,15 @@ returns-clause-rows g c honest m has =
     let mount = c.args.mount.now in
     let edit = with_settings c.args.cas_required c.args.max_versions in
     let some : Some c.in-Some.found ≡ m = sym c.in-Some.is ∙ c.in_ok-found.ensures.found first m has in
-    let max = c.count_or.ensures.value ∙ ap (λ (m : Mount). unwrap_or c.args.max_versions m.max_versions) c.found.view_is in
+    let max = c.count_or.ensures.value
+    ∙ ap (λ (m : Mount). unwrap_or c.args.max_versions m.max_versions) c.found.view_is in
     let cas = c.unwrap_or.ensures ∙ ap (λ (m : Mount). unwrap_or c.args.cas_required m.cas_required) c.found.view_is in
     on_ok_weaker c.put.result (λ put.
     ap table_of put ∙ table_of-insert (seen c.find_mount.new.tx).rows kind.Mount mount c.in_ok-row.row
     ∙ (λ i. with_row (table_of (c.in_ok-found.ensures.call.same first i)) kind.Mount mount
-    ((c.in_ok-row.ensures ∙ (λ j. mount_row (record { engine = (c.found.view_is j).engine; cas_required = cas j; max_versions = max j }))) i))
+    ((c.in_ok-row.ensures
+    ∙ (λ j. mount_row (record { engine = (c.found.view_is j).engine; cas_required = cas j; max_versions = max j })))
+    i))
     ∙ ap (λ o. rows.with_settings old mount (option_map edit o)) some) (c.put.ensures.rows honest)
 
 pub returns-clause-call : goal.returns-clause-call
@@ -54,7 +59,8 @@ returns-clause-call g c =
       others = λ honest.
           let first : IsHonest (seen c.find_mount.new.tx) = honest_before _ _ _ c.put.ensures.call.goes_on honest in
           on_ok_weaker c.put.result (λ rows. subst (λ (t : Table). KeepsOtherMounts c.args.mount.now old t) (sym rows)
-          (settings_keep c.args.mount.now old _)) (returns-clause-rows g c honest c.in_ok-found.field-0 (c.in_ok-found.ensures.exact first));
+          (settings_keep c.args.mount.now old _))
+          (returns-clause-rows g c honest c.in_ok-found.field-0 (c.in_ok-found.ensures.exact first));
       faults = search rules;
       goes_on = search rules;
     }
@@ -63,7 +69,8 @@ pub returns-clause-told : goal.returns-clause-told
 returns-clause-told g c honest b sound told =
     let old = table_of (g.T.RecordsTx.seen c.args.tx.now).rows in
     let mount = c.args.mount.now in
-    on_ok_weaker c.put.result (λ rows. subst (λ (t : Table). Tells of_mounts t (set_config b mount c.args.cas_required c.args.max_versions)) (sym rows)
+    on_ok_weaker c.put.result (λ rows. subst
+    (λ (t : Table). Tells of_mounts t (set_config b mount c.args.cas_required c.args.max_versions)) (sym rows)
     (settings_told old b told mount c.args.cas_required c.args.max_versions))
     (returns-clause-rows g c honest (get b.mounts mount) (has_mount b sound old told mount))
 

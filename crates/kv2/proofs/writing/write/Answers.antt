@@ -20,7 +20,8 @@ returns-clause-rows g c honest m k has_mount has_key =
     let object = c.args.object.now in
     let at = c.as_str.ensures.value ∙ c.in_ok-name.ensures in
     subst (λ q. Ends (IsWritten new) ⊤ c.write_named.result (rows.write old m k q c.args.now c.args.cas object)) at
-    (subst (λ n. Ends (IsWritten new) ⊤ c.write_named.result (rows.write old m k c.as_str.result.now n c.args.cas object)) c.seconds-now.ensures.value
+    (subst (λ n. Ends (IsWritten new) ⊤ c.write_named.result
+    (rows.write old m k c.as_str.result.now n c.args.cas object)) c.seconds-now.ensures.value
     (c.write_named.ensures.rows honest m k has_mount (λ there. subst (λ q. HasKey old q k) (sym at) (has_key there))))
 
 pub returns-clause-told : goal.returns-clause-told
@@ -41,5 +42,7 @@ returns-clause-told g c honest forms b sound mounts told tell_mounts at is_path 
       split = c.versions_have_keys.ensures.split;
     } in
     write_told forms b sound mounts old new told laws mount path object cas is_path c.write_named.result
-    (subst (λ n. Ends (IsWritten new) ⊤ c.write_named.result (rows.write old (get b.mounts mount) k name n cas object)) at
-    (returns-clause-rows g c honest (get b.mounts mount) k (has_mount b mounts old tell_mounts mount) (λ _. has_key forms b sound old told name)))
+    (subst (λ n. Ends (IsWritten new) ⊤ c.write_named.result (rows.write old (get b.mounts mount) k name n cas object))
+    at
+    (returns-clause-rows g c honest (get b.mounts mount) k (has_mount b mounts old tell_mounts mount)
+    (λ _. has_key forms b sound old told name)))

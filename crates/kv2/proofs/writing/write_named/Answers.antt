@@ -28,7 +28,8 @@ returns-clause-rows g c honest m k has_mount has_key =
     let limit = c.versions_kept-limit.result in
     let some = sym c.in-Some.is ∙ c.in_ok-settings.ensures.found first m has_mount in
     let there : m ≢ None = λ none. none-some _ (sym (some ∙ none)) in
-    let found = c.in_ok-found.ensures.found second k (subst (λ (r : Rows). HasKey (table_of r) name k) (sym same) (has_key there)) in
+    let found = c.in_ok-found.ensures.found second k
+    (subst (λ (r : Rows). HasKey (table_of r) name k) (sym same) (has_key there)) in
     subst (λ (z : KeyEntry). EndsOk (IsWritten new) (answer_of z) (rows.write old m k name now cas object))
     (sym (c.next.view_is ∙ c.in_ok-next.ensures.answer))
     (subst (λ o. EndsOk (IsWritten new) (answer_of (next_entry now e)) (rows.write old o k name now cas object)) some
@@ -48,11 +49,14 @@ returns-clause-call g c =
     let limit = c.versions_kept-limit.result in
     record {
       others = λ honest.
-          let second : IsHonest (seen c.find_key.new.tx) = honest_before _ _ _ c.put_version.ensures.call.goes_on honest in
-          let first : IsHonest (seen c.find_mount.new.tx) = honest_before _ _ _ c.find_key.ensures.call.goes_on second in
+          let second : IsHonest (seen c.find_key.new.tx) =
+          honest_before _ _ _ c.put_version.ensures.call.goes_on honest in
+          let first : IsHonest (seen c.find_mount.new.tx) =
+          honest_before _ _ _ c.find_key.ensures.call.goes_on second in
           let same = c.in_ok-settings.ensures.call.same first in
           subst (λ (t : Table). KeepsOtherNames name old t) (sym (c.in_ok-next.ensures.rows honest
-          ∙ (λ i. with_version (table_of ((c.in_ok-found.ensures.call.same second ∙ same) i)) name e limit c.args.now c.args.object.now)))
+          ∙ (λ i. with_version (table_of ((c.in_ok-found.ensures.call.same second ∙ same) i)) name e limit c.args.now
+          c.args.object.now)))
           (written_keeps name old e limit c.args.now c.args.object.now);
       faults = tt;
       goes_on = search rules;

@@ -44,7 +44,8 @@ returns-clause-rows g c honest o at =
     let l : Lease = roles.new_lease c.args.now r credential in
     let id = roles.lease_id mount name identifier in
     let some : Some r ≡ o = sym c.in-Some.is ∙ c.in_ok-found.ensures.found first o at in
-    let made : c.new_lease-lease.result ≡ l = c.new_lease-lease.ensures.value ∙ ap (λ n. roles.new_lease n r credential) c.seconds-now.ensures.value in
+    let made : c.new_lease-lease.result ≡ l = c.new_lease-lease.ensures.value
+    ∙ ap (λ n. roles.new_lease n r credential) c.seconds-now.ensures.value in
     let id_is = c.as_str.ensures.value ∙ c.in_ok-id.ensures in
     let last : c.args.caller.is_last_use ≡ false = c.if-caller.false in
     subst (λ (v : Bool). EndsOk (IsMade old new t) (c.new.result, c.lease.inside.ttl)
@@ -68,16 +69,22 @@ returns-clause-told g c honest forms b represents sound roles_told clock last he
     let credential = c.args.names.credential.now in
     let r : Role = c.in-Some.found in
     let l : Lease = roles.new_lease c.args.now r credential in
-    let some : Some r ≡ roles.role b mount name = sym c.in-Some.is ∙ c.in_ok-found.ensures.told first b sound roles_told in
-    let made : c.new_lease-lease.result ≡ l = c.new_lease-lease.ensures.value ∙ ap (λ n. roles.new_lease n r credential) c.seconds-now.ensures.value in
+    let some : Some r ≡ roles.role b mount name = sym c.in-Some.is
+    ∙ c.in_ok-found.ensures.told first b sound roles_told in
+    let made : c.new_lease-lease.result ≡ l = c.new_lease-lease.ensures.value
+    ∙ ap (λ n. roles.new_lease n r credential) c.seconds-now.ensures.value in
     let id_is = c.as_str.ensures.value ∙ c.in_ok-id.ensures in
     let told = c.in_ok-issue.ensures.told honest forms b
-    (subst (λ (rows : Rows). RepresentsLeases (table_of rows) b) (sym (c.in_ok-found.ensures.call.same first)) represents) here used
-    (subst (λ q. IsNew b (lease_identifier q)) (sym id_is) new_id) (subst (λ (z : Lease). IsNew b z.credential) (sym made) new_credential) in
+    (subst (λ (rows : Rows). RepresentsLeases (table_of rows) b)
+    (sym (c.in_ok-found.ensures.call.same first)) represents) here used
+    (subst (λ q. IsNew b (lease_identifier q)) (sym id_is) new_id)
+    (subst (λ (z : Lease). IsNew b z.credential) (sym made) new_credential) in
     subst (λ (n : ℕ). EndsOk (IsIssued new) (c.new.result, c.lease.inside.ttl)
-    (roles.issued (roles.role b mount name) (roles.is_last_use b t) n mount name identifier credential >>= then_issued b t)) clock
+    (roles.issued (roles.role b mount name) (roles.is_last_use b t) n mount name identifier credential >>= then_issued b
+    t)) clock
     (subst (λ (v : Bool). EndsOk (IsIssued new) (c.new.result, c.lease.inside.ttl)
-    (roles.issued (roles.role b mount name) v c.args.now mount name identifier credential >>= then_issued b t)) (sym c.if-caller.false ∙ last)
+    (roles.issued (roles.role b mount name) v c.args.now mount name identifier credential >>= then_issued b t))
+    (sym c.if-caller.false ∙ last)
     (subst (λ (o : Option Role). EndsOk (IsIssued new) (c.new.result, c.lease.inside.ttl)
     (roles.issued o false c.args.now mount name identifier credential >>= then_issued b t)) some (
       (λ i. ((c.new.ensures ∙ c.in_ok-id.ensures) i, ap (λ (l : Lease). l.ttl) (c.lease.view_is ∙ made) i)),

@@ -20,11 +20,14 @@ returns-clause-rows g c honest =
     let old = (seen c.args.tx.now).rows in
     let mid = (seen c.put.new.self).rows in
     let id = c.args.lease_id.now in
-    let credential : c.lease.inside.credential.now ≡ c.args.lease.now.credential = ap (λ (l : Lease). l.credential) c.lease.view_is in
-    on_ok_weaker {P = (seen c.put-2.new.self).rows ≡ map.insert mid (kind.Credential, c.lease.inside.credential.now) c.in_ok-row-2.row} c.put-2.result (λ put.
+    let credential : c.lease.inside.credential.now ≡ c.args.lease.now.credential =
+    ap (λ (l : Lease). l.credential) c.lease.view_is in
+    on_ok_weaker {P = (seen c.put-2.new.self).rows ≡ map.insert mid
+    (kind.Credential, c.lease.inside.credential.now) c.in_ok-row-2.row} c.put-2.result (λ put.
     ap table_of put ∙ table_of-insert mid kind.Credential c.lease.inside.credential.now c.in_ok-row-2.row
     ∙ (λ i. with_row ((ap table_of (c.in_ok-put.ensures.rows first) ∙ table_of-insert old kind.Lease id c.in_ok-row.row
-    ∙ ap (with_row (table_of old) kind.Lease id) c.in_ok-row.ensures) i) kind.Credential (credential i) (c.in_ok-row-2.ensures i)))
+    ∙ ap (with_row (table_of old) kind.Lease id) c.in_ok-row.ensures) i) kind.Credential (credential i)
+    (c.in_ok-row-2.ensures i)))
     (c.put-2.ensures.rows honest)
 
 pub returns-clause-call : goal.returns-clause-call
@@ -46,5 +49,6 @@ returns-clause-told g c honest forms b represents here all_used new_id new_crede
     let id = c.args.lease_id.now in
     let l = c.args.lease.now in
     let new = table (g.T.RecordsTx.seen c.put-2.new.self) in
-    on_ok_weaker {P = new ≡ with_issued old t id l} c.put-2.result (λ rows. subst (λ (u : Table). Tells of_leases u (issue b t id l)) (sym rows)
+    on_ok_weaker {P = new ≡ with_issued old t id l} c.put-2.result
+    (λ rows. subst (λ (u : Table). Tells of_leases u (issue b t id l)) (sym rows)
     (issued_told old b t id l represents here all_used new_id new_credential)) (returns-clause-rows g c honest)

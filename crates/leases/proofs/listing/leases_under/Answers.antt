@@ -17,6 +17,8 @@ returns-clause-listed g c honest =
     let prefix = c.args.prefix.now in
     let key = c.as_str.ensures.value ∙ c.in_ok-key.ensures in
     IfOk-weaker c.under.result _ _ (λ list is.
-    subst (λ es. AreThoseThatEnd (is_under prefix) (table old) (leases_among es)) (sym (is ∙ ap (rows_under old.rows kind.Lease) key))
-    (those_passing old.rows (is_under prefix) (λ e. is_of_kind kind.Lease e.0 && starts_with nat_eq e.0.1 (prefix ++ slash ∷ [])) (λ q row. refl)))
+    subst (λ es. AreThoseThatEnd (is_under prefix) (table old) (leases_among es))
+    (sym (is ∙ ap (rows_under old.rows kind.Lease) key))
+    (those_passing old.rows (is_under prefix)
+    (λ e. is_of_kind kind.Lease e.0 && starts_with nat_eq e.0.1 (prefix ++ slash ∷ [])) (λ q row. refl)))
     (c.under.ensures.listed honest)

@@ -24,8 +24,10 @@ returns-in_default-clause-told g c honest forms b represents =
 pub returns-in_err-lease-clause-told : goal.returns-in_err-lease-clause-told
 returns-in_err-lease-clause-told g c honest forms b represents =
     let old = table (g.T.RecordsTx.seen c.args.tx.now) in
-    let h = find_some old b represents c.args.lease_id.now c.in-Some.kept (sym (c.in_ok-kept.ensures.found honest) ∙ c.in-Some.is) in
-    absurd (let e = c.in_err-lease.ensures.again h.0.1 h.1 (h.2 ∙ ap (λ t. lease_row t h.0.1) (sym (ap (λ (r : Row). r.owner) h.2))) in cc)
+    let h = find_some old b represents c.args.lease_id.now c.in-Some.kept
+    (sym (c.in_ok-kept.ensures.found honest) ∙ c.in-Some.is) in
+    absurd (let e = c.in_err-lease.ensures.again h.0.1 h.1
+    (h.2 ∙ ap (λ t. lease_row t h.0.1) (sym (ap (λ (r : Row). r.owner) h.2))) in cc)
 
 pub returns-in_err-lease-clause-call : goal.returns-in_err-lease-clause-call
 returns-in_err-lease-clause-call g c =
@@ -34,21 +36,26 @@ returns-in_err-lease-clause-call g c =
     let id = c.args.lease_id.now in
     let p = err_from_is_err_and c.from_residual-in_err-lease.result c.from_residual-in_err-lease.ensures.1 in
     let unread : IsHonest (seen c.get.new.self) → IsReadableLease old id → ⊥ = λ honest readable.
-    let h = at_is old id readable.0 c.in-Some.kept readable.1 (sym (c.in_ok-kept.ensures.found honest) ∙ c.in-Some.is) in
-    absurd (let e = c.in_err-lease.ensures.again h.0.1 h.2 (h.3 ∙ ap (λ t. lease_row t h.0.1) (sym (ap (λ (r : Row). r.owner) h.3))) in cc) in
+    let h = at_is old id readable.0 c.in-Some.kept readable.1
+    (sym (c.in_ok-kept.ensures.found honest) ∙ c.in-Some.is) in
+    absurd (let e = c.in_err-lease.ensures.again h.0.1 h.2
+    (h.3 ∙ ap (λ t. lease_row t h.0.1) (sym (ap (λ (r : Row). r.owner) h.3))) in cc) in
     record {
       same = search rules;
       faults = rw (p.1 ∙ ap Err p.2)
-          (subst (IsReadFault (IsHonest (seen c.get.new.self) → IsReadableLease old id → ⊥)) (sym c.in_err-lease.ensures.damaged) unread);
+          (subst (IsReadFault (IsHonest (seen c.get.new.self) → IsReadableLease old id → ⊥))
+          (sym c.in_err-lease.ensures.damaged) unread);
       goes_on = search rules;
     }
 
 pub returns-clause-told : goal.returns-clause-told
 returns-clause-told g c honest forms b represents =
     let old = table (g.T.RecordsTx.seen c.args.tx.now) in
-    let h = find_some old b represents c.args.lease_id.now c.in-Some.kept (sym (c.in_ok-kept.ensures.found honest) ∙ c.in-Some.is) in
+    let h = find_some old b represents c.args.lease_id.now c.in-Some.kept
+    (sym (c.in_ok-kept.ensures.found honest) ∙ c.in-Some.is) in
     let read : c.in_ok-lease.lease ≡ h.0.1 =
-    ok_inj (c.in_ok-lease.ensures.again h.0.1 h.1 (h.2 ∙ ap (λ t. lease_row t h.0.1) (sym (ap (λ (r : Row). r.owner) h.2)))) in
+    ok_inj (c.in_ok-lease.ensures.again h.0.1 h.1
+    (h.2 ∙ ap (λ t. lease_row t h.0.1) (sym (ap (λ (r : Row). r.owner) h.2)))) in
     subst (λ o. EndsOk (λ times l. times ≡ times_of l) (record {
       issued = c.lease.inside.issued;
       ends = c.lease.inside.ends;
@@ -61,5 +68,6 @@ returns-clause-readable g c honest =
     let old = table (g.T.RecordsTx.seen c.args.tx.now) in
     let read = c.in_ok-lease.ensures.exact in (
       Some (c.in-Some.kept.owner, c.in_ok-lease.lease),
-      at_read old c.args.lease_id.now c.in-Some.kept c.in_ok-lease.lease (sym (c.in_ok-kept.ensures.found honest) ∙ c.in-Some.is) read.0 read.1,
+      at_read old c.args.lease_id.now c.in-Some.kept c.in_ok-lease.lease
+          (sym (c.in_ok-kept.ensures.found honest) ∙ c.in-Some.is) read.0 read.1,
     )

@@ -12,7 +12,8 @@ returns-in_default-clause-told g c honest forms b represents =
 
 pub returns-in_err-read_credential-clause-call : goal.returns-in_err-read_credential-clause-call
 returns-in_err-read_credential-clause-call g c =
-    let p = err_from_is_err_and c.from_residual-in_err-read_credential.result c.from_residual-in_err-read_credential.ensures.1 in
+    let p = err_from_is_err_and c.from_residual-in_err-read_credential.result
+    c.from_residual-in_err-read_credential.ensures.1 in
     record {
       same = search rules;
       faults = rw (p.1 ∙ ap Err (p.2 ∙ c.in_err-read_credential.ensures.damaged)) (λ honest readable.

@@ -33,8 +33,10 @@ returns-in_default-clause-told g c honest forms b represents clock =
 pub returns-in_err-lease-clause-told : goal.returns-in_err-lease-clause-told
 returns-in_err-lease-clause-told g c honest forms b represents clock =
     let old = table (g.T.RecordsTx.seen c.args.tx.now) in
-    let h = find_some old b represents c.args.lease_id.now c.in-Some.kept (sym (c.in_ok-kept.ensures.found honest) ∙ c.in-Some.is) in
-    absurd (let e = c.in_err-lease.ensures.again h.0.1 h.1 (h.2 ∙ ap (λ t. lease_row t h.0.1) (sym (ap (λ (r : Row). r.owner) h.2))) in cc)
+    let h = find_some old b represents c.args.lease_id.now c.in-Some.kept
+    (sym (c.in_ok-kept.ensures.found honest) ∙ c.in-Some.is) in
+    absurd (let e = c.in_err-lease.ensures.again h.0.1 h.1
+    (h.2 ∙ ap (λ t. lease_row t h.0.1) (sym (ap (λ (r : Row). r.owner) h.2))) in cc)
 
 pub returns-in_err-lease-clause-call : goal.returns-in_err-lease-clause-call
 returns-in_err-lease-clause-call g c =
@@ -43,12 +45,15 @@ returns-in_err-lease-clause-call g c =
     let id = c.args.lease_id.now in
     let p = err_from_is_err_and c.from_residual-in_err-lease.result c.from_residual-in_err-lease.ensures.1 in
     let unread : IsHonest (seen c.get.new.self) → IsReadableLease old id → ⊥ = λ honest readable.
-    let h = at_is old id readable.0 c.in-Some.kept readable.1 (sym (c.in_ok-kept.ensures.found honest) ∙ c.in-Some.is) in
-    absurd (let e = c.in_err-lease.ensures.again h.0.1 h.2 (h.3 ∙ ap (λ t. lease_row t h.0.1) (sym (ap (λ (r : Row). r.owner) h.3))) in cc) in
+    let h = at_is old id readable.0 c.in-Some.kept readable.1
+    (sym (c.in_ok-kept.ensures.found honest) ∙ c.in-Some.is) in
+    absurd (let e = c.in_err-lease.ensures.again h.0.1 h.2
+    (h.3 ∙ ap (λ t. lease_row t h.0.1) (sym (ap (λ (r : Row). r.owner) h.3))) in cc) in
     record {
       others = search rules;
       faults = rw (p.1 ∙ ap Err p.2)
-          (subst (IsReadFault (IsHonest (seen c.get.new.self) → IsReadableLease old id → ⊥)) (sym c.in_err-lease.ensures.damaged) unread);
+          (subst (IsReadFault (IsHonest (seen c.get.new.self) → IsReadableLease old id → ⊥))
+          (sym c.in_err-lease.ensures.damaged) unread);
       goes_on = search rules;
     }
 
@@ -81,7 +86,8 @@ returns-clause-rows g c honest o at =
     subst (λ (o : Option Held). EndsOk (λ ends (next : rows.RenewedRows). (ends ≡ next.ends) × (new ≡ next.rows)) ends
     (rows.renew old o id now increment)) (sym h.1) (
       end,
-      ap table_of (c.in_ok-put.ensures.rows honest) ∙ table_of-insert (seen c.get.new.self).rows kind.Lease id c.in_ok-row.row
+      ap table_of (c.in_ok-put.ensures.rows honest)
+          ∙ table_of-insert (seen c.get.new.self).rows kind.Lease id c.in_ok-row.row
           ∙ (λ i. with_row (table_of (c.in_ok-kept.ensures.call.same first i)) kind.Lease id (row i)),
     )
 
@@ -120,9 +126,13 @@ returns-clause-told g c honest forms b represents clock =
     let found = sym (c.in_ok-kept.ensures.found first) ∙ c.in-Some.is in
     let h = find_some old b represents id c.in-Some.kept found in
     let at : IsLeaseAt old id (Some h.0) =
-    record { in_range = λ k e. subst (λ (k : Held). IsLeaseInRange k.1) (same_Some _ _ e) h.1; row = found ∙ ap Some h.2 } in
+    record {
+      in_range = λ k e. subst (λ (k : Held). IsLeaseInRange k.1) (same_Some _ _ e) h.1;
+      row = found ∙ ap Some h.2;
+    } in
     let both = returns-clause-rows g c honest (Some h.0) at in
-    subst (λ (o : Option Lease). EndsOk (λ ends (next : Renewed). (ends ≡ next.ends) × Tells of_leases new next.next) c.renewed_end-ends.result
+    subst (λ (o : Option Lease). EndsOk (λ ends (next : Renewed). (ends ≡ next.ends) × Tells of_leases new next.next)
+    c.renewed_end-ends.result
     (some_or (refusal.BadRequest reason.InvalidLease) o
     >>= (λ l. Ok (record { ends = renewed_end b.clock increment l; next = with_renewed b id increment })))) (sym h.3) (
       both.0 ∙ ap (λ n. renewed_end n increment h.0.1) clock,

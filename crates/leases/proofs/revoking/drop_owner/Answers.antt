@@ -22,7 +22,8 @@ returns-clause-rows g c honest =
     let those = subst (λ es. AreThoseThatEnd ends (table_of old) (leases_among es)) (sym c.deref.ensures.value)
     (c.in_ok-entries.ensures.listed first) in
     on_ok_weaker c.remove_leases.result (λ each.
-    leases_ended ends es old new those (subst (λ (r : Rows). RemovesEach es r new) (c.in_ok-entries.ensures.call.same first) each))
+    leases_ended ends es old new those
+    (subst (λ (r : Rows). RemovesEach es r new) (c.in_ok-entries.ensures.call.same first) each))
     (c.remove_leases.ensures.rows honest)
 
 pub returns-clause-told : goal.returns-clause-told
@@ -30,7 +31,8 @@ returns-clause-told g c honest forms b represents =
     let seen = g.T.RecordsTx.seen in
     let ends = is_owned c.args.token.now in
     on_ok_weaker c.remove_leases.result (λ ended.
-    left_told ends (table (seen c.args.tx.now)) (table (seen c.remove_leases.new.tx)) b (drop_owner b c.args.token.now) represents ended
+    left_told ends (table (seen c.args.tx.now)) (table (seen c.remove_leases.new.tx)) b
+    (drop_owner b c.args.token.now) represents ended
     (owner_leaves b c.args.token.now))
     (returns-clause-rows g c honest)
 
@@ -43,7 +45,8 @@ returns-clause-call g c =
     record {
       others = λ honest. on_ok_weaker c.remove_leases.result (λ ended. ended.others) (returns-clause-rows g c honest);
       faults = each_fault (λ f. fault_then (λ damage honest readable.
-          let first : IsHonest (seen c.leases_of.new.tx) = honest_before _ _ _ c.remove_leases.ensures.call.goes_on honest in
+          let first : IsHonest (seen c.leases_of.new.tx) =
+          honest_before _ _ _ c.remove_leases.ensures.call.goes_on honest in
           let those = subst (λ es. AreThoseThatEnd ends (table_of old) (leases_among es)) (sym c.deref.ensures.value)
           (c.in_ok-entries.ensures.listed first) in
           damage (each_readable ends (leases_among c.deref.result.now) old old those readable)) f)
@@ -56,5 +59,6 @@ unfolding returns-clause-call
 returns-clause-wants g c honest forms b represents =
     let seen = g.T.RecordsTx.seen in
     let ends = is_owned c.args.token.now in
-    each_fault (λ f. not_damaged (λ damage. damage honest (all_readable ends (table (seen c.args.tx.now)) b represents)) f)
+    each_fault (λ f. not_damaged (λ damage. damage honest (all_readable ends (table (seen c.args.tx.now)) b represents))
+    f)
     c.remove_leases.result (returns-clause-call g c).faults

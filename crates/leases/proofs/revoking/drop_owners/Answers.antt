@@ -21,23 +21,30 @@ loop-token-preserved g c =
     drop_more tokens i t c.loop-token-test.true ∙ ap (λ x. x ∷ drop (i + 1) tokens) (sym c.token-item.is) in
     record {
       rows = λ honest last rest.
-          let before = honest_before (seen c.loop-token.tx) (seen c.drop_owner.new.tx) false c.in_ok-drop_owner.ensures.call.goes_on honest in
-          let owned = subst (λ t. EndsLeases (is_owned t) now new) c.as_str.ensures (c.in_ok-drop_owner.ensures.rows honest) in
+          let before = honest_before (seen c.loop-token.tx)
+          (seen c.drop_owner.new.tx) false c.in_ok-drop_owner.ensures.call.goes_on honest in
+          let owned = subst (λ t. EndsLeases (is_owned t) now new) c.as_str.ensures
+          (c.in_ok-drop_owner.ensures.rows honest) in
           c.loop-token.invariant.rows before last (subst (λ ts. EndsLeases (are_owned ts) now last) (sym one)
           (ends_added (is_owned t) (are_owned (drop (i + 1) tokens)) now new last owned rest));
       readable = λ honest all.
-          let before = honest_before (seen c.loop-token.tx) (seen c.drop_owner.new.tx) false c.in_ok-drop_owner.ensures.call.goes_on honest in
-          let owned = subst (λ t. EndsLeases (is_owned t) now new) c.as_str.ensures (c.in_ok-drop_owner.ensures.rows honest) in
+          let before = honest_before (seen c.loop-token.tx)
+          (seen c.drop_owner.new.tx) false c.in_ok-drop_owner.ensures.call.goes_on honest in
+          let owned = subst (λ t. EndsLeases (is_owned t) now new) c.as_str.ensures
+          (c.in_ok-drop_owner.ensures.rows honest) in
           let these = subst (λ ts. AreReadable (are_owned ts) now) one (c.loop-token.invariant.readable before all) in
-          readable_after (is_owned t) (are_owned (drop (i + 1) tokens)) now new owned (λ q row is goes. these q row is (or_right _ _ goes));
-      goes_on = goes_further (seen c.args.tx.now) (seen c.loop-token.tx) (seen c.drop_owner.new.tx) false c.loop-token.invariant.goes_on c.in_ok-drop_owner.ensures.call.goes_on;
+          readable_after (is_owned t) (are_owned (drop (i + 1) tokens)) now new owned
+          (λ q row is goes. these q row is (or_right _ _ goes));
+      goes_on = goes_further (seen c.args.tx.now) (seen c.loop-token.tx)
+          (seen c.drop_owner.new.tx) false c.loop-token.invariant.goes_on c.in_ok-drop_owner.ensures.call.goes_on;
     }
 
 pub returns-clause-rows : goal.returns-clause-rows
 returns-clause-rows g c honest =
     let now = table (g.T.RecordsTx.seen c.loop-token.tx) in
     let none : drop c.loop-token.token-index c.args.tokens.now ≡ [] = drop_all _ _ c.loop-token-test.false in
-    c.loop-token.invariant.rows honest now (subst (λ ts. EndsLeases (are_owned ts) now now) (sym none) (nothing_ends now))
+    c.loop-token.invariant.rows honest now
+    (subst (λ ts. EndsLeases (are_owned ts) now now) (sym none) (nothing_ends now))
 
 pub returns-clause-call : goal.returns-clause-call
 unfolding returns-clause-rows
@@ -63,7 +70,8 @@ returns-in_err-drop_owner-clause-call g c =
     let before = honest_before (seen c.loop-token.tx) (seen c.drop_owner.new.tx) (is_storage c.drop_owner.result)
     c.drop_owner.ensures.call.goes_on honest in
     let these = subst (λ ts. AreReadable (are_owned ts) now) one (c.loop-token.invariant.readable before all) in
-    damage honest (subst (λ t. AreReadable (is_owned t) now) (sym c.as_str.ensures) (λ q row is goes. these q row is (or_left _ _ goes))) in
+    damage honest (subst (λ t. AreReadable (is_owned t) now) (sym c.as_str.ensures)
+    (λ q row is goes. these q row is (or_left _ _ goes))) in
     record {
       others = search rules;
       faults = rw (p.1, p.2) (fault_then worse _ c.in_err-drop_owner.ensures.call.faults);
@@ -85,5 +93,6 @@ returns-in_err-drop_owner-clause-wants g c honest forms b represents =
     let these = subst (λ ts. AreReadable (are_owned ts) now) one (c.loop-token.invariant.readable before
     (all_readable (are_owned tokens) (table (seen c.args.tx.now)) b represents)) in
     let undamaged : (IsHonest (seen c.drop_owner.new.tx) → AreReadable (is_owned c.as_str.result.now) now → ⊥) → ⊥ =
-    λ damage. damage honest (subst (λ t. AreReadable (is_owned t) now) (sym c.as_str.ensures) (λ q row is goes. these q row is (or_left _ _ goes))) in
+    λ damage. damage honest (subst (λ t. AreReadable (is_owned t) now) (sym c.as_str.ensures)
+    (λ q row is goes. these q row is (or_left _ _ goes))) in
     rw (p.1, p.2) (not_damaged undamaged _ c.in_err-drop_owner.ensures.call.faults)

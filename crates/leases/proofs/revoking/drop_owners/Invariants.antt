@@ -9,7 +9,8 @@ abbrev pub invariant-loop-token : goal.invariant-loop-token
 invariant-loop-token g l =
     let seen = g.T.RecordsTx.seen in
     record {
-      rows : IsHonest (seen l.tx) → (last : Table) → EndsLeases (are_owned (drop l.token-index l.tokens)) (table (seen l.tx)) last
+      rows : IsHonest (seen l.tx) → (last : Table)
+          → EndsLeases (are_owned (drop l.token-index l.tokens)) (table (seen l.tx)) last
           → EndsLeases (are_owned l.tokens) (table (seen l.initial.tx)) last;
       readable : IsHonest (seen l.tx) → AreReadable (are_owned l.tokens) (table (seen l.initial.tx))
           → AreReadable (are_owned (drop l.token-index l.tokens)) (table (seen l.tx));

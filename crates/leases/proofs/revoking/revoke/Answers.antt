@@ -19,7 +19,8 @@ pub returns-in_default-clause-rows : goal.returns-in_default-clause-rows
 returns-in_default-clause-rows g c honest =
     let seen = g.T.RecordsTx.seen in
     let id = c.args.lease_id.now in
-    subst (λ (rows : Rows). EndsLeases (is_named id) (table (seen c.args.tx.now)) (table_of rows)) (sym (c.in_ok-row.ensures.call.same honest))
+    subst (λ (rows : Rows). EndsLeases (is_named id) (table (seen c.args.tx.now)) (table_of rows))
+    (sym (c.in_ok-row.ensures.call.same honest))
     (none_ended id (seen c.args.tx.now).rows (sym (c.in_ok-row.ensures.found honest) ∙ none_of _ c.in_default.not-Some))
 
 pub returns-in_default-clause-told : goal.returns-in_default-clause-told
@@ -56,7 +57,8 @@ returns-clause-told g c honest forms b represents =
     let seen = g.T.RecordsTx.seen in
     let id = c.args.lease_id.now in
     on_ok_weaker c.remove_lease.result (λ ended.
-    left_told (is_named id) (table (seen c.args.tx.now)) (table (seen c.remove_lease.new.tx)) b (revoke b id) represents ended (revoke_leaves b id))
+    left_told (is_named id) (table (seen c.args.tx.now)) (table (seen c.remove_lease.new.tx)) b
+    (revoke b id) represents ended (revoke_leaves b id))
     (returns-clause-rows g c honest)
 
 pub returns-clause-call : goal.returns-clause-call
@@ -78,5 +80,6 @@ unfolding returns-clause-call
 returns-clause-wants g c honest forms b represents =
     let seen = g.T.RecordsTx.seen in
     let ends = is_named c.args.lease_id.now in
-    each_fault (λ f. not_damaged (λ damage. damage honest (all_readable ends (table (seen c.args.tx.now)) b represents)) f)
+    each_fault (λ f. not_damaged (λ damage. damage honest (all_readable ends (table (seen c.args.tx.now)) b represents))
+    f)
     c.remove_lease.result (returns-clause-call g c).faults

@@ -15,14 +15,16 @@ pub returns-clause-rows : goal.returns-clause-rows
 returns-clause-rows g c honest =
     let seen = g.T.RecordsTx.seen in
     let ends = is_under c.args.prefix.now in
-    let first : IsHonest (seen c.leases_under.new.tx) = honest_before _ _ _ c.remove_leases.ensures.call.goes_on honest in
+    let first : IsHonest (seen c.leases_under.new.tx) =
+    honest_before _ _ _ c.remove_leases.ensures.call.goes_on honest in
     let old = (seen c.args.tx.now).rows in
     let new = (seen c.remove_leases.new.tx).rows in
     let es = leases_among c.deref.result.now in
     let those = subst (λ es. AreThoseThatEnd ends (table_of old) (leases_among es)) (sym c.deref.ensures.value)
     (c.in_ok-entries.ensures.listed first) in
     on_ok_weaker c.remove_leases.result (λ each.
-    leases_ended ends es old new those (subst (λ (r : Rows). RemovesEach es r new) (c.in_ok-entries.ensures.call.same first) each))
+    leases_ended ends es old new those
+    (subst (λ (r : Rows). RemovesEach es r new) (c.in_ok-entries.ensures.call.same first) each))
     (c.remove_leases.ensures.rows honest)
 
 pub returns-clause-told : goal.returns-clause-told
@@ -30,7 +32,8 @@ returns-clause-told g c honest forms b represents =
     let seen = g.T.RecordsTx.seen in
     let ends = is_under c.args.prefix.now in
     on_ok_weaker c.remove_leases.result (λ ended.
-    left_told ends (table (seen c.args.tx.now)) (table (seen c.remove_leases.new.tx)) b (revoke_under b c.args.prefix.now) represents ended
+    left_told ends (table (seen c.args.tx.now)) (table (seen c.remove_leases.new.tx)) b
+    (revoke_under b c.args.prefix.now) represents ended
     (under_leaves b c.args.prefix.now))
     (returns-clause-rows g c honest)
 
@@ -43,7 +46,8 @@ returns-clause-call g c =
     record {
       others = λ honest. on_ok_weaker c.remove_leases.result (λ ended. ended.others) (returns-clause-rows g c honest);
       faults = each_fault (λ f. fault_then (λ damage honest readable.
-          let first : IsHonest (seen c.leases_under.new.tx) = honest_before _ _ _ c.remove_leases.ensures.call.goes_on honest in
+          let first : IsHonest (seen c.leases_under.new.tx) =
+          honest_before _ _ _ c.remove_leases.ensures.call.goes_on honest in
           let those = subst (λ es. AreThoseThatEnd ends (table_of old) (leases_among es)) (sym c.deref.ensures.value)
           (c.in_ok-entries.ensures.listed first) in
           damage (each_readable ends (leases_among c.deref.result.now) old old those readable)) f)
@@ -56,5 +60,6 @@ unfolding returns-clause-call
 returns-clause-wants g c honest forms b represents =
     let seen = g.T.RecordsTx.seen in
     let ends = is_under c.args.prefix.now in
-    each_fault (λ f. not_damaged (λ damage. damage honest (all_readable ends (table (seen c.args.tx.now)) b represents)) f)
+    each_fault (λ f. not_damaged (λ damage. damage honest (all_readable ends (table (seen c.args.tx.now)) b represents))
+    f)
     c.remove_leases.result (returns-clause-call g c).faults

@@ -10,7 +10,8 @@ use Rattle.leases.proofs.roles.drop_roles.Goals as goal
 pub returns-clause-rows : goal.returns-clause-rows
 returns-clause-rows g c honest =
     let old = table (g.T.RecordsTx.seen c.args.tx.now) in
-    on_ok_weaker c.remove_under.result (λ rows. rows ∙ ap (without_under old kind.Role) (c.as_str.ensures.value ∙ c.in_ok-key.ensures))
+    on_ok_weaker c.remove_under.result
+    (λ rows. rows ∙ ap (without_under old kind.Role) (c.as_str.ensures.value ∙ c.in_ok-key.ensures))
     (c.remove_under.ensures.rows honest)
 
 pub returns-clause-call : goal.returns-clause-call

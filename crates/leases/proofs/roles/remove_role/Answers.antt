@@ -17,7 +17,8 @@ returns-clause-rows g c honest =
     let key : Text = c.as_str.result.now in
     on_ok_weaker {P = new ≡ map.remove old (kind.Role, key)} c.remove.result (λ removed.
     ap table_of removed ∙ table_of-remove old kind.Role key
-    ∙ ap (without_row (table_of old) kind.Role) (c.as_str.ensures.value ∙ c.in_ok-key.ensures)) (c.remove.ensures.rows honest)
+    ∙ ap (without_row (table_of old) kind.Role) (c.as_str.ensures.value ∙ c.in_ok-key.ensures))
+    (c.remove.ensures.rows honest)
 
 pub returns-clause-call : goal.returns-clause-call
 returns-clause-call g c = record {

@@ -23,10 +23,12 @@ returns-clause-rows g c honest =
     let is : ◌≡◌ {A = Role} (record { ttl = c.from.result; max_ttl = c.from-2.result }) r =
     λ i. record { ttl = (c.from.ensures ∙ c.count.ensures) i; max_ttl = (c.from-2.ensures ∙ c.count-2.ensures) i } in
     let named : is_name c.args.name.now ≡ true = sym c.is_name.ensures ∙ c.if-not-is_name.false in
-    ends_unless {X = Unit {0}} (is_name c.args.name.now) (refusal.BadRequest reason.InvalidName) (λ _ next. table_of new ≡ next) tt
+    ends_unless {X = Unit {0}} (is_name c.args.name.now) (refusal.BadRequest reason.InvalidName)
+    (λ _ next. table_of new ≡ next) tt
     (with_row (table_of old) kind.Role key (role_row r)) named
     (ap table_of (c.in_ok-put.ensures.rows honest) ∙ table_of-insert old kind.Role c.as_str.result.now c.in_ok-row.row
-    ∙ (λ i. with_row (table_of old) kind.Role ((c.as_str.ensures.value ∙ c.in_ok-key.ensures) i) ((c.in_ok-row.ensures ∙ ap role_row is) i)))
+    ∙ (λ i. with_row (table_of old) kind.Role ((c.as_str.ensures.value ∙ c.in_ok-key.ensures) i)
+    ((c.in_ok-row.ensures ∙ ap role_row is) i)))
 
 pub returns-clause-call : goal.returns-clause-call
 returns-clause-call g c =
@@ -34,7 +36,8 @@ returns-clause-call g c =
     let old = (seen c.args.tx.now).rows in
     record {
       others = λ honest. subst (λ (t : Table). KeepsOthers of_roles (table_of old) t)
-          (sym (ap table_of (c.in_ok-put.ensures.rows honest) ∙ table_of-insert old kind.Role c.as_str.result.now c.in_ok-row.row))
+          (sym (ap table_of (c.in_ok-put.ensures.rows honest)
+          ∙ table_of-insert old kind.Role c.as_str.result.now c.in_ok-row.row))
           (with_row_keeps of_roles (table_of old) kind.Role c.as_str.result.now c.in_ok-row.row refl);
       faults = tt;
       goes_on = search rules;
@@ -51,9 +54,12 @@ returns-clause-told g c honest b told =
     λ i. record { ttl = (c.from.ensures ∙ c.count.ensures) i; max_ttl = (c.from-2.ensures ∙ c.count-2.ensures) i } in
     let named : is_name c.args.name.now ≡ true = sym c.is_name.ensures ∙ c.if-not-is_name.false in
     let next : Broker = record b { roles = put b.roles key r } in
-    ends_unless {X = Unit {0}} (is_name c.args.name.now) (refusal.BadRequest reason.InvalidName) (λ _ next. Tells of_roles (table_of new) next) tt
+    ends_unless {X = Unit {0}} (is_name c.args.name.now) (refusal.BadRequest reason.InvalidName)
+    (λ _ next. Tells of_roles (table_of new) next) tt
     next named
     (subst (λ (t : Table). Tells of_roles t next)
-    (sym (ap table_of (c.in_ok-put.ensures.rows honest) ∙ table_of-insert old kind.Role c.as_str.result.now c.in_ok-row.row
-    ∙ (λ i. with_row (table_of old) kind.Role ((c.as_str.ensures.value ∙ c.in_ok-key.ensures) i) ((c.in_ok-row.ensures ∙ ap role_row is) i))))
+    (sym (ap table_of (c.in_ok-put.ensures.rows honest)
+    ∙ table_of-insert old kind.Role c.as_str.result.now c.in_ok-row.row
+    ∙ (λ i. with_row (table_of old) kind.Role ((c.as_str.ensures.value ∙ c.in_ok-key.ensures) i)
+    ((c.in_ok-row.ensures ∙ ap role_row is) i))))
     (put_told (table_of old) b told key r))

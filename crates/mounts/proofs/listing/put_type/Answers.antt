@@ -8,10 +8,20 @@ use Rattle.mounts.proofs.listing.put_type.Goals as goal
 
 pub index_mut-found-requires : goal.index_mut-found-requires
 index_mut-found-requires c =
-    omega (arith, met_bound text_cmp c.as_str.result.now c.deref.result.now c.in-Ok.ensures.met, c.in-Ok.ensures.at, c.deref.ensures.len)
+    omega (
+      arith,
+      met_bound text_cmp c.as_str.result.now c.deref.result.now c.in-Ok.ensures.met,
+      c.in-Ok.ensures.at,
+      c.deref.ensures.len,
+    )
 
 pub insert-requires : goal.insert-requires
-insert-requires c = omega (arith, rank_bound text_cmp c.as_str.result.now c.deref.result.now, c.in-Err.ensures.gap, c.deref.ensures.len)
+insert-requires c = omega (
+  arith,
+  rank_bound text_cmp c.as_str.result.now c.deref.result.now,
+  c.in-Err.ensures.gap,
+  c.deref.ensures.len,
+)
 
 pub returns-in-Ok : goal.returns-in-Ok
 returns-in-Ok c =

@@ -21,7 +21,8 @@ returns-in_err-mount_type-clause-faults c =
     let m = get_or mounts i none in
     let e = c.entry-item.is ∙ row_at rows mounts i eq c.entry-item.result c.loop-entry-test.true in
     let row : c.entry.inside.row ≡ mount_row m.1 = (λ j. (c.entry.view_is j).1) ∙ (λ j. (e j).1) in
-    false≢true (ap is_ok (c.in_err-mount_type.ensures.told m.1 (good i none (within_mounts rows mounts i eq c.loop-entry-test.true)) row)))
+    false≢true (ap is_ok (c.in_err-mount_type.ensures.told m.1
+    (good i none (within_mounts rows mounts i eq c.loop-entry-test.true)) row)))
 
 pub loop-entry-preserved : goal.loop-entry-preserved
 loop-entry-preserved c =
@@ -34,11 +35,14 @@ loop-entry-preserved c =
           let inside : i < _ = within_mounts rows mounts i eq c.loop-entry-test.true in
           let row : c.entry.inside.row ≡ mount_row m.1 = (λ j. (c.entry.view_is j).1) ∙ (λ j. (e j).1) in
           let key : c.as_str.result.now ≡ m.0 = c.as_str.ensures ∙ (λ j. (c.entry.view_is j).0.1) ∙ (λ j. (e j).0.1) in
-          let type : c.in_ok-mount_type.mount_type ≡ type_of m.1 = ok_inj (c.in_ok-mount_type.ensures.told m.1 (good i none inside) row) in
-          c.in_ok-put_type.ensures ∙ (λ j. placed (c.loop-entry.invariant.told mounts good eq j) (key j, type j)) ∙ sym (one_placed mounts i inside);
+          let type : c.in_ok-mount_type.mount_type ≡ type_of m.1 =
+          ok_inj (c.in_ok-mount_type.ensures.told m.1 (good i none inside) row) in
+          c.in_ok-put_type.ensures ∙ (λ j. placed (c.loop-entry.invariant.told mounts good eq j) (key j, type j))
+          ∙ sym (one_placed mounts i inside);
       readable =
           let row = c.in_ok-mount_type.ensures.readable in
-          All-same (λ (e : RowKey × Row). IsMountRow e.1) _ _ (take_more rows i c.entry-item.result c.loop-entry-test.true)
+          All-same (λ (e : RowKey × Row). IsMountRow e.1) _ _
+          (take_more rows i c.entry-item.result c.loop-entry-test.true)
           (All-push (λ (e : RowKey × Row). IsMountRow e.1) (take i rows) _ c.loop-entry.invariant.readable
           (subst IsMountRow ((λ j. (c.entry.view_is j).1) ∙ (λ j. (c.entry-item.is j).1)) row));
     }
@@ -46,5 +50,6 @@ loop-entry-preserved c =
 pub returns-clause-readable : goal.returns-clause-readable
 returns-clause-readable c =
     let rows = c.args.rows.now in
-    let whole : take c.loop-entry.entry-index rows ≡ rows = take_all c.loop-entry.entry-index rows (omega (arith, c.loop-entry-test.false)) in
+    let whole : take c.loop-entry.entry-index rows ≡ rows =
+    take_all c.loop-entry.entry-index rows (omega (arith, c.loop-entry-test.false)) in
     All-same (λ (e : RowKey × Row). IsMountRow e.1) _ _ (sym whole) c.loop-entry.invariant.readable

@@ -20,7 +20,8 @@ returns-clause-rows g c honest =
     let old = (seen c.args.tx.now).rows in
     let new = (seen c.remove.new.self).rows in
     let name = c.args.name.now in
-    let before = honest_before (seen c.get.new.self) (seen c.remove.new.self) false c.in_ok-remove.ensures.call.goes_on honest in
+    let before = honest_before (seen c.get.new.self)
+    (seen c.remove.new.self) false c.in_ok-remove.ensures.call.goes_on honest in
     let free : not (list_any (same name) fixed_names) ≡ true = ap not (sym c.is_fixed.ensures ∙ c.if-is_fixed.false) in
     ends_unless {X = Bool} (not (list_any (same name) fixed_names)) (refusal.BadRequest reason.MountFixed)
     (λ was next. (was ≡ is_some (table_of old kind.Mount name)) × (table_of new ≡ next)) c.is_some-was_there.result
@@ -38,7 +39,8 @@ returns-clause-call g c =
     let name = c.args.name.now in
     record {
       others = λ honest.
-          let before = honest_before (seen c.get.new.self) (seen c.remove.new.self) false c.in_ok-remove.ensures.call.goes_on honest in
+          let before = honest_before (seen c.get.new.self)
+          (seen c.remove.new.self) false c.in_ok-remove.ensures.call.goes_on honest in
           others_gone (table_of old) (table_of new) name
           (ap table_of (c.in_ok-remove.ensures.rows honest) ∙ table_of-remove (seen c.get.new.self).rows kind.Mount name
           ∙ (λ i. without_row (table_of (c.in_ok-get.ensures.call.same before i)) kind.Mount name));
@@ -52,12 +54,14 @@ returns-clause-told g c honest mounts are =
     let old = (seen c.args.tx.now).rows in
     let new = (seen c.remove.new.self).rows in
     let name = c.args.name.now in
-    let before = honest_before (seen c.get.new.self) (seen c.remove.new.self) false c.in_ok-remove.ensures.call.goes_on honest in
+    let before = honest_before (seen c.get.new.self)
+    (seen c.remove.new.self) false c.in_ok-remove.ensures.call.goes_on honest in
     let free : not (list_any (same name) fixed_names) ≡ true = ap not (sym c.is_fixed.ensures ∙ c.if-is_fixed.false) in
     ends_unless {X = Bool} (not (list_any (same name) fixed_names)) (refusal.BadRequest reason.MountFixed)
     (λ was next. (was ≡ is_some (get mounts name)) × AreMounts (table_of new) next) c.is_some-was_there.result
     (without mounts name) free (
-      c.is_some-was_there.ensures ∙ ap is_some (c.in_ok-get.ensures.found before ∙ (are name).row) ∙ some_mapped mount_row (get mounts name),
+      c.is_some-was_there.ensures ∙ ap is_some (c.in_ok-get.ensures.found before ∙ (are name).row)
+          ∙ some_mapped mount_row (get mounts name),
       mounts_gone (table_of old) (table_of new) name mounts
           (ap table_of (c.in_ok-remove.ensures.rows honest) ∙ table_of-remove (seen c.get.new.self).rows kind.Mount name
           ∙ (λ i. without_row (table_of (c.in_ok-get.ensures.call.same before i)) kind.Mount name)) are,

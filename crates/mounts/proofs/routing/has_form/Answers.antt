@@ -19,7 +19,8 @@ returns-in-Some c =
     let ending = (form_of c.args.pattern.now).ending in
     let found = c.in-Some.ensures.cases in
     c.is_ending.ensures ∙ ap (is_ending ending) (found.2 ∙ ap (λ n. drop n path) found.1.0)
-    ∙ sym (ap (λ v. v && is_ending ending (drop (length literal) path)) (begins_with literal path (drop found.0 path) found.1.1))
+    ∙ sym (ap (λ v. v && is_ending ending (drop (length literal) path))
+    (begins_with literal path (drop found.0 path) found.1.1))
     ∙ ap (formed ending path) c.literal_of.ensures
 
 pub returns-in-None : goal.returns-in-None

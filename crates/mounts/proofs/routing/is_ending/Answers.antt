@@ -1,5 +1,6 @@
 use Rattle.std.proofs.Common.{refl, sym, ap, ◌∙◌, arith, length}
-use Rattle.std.specs.Prelude.{◌≡◌, ◌==◌, ◌&&◌, ◌||◌, ℕ, suc, [], ◌∷◌, Bool, true, false, not, nat_eq, if◌then◌else◌, Some}
+use Rattle.std.specs.Prelude.{◌≡◌, ◌==◌, ◌&&◌, ◌||◌, ℕ, suc, [], ◌∷◌, Bool, true, false, not, nat_eq, if◌then◌else◌}
+use Rattle.std.specs.Prelude.{Some}
 use Rattle.std.specs.List.{starts_with}
 use Rattle.std.proofs.lemmas.Bool.Decides.{nat_tests}
 use Rattle.std.proofs.lemmas.Str.Pattern.{starts_text}
@@ -19,49 +20,58 @@ none [] = refl
 none (x ∷ text) = not_zero (length text)
 
 -- with one, of many segments or of one
-some : (many : Bool) (text : Text) → is_ending (if many then segments else segment) text ≡ (not (length text == 0) && (many || lacks slash text))
+some : (many : Bool) (text : Text) → is_ending (if many then segments else segment) text
+    ≡ (not (length text == 0) && (many || lacks slash text))
 some true [] = refl
 some true (x ∷ text) = sym (ap (λ b. not b && true) (not_zero (length text)))
 some false [] = refl
 some false (x ∷ text) = sym (ap (λ b. not b && lacks slash (x ∷ text)) (not_zero (length text)))
 
-by_star : (pattern text : Text) (p : Text × Text) (many : Bool) → split_once open_brace pattern ≡ Some p → many ≡ starts_with nat_eq p.1 (star ∷ [])
+by_star : (pattern text : Text) (p : Text × Text) (many : Bool) → split_once open_brace pattern ≡ Some p
+    → many ≡ starts_with nat_eq p.1 (star ∷ [])
     → is_ending (form_of pattern).ending text ≡ (not (length text == 0) && (many || lacks slash text))
 by_star pattern text p many is starts =
-    ap (λ o. is_ending (form_from pattern o).ending text) is ∙ ap (λ v. is_ending (if v then segments else segment) text) (sym starts) ∙ some many text
+    ap (λ o. is_ending (form_from pattern o).ending text) is
+    ∙ ap (λ v. is_ending (if v then segments else segment) text) (sym starts) ∙ some many text
 
 pub returns-in_default : goal.returns-in_default
 returns-in_default c =
     let text = c.args.text.now in
     let pattern = c.args.pattern.now in
     c.is_empty.ensures ∙ none text ∙ sym (ap (λ o. is_ending (form_from pattern o).ending text)
-    (cut_none open_brace (omega arith) pattern c.split_once.result c.split_once.ensures.cases (none_of _ c.in_default.not-Some)))
+    (cut_none open_brace (omega arith) pattern c.split_once.result c.split_once.ensures.cases
+    (none_of _ c.in_default.not-Some)))
 
 pub returns-then-starts_with : goal.returns-then-starts_with
 returns-then-starts_with c =
     let text = c.args.text.now in
     let pattern = c.args.pattern.now in
-    let is = cut_some open_brace (omega arith) pattern c.split_once.result c.split_once.ensures.cases (c.in-Some.field-0-0, c.in-Some.parameter) c.in-Some.is in
+    let is = cut_some open_brace (omega arith) pattern c.split_once.result c.split_once.ensures.cases
+    (c.in-Some.field-0-0, c.in-Some.parameter) c.in-Some.is in
     let starts = starts_text c.starts_with.result (star ∷ []) c.in-Some.parameter.now c.starts_with.ensures.cases in
     c.if-starts_with.true
-    ∙ sym (by_star pattern text (c.in-Some.field-0-0.now, c.in-Some.parameter.now) true is (sym c.if-starts_with.true ∙ starts)
+    ∙ sym (by_star pattern text (c.in-Some.field-0-0.now, c.in-Some.parameter.now) true is
+    (sym c.if-starts_with.true ∙ starts)
     ∙ ap (λ b. not b && true) (sym c.is_empty-2.ensures ∙ c.if-not-is_empty.true))
 
 pub returns-else-starts_with : goal.returns-else-starts_with
 returns-else-starts_with c =
     let text = c.args.text.now in
     let pattern = c.args.pattern.now in
-    let is = cut_some open_brace (omega arith) pattern c.split_once.result c.split_once.ensures.cases (c.in-Some.field-0-0, c.in-Some.parameter) c.in-Some.is in
+    let is = cut_some open_brace (omega arith) pattern c.split_once.result c.split_once.ensures.cases
+    (c.in-Some.field-0-0, c.in-Some.parameter) c.in-Some.is in
     let starts = starts_text c.starts_with.result (star ∷ []) c.in-Some.parameter.now c.starts_with.ensures.cases in
     c.lacks_slash.ensures
-    ∙ sym (by_star pattern text (c.in-Some.field-0-0.now, c.in-Some.parameter.now) false is (sym c.if-starts_with.false ∙ starts)
+    ∙ sym (by_star pattern text (c.in-Some.field-0-0.now, c.in-Some.parameter.now) false is
+    (sym c.if-starts_with.false ∙ starts)
     ∙ ap (λ b. not b && lacks slash text) (sym c.is_empty-2.ensures ∙ c.if-not-is_empty.true))
 
 pub returns-else-not-is_empty : goal.returns-else-not-is_empty
 returns-else-not-is_empty c =
     let text = c.args.text.now in
     let pattern = c.args.pattern.now in
-    let is = cut_some open_brace (omega arith) pattern c.split_once.result c.split_once.ensures.cases (c.in-Some.field-0-0, c.in-Some.parameter) c.in-Some.is in
+    let is = cut_some open_brace (omega arith) pattern c.split_once.result c.split_once.ensures.cases
+    (c.in-Some.field-0-0, c.in-Some.parameter) c.in-Some.is in
     let many = starts_with nat_eq c.in-Some.parameter.now (star ∷ []) in
     ap not c.if-not-is_empty.false
     ∙ sym (by_star pattern text (c.in-Some.field-0-0.now, c.in-Some.parameter.now) many is refl

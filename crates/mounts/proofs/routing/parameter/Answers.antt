@@ -17,7 +17,8 @@ returns-in-Some c =
     let literal = c.literal_of.result.now in
     let found = c.in-Some.ensures.cases in
     found.2 ∙ ap (λ n. drop n path) found.1.0
-    ∙ sym (ap (λ v. if v then drop (length literal) path else []) (begins_with literal path (drop found.0 path) found.1.1))
+    ∙ sym (ap (λ v. if v then drop (length literal) path else [])
+    (begins_with literal path (drop found.0 path) found.1.1))
     ∙ ap (behind path) c.literal_of.ensures
 
 pub returns-in-None : goal.returns-in-None

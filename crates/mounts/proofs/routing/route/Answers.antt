@@ -24,7 +24,8 @@ returns-in_err-mount_type-clause-found g c honest mount at =
 
 pub returns-in_err-mount_type-clause-told : goal.returns-in_err-mount_type-clause-told
 returns-in_err-mount_type-clause-told g c honest mounts are =
-    returns-in_err-mount_type-clause-found g c honest (get mounts (cut c.args.path.now).0) (λ _. are (cut c.args.path.now).0)
+    returns-in_err-mount_type-clause-found g c honest (get mounts (cut c.args.path.now).0)
+    (λ _. are (cut c.args.path.now).0)
 
 pub returns-in_err-mount_type-clause-call : goal.returns-in_err-mount_type-clause-call
 returns-in_err-mount_type-clause-call g c =
@@ -33,7 +34,8 @@ returns-in_err-mount_type-clause-call g c =
     record {
       same = search rules;
       faults = rw (p.1 ∙ ap Err p.2) (fault_then (λ damaged honest mount at.
-          damaged honest mount (subst (λ n. IsKnownAt rows n mount) (sym c.cut.ensures.name) at)) c.in_err-mount_type.field-0.0 c.in_err-mount_type.ensures.call.faults);
+          damaged honest mount (subst (λ n. IsKnownAt rows n mount) (sym c.cut.ensures.name) at))
+          c.in_err-mount_type.field-0.0 c.in_err-mount_type.ensures.call.faults);
       goes_on = search rules;
     }
 
@@ -64,7 +66,8 @@ returns-in_default-pattern_found-clause-found g c honest mount at =
 
 pub returns-in_default-pattern_found-clause-told : goal.returns-in_default-pattern_found-clause-told
 returns-in_default-pattern_found-clause-told g c honest mounts are =
-    returns-in_default-pattern_found-clause-found g c honest (get mounts (cut c.args.path.now).0) (λ _. are (cut c.args.path.now).0)
+    returns-in_default-pattern_found-clause-found g c honest (get mounts (cut c.args.path.now).0)
+    (λ _. are (cut c.args.path.now).0)
 
 pub returns-in_err-route_by-clause-found : goal.returns-in_err-route_by-clause-found
 returns-in_err-route_by-clause-found g c honest mount at =
@@ -75,15 +78,18 @@ returns-in_err-route_by-clause-found g c honest mount at =
     let name = c.cut.result.0.now in
     let rest = c.cut.result.1.now in
     let p = err_from_is_err_and c.from_residual-in_err-route_by.result c.from_residual-in_err-route_by.ensures.1 in
-    rw (p.1 ∙ ap Err p.2) (ends_refused _ _ (route_some mount c.args.verb path name rest type c.cut.ensures.name c.cut.ensures.rest
+    rw (p.1 ∙ ap Err p.2)
+    (ends_refused _ _ (route_some mount c.args.verb path name rest type c.cut.ensures.name c.cut.ensures.rest
     (sym (c.in_ok-mount_type.ensures.found honest mount here) ∙ c.in-Some.is)
     ∙ within_some (route_rows type) c.args.verb name rest c.in-Some-pattern_found.pattern.now
     (sym c.pattern_found.ensures ∙ ap (option_map (λ s. s.now)) c.in-Some-pattern_found.is)
-    ∙ sym (ap (λ rs. route_by rs c.args.verb name rest c.in-Some-pattern_found.pattern.now) c.route_rows.ensures) ∙ sym c.in_err-route_by.ensures))
+    ∙ sym (ap (λ rs. route_by rs c.args.verb name rest c.in-Some-pattern_found.pattern.now) c.route_rows.ensures)
+    ∙ sym c.in_err-route_by.ensures))
 
 pub returns-in_err-route_by-clause-told : goal.returns-in_err-route_by-clause-told
 returns-in_err-route_by-clause-told g c honest mounts are =
-    returns-in_err-route_by-clause-found g c honest (get mounts (cut c.args.path.now).0) (λ _. are (cut c.args.path.now).0)
+    returns-in_err-route_by-clause-found g c honest (get mounts (cut c.args.path.now).0)
+    (λ _. are (cut c.args.path.now).0)
 
 pub returns-clause-found : goal.returns-clause-found
 returns-clause-found g c honest mount at =
@@ -97,19 +103,24 @@ returns-clause-found g c honest mount at =
     (sym (c.in_ok-mount_type.ensures.found honest mount here) ∙ c.in-Some.is)
     ∙ within_some (route_rows type) c.args.verb name rest c.in-Some-pattern_found.pattern.now
     (sym c.pattern_found.ensures ∙ ap (option_map (λ s. s.now)) c.in-Some-pattern_found.is)
-    ∙ sym (ap (λ rs. route_by rs c.args.verb name rest c.in-Some-pattern_found.pattern.now) c.route_rows.ensures) ∙ sym c.in_ok-route_by.ensures)
+    ∙ sym (ap (λ rs. route_by rs c.args.verb name rest c.in-Some-pattern_found.pattern.now) c.route_rows.ensures)
+    ∙ sym c.in_ok-route_by.ensures)
 
 pub returns-clause-told : goal.returns-clause-told
-returns-clause-told g c honest mounts are = returns-clause-found g c honest (get mounts (cut c.args.path.now).0) (λ _. are (cut c.args.path.now).0)
+returns-clause-told g c honest mounts are =
+    returns-clause-found g c honest (get mounts (cut c.args.path.now).0) (λ _. are (cut c.args.path.now).0)
 
 pub returns-clause-parameter : goal.returns-clause-parameter
 returns-clause-parameter g c good takes =
     let path = c.args.path.now in
     let type = c.in-Some.mount_type in
     let rest = c.cut.result.1.now in
-    parameter_is_path (route_rows type) (in_order type) c.args.verb c.cut.result.0.now rest c.in-Some-pattern_found.pattern.now c.in_ok-route_by.field-0
+    parameter_is_path (route_rows type) (in_order type) c.args.verb c.cut.result.0.now rest
+    c.in-Some-pattern_found.pattern.now c.in_ok-route_by.field-0
     (subst IsRest (sym c.cut.ensures.rest) (rest_of path good))
-    (subst (λ t. are_bytes t ≡ true) (sym c.cut.ensures.rest) (bytes_of_rest path (are_bytes_from path (λ k. omega (arith, c.type_inv.path k)))))
+    (subst (λ t. are_bytes t ≡ true) (sym c.cut.ensures.rest)
+    (bytes_of_rest path (are_bytes_from path (λ k. omega (arith, c.type_inv.path k)))))
     (sym c.pattern_found.ensures ∙ ap (option_map (λ s. s.now)) c.in-Some-pattern_found.is)
-    (sym (ap (λ rs. route_by rs c.args.verb c.cut.result.0.now rest c.in-Some-pattern_found.pattern.now) c.route_rows.ensures) ∙ sym c.in_ok-route_by.ensures)
+    (sym (ap (λ rs. route_by rs c.args.verb c.cut.result.0.now rest c.in-Some-pattern_found.pattern.now)
+    c.route_rows.ensures) ∙ sym c.in_ok-route_by.ensures)
     takes

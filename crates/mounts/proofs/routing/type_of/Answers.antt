@@ -15,7 +15,8 @@ returns-in_err-mount-clause-call g c =
     record {
       same = search rules;
       faults = rw (p.1 ∙ ap Err (p.2 ∙ c.in_err-mount.ensures.damaged)) (λ honest mount at.
-          not_read (table (g.T.RecordsTx.seen c.args.tx.now)) c.args.name.now c.in-Some-2.kept (sym (c.in_ok-kept.ensures.found honest) ∙ c.in-Some-2.is)
+          not_read (table (g.T.RecordsTx.seen c.args.tx.now)) c.args.name.now c.in-Some-2.kept
+          (sym (c.in_ok-kept.ensures.found honest) ∙ c.in-Some-2.is)
           (λ m good row. false≢true (ap is_ok (c.in_err-mount.ensures.again m good row))) mount
           (at (sym c.fixed_type.ensures ∙ none_of _ c.in_default.not-Some)));
       goes_on = search rules;

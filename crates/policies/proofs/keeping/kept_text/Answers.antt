@@ -11,7 +11,8 @@ returns-in_err-text-clause-call g c =
     record {
       same = search rules;
       faults = rw (p.1 ∙ ap Err (p.2 ∙ c.in_err-text.ensures.damaged)) (λ honest text short at.
-          not_read (table (g.T.RecordsTx.seen c.args.tx.now)) c.args.name.now c.in-Some.row (sym (c.in_ok-row.ensures.found honest) ∙ c.in-Some.is)
+          not_read (table (g.T.RecordsTx.seen c.args.tx.now)) c.args.name.now c.in-Some.row
+          (sym (c.in_ok-row.ensures.found honest) ∙ c.in-Some.is)
           (λ kept good row. false≢true (ap is_ok (c.in_err-text.ensures.again kept good row))) text short at);
       goes_on = search rules;
     }

@@ -39,7 +39,8 @@ returns-clause-told g c honest policies are =
     let new = (g.T.RecordsTx.seen c.put.new.self).rows in
     let name = c.args.name.now in
     let text = c.args.text.now in
-    ends_then {X = Unit {0}} (may_set name text) c.in_ok-may_set.field-0 (λ _ next. ArePolicies (table_of new) next) (new ≡ old) tt
+    ends_then {X = Unit {0}} (may_set name text) c.in_ok-may_set.field-0 (λ _ next. ArePolicies (table_of new) next)
+    (new ≡ old) tt
     (put policies name text) c.in_ok-may_set.ensures
     (policies_put (table_of old) (table_of new) name policies text
     (ap table_of (c.in_ok-put.ensures.rows honest) ∙ table_of-insert old kind.Policy name c.in_ok-row.row

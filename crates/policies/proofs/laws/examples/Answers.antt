@@ -23,7 +23,8 @@ returns-clause-lists_in_order c = record { folder = refl; path = refl; prefix = 
 
 pub returns-clause-allows_prefixes : goal.returns-clause-allows_prefixes
 unfolding same allows pattern_of
-returns-clause-allows_prefixes c = record { any = refl; empty = refl; folder = refl; beside = refl; denied = refl; below = refl }
+returns-clause-allows_prefixes c =
+    record { any = refl; empty = refl; folder = refl; beside = refl; denied = refl; below = refl }
 
 pub returns-clause-allow : goal.returns-clause-allow
 unfolding same allows pattern_of

@@ -5,7 +5,8 @@ pub returns-clause-none : goal.returns-clause-none
 returns-clause-none c = nothing_without
 
 pub returns-clause-order : goal.returns-clause-order
-returns-clause-order c policies names others v path capability moved = any_order policies names others moved v path capability
+returns-clause-order c policies names others v path capability moved =
+    any_order policies names others moved v path capability
 
 pub returns-clause-others : goal.returns-clause-others
 returns-clause-others c = others_are_free

@@ -6,4 +6,5 @@ use Rattle.policies.specs.Reading.{word}
 use Rattle.policies.proofs.reading.each_word.Given as goal
 
 abbrev pub invariant-loop-item : goal.invariant-loop-item
-invariant-loop-item l = onto l.words.items (each_item word (items_view (drop l.item-index l.item-items))) ≡ each_item word (items_view l.item-items)
+invariant-loop-item l = onto l.words.items (each_item word (items_view (drop l.item-index l.item-items)))
+    ≡ each_item word (items_view l.item-items)

@@ -5,4 +5,5 @@ use Rattle.policies.specs.Reading.{rules_in}
 use Rattle.policies.proofs.reading.rules_in.Given as goal
 
 abbrev pub invariant-loop-pattern : goal.invariant-loop-pattern
-invariant-loop-pattern l = onto l.rules.items (rules_in (members_view l.pattern-iterator)) ≡ rules_in (members_view l.paths.entries)
+invariant-loop-pattern l = onto l.rules.items (rules_in (members_view l.pattern-iterator))
+    ≡ rules_in (members_view l.paths.entries)

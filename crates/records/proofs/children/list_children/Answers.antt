@@ -14,7 +14,8 @@ loop-init g c =
     let rows = (g.T.RecordsTx.seen c.args.tx.now).rows in
     record {
       walk = λ honest.
-          (λ i. push_each (c.new-names.ensures.items i) (children_from rows c.args.kind c.args.prefix.now (c.new-from.ensures.bytes i)))
+          (λ i. push_each (c.new-names.ensures.items i)
+          (children_from rows c.args.kind c.args.prefix.now (c.new-from.ensures.bytes i)))
           ∙ ap (push_each []) (from_start rows c.args.kind c.args.prefix.now);
       same = λ honest. refl;
       goes_on = search rules;
@@ -28,9 +29,11 @@ returns-then-len-clause-set g c honest =
     let names = c.loop.names.items in
     let page = c.in_ok-page.page.items in
     let from = string_bytes c.loop.from in
-    let early = honest_before (seen c.loop.tx) (seen c.under_from.new.self) _ c.in_ok-page.ensures.call.goes_on honest in
+    let early = honest_before (seen c.loop.tx)
+    (seen c.under_from.new.self) _ c.in_ok-page.ensures.call.goes_on honest in
     let is : page ≡ take 16 (rows_from rows c.args.kind prefix from) =
-    c.in_ok-page.ensures.listed honest ∙ (λ i. take 16 (rows_from (c.loop.invariant.same early i) c.args.kind prefix (c.as_str.ensures.value i))) in
+    c.in_ok-page.ensures.listed honest
+    ∙ (λ i. take 16 (rows_from (c.loop.invariant.same early i) c.args.kind prefix (c.as_str.ensures.value i))) in
     let now : c.push_children.new.names.items ≡ push_each names (found_in prefix (keys_of page)) =
     c.in_ok-push_children.ensures ∙ ap (λ es. push_each names (found_in prefix (keys_of es))) c.deref.ensures.value in
     let short : length page < 16 = search rules in
@@ -53,11 +56,15 @@ loop-preserved g c =
     let from = string_bytes c.loop.from in
     record {
       walk = λ honest.
-          let early = honest_before (seen c.loop.tx) (seen c.under_from.new.self) _ c.in_ok-page.ensures.call.goes_on honest in
+          let early = honest_before (seen c.loop.tx)
+          (seen c.under_from.new.self) _ c.in_ok-page.ensures.call.goes_on honest in
           let is : page ≡ take 16 (rows_from rows c.args.kind prefix from) =
-          c.in_ok-page.ensures.listed honest ∙ (λ i. take 16 (rows_from (c.loop.invariant.same early i) c.args.kind prefix (c.as_str.ensures.value i))) in
+          c.in_ok-page.ensures.listed honest
+          ∙ (λ i. take 16 (rows_from (c.loop.invariant.same early i) c.args.kind prefix (c.as_str.ensures.value i)))
+          in
           let now : c.push_children.new.names.items ≡ push_each names (found_in prefix (keys_of page)) =
-          c.in_ok-push_children.ensures ∙ ap (λ es. push_each names (found_in prefix (keys_of es))) c.deref.ensures.value in
+          c.in_ok-push_children.ensures
+          ∙ ap (λ es. push_each names (found_in prefix (keys_of es))) c.deref.ensures.value in
           let some : 0 < length page = search rules in
           let on = walk_goes_on rows c.args.kind prefix from 16 names page is some in
           let last : slice_get c.deref-in-loop.result.now (length c.deref-in-loop.result.now - 1) ≡ Some on.0 =
@@ -65,7 +72,9 @@ loop-preserved g c =
           (λ i. push_each (now i) (children_from rows c.args.kind prefix (c.in_ok-from.ensures on.0 last i)))
           ∙ sym on.2 ∙ c.loop.invariant.walk early;
       same = λ honest.
-          let early = honest_before (seen c.loop.tx) (seen c.under_from.new.self) _ c.in_ok-page.ensures.call.goes_on honest in
+          let early = honest_before (seen c.loop.tx)
+          (seen c.under_from.new.self) _ c.in_ok-page.ensures.call.goes_on honest in
           c.in_ok-page.ensures.call.same honest ∙ c.loop.invariant.same early;
-      goes_on = goes_further (seen c.args.tx.now) (seen c.loop.tx) (seen c.under_from.new.self) false c.loop.invariant.goes_on c.in_ok-page.ensures.call.goes_on;
+      goes_on = goes_further (seen c.args.tx.now) (seen c.loop.tx)
+          (seen c.under_from.new.self) false c.loop.invariant.goes_on c.in_ok-page.ensures.call.goes_on;
     }

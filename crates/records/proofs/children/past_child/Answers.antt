@@ -10,7 +10,8 @@ returns-in_ok-push_str-in-None-2 c =
     let name = c.args.name.now in
     let prefix = c.args.prefix.now in
     let whole : position_or_len (λ b. b == slash) name
-    ≡ length name = rw c.in-None.is at (split_once_first slash name c.split_once.result c.split_once.ensures.cases (omega arith)) in
+    ≡ length name = rw c.in-None.is at
+    (split_once_first slash name c.split_once.result c.split_once.ensures.cases (omega arith)) in
     c.in_ok-push_str-in-None-2.ensures.bytes
     ∙ ap (λ t. t ++ 0 ∷ []) (c.in_ok-push_str-in-None.ensures.bytes ∙ ap (λ t. t ++ name) c.in_ok-text.ensures.ok)
     ∙ append_assoc prefix name (0 ∷ []) ∙ ap (λ t. prefix ++ t) (sym (past-whole name whole))
@@ -19,7 +20,10 @@ pub returns-in_ok-push_str-in-Some-2 : goal.returns-in_ok-push_str-in-Some-2
 returns-in_ok-push_str-in-Some-2 c =
     let name = c.args.name.now in
     let prefix = c.args.prefix.now in
-    let (inside, front, back) = rw c.in-Some.is at (split_once_first slash name c.split_once.result c.split_once.ensures.cases (omega arith)) in
+    let (inside, front, back) =
+    rw c.in-Some.is at (split_once_first slash name c.split_once.result c.split_once.ensures.cases (omega arith)) in
     c.in_ok-push_str-in-Some-2.ensures.bytes
-    ∙ ap (λ t. t ++ (slash + 1) ∷ []) (c.in_ok-push_str-in-Some.ensures.bytes ∙ (λ i. c.in_ok-text.ensures.ok i ++ front i))
-    ∙ append_assoc prefix (before_first (λ b. b == slash) name) ((slash + 1) ∷ []) ∙ ap (λ t. prefix ++ t) (sym (past-folder name inside))
+    ∙ ap (λ t. t ++ (slash + 1) ∷ [])
+    (c.in_ok-push_str-in-Some.ensures.bytes ∙ (λ i. c.in_ok-text.ensures.ok i ++ front i))
+    ∙ append_assoc prefix (before_first (λ b. b == slash) name) ((slash + 1) ∷ [])
+    ∙ ap (λ t. prefix ++ t) (sym (past-folder name inside))

@@ -10,4 +10,5 @@ returns-in-None c name is = absurd (none-some name (c.in-None.ensures.value ∙ 
 pub returns-in-Some : goal.returns-in-Some
 returns-in-Some c name is =
     let last : c.in-Some.name.now ≡ name = same_Some _ _ (c.in-Some.ensures.value ∙ is) in
-    IfOk-weaker c.past_child.result _ _ (λ text e. e ∙ ap (λ n. c.args.prefix.now ++ past n) (c.as_str.ensures ∙ last)) c.past_child.ensures
+    IfOk-weaker c.past_child.result _ _ (λ text e. e ∙ ap (λ n. c.args.prefix.now ++ past n) (c.as_str.ensures ∙ last))
+    c.past_child.ensures

@@ -8,7 +8,8 @@ returns-then-is_last c =
     let texts = c.args.texts.now.items in
     let text = string_bytes c.args.text in
     let last : is_text text (slice_get texts (length texts - 1)) ≡ true =
-    sym (λ i. is_text (c.as_str.ensures.value i) (slice_get (c.deref.ensures.value i) (length (c.deref.ensures.value i) - 1))) ∙ sym c.is_last.ensures
+    sym (λ i. is_text (c.as_str.ensures.value i)
+    (slice_get (c.deref.ensures.value i) (length (c.deref.ensures.value i) - 1))) ∙ sym c.is_last.ensures
     ∙ c.if-is_last.true in
     sym (ap (λ v. if v then texts else texts ++ text ∷ []) last)
 
@@ -17,6 +18,8 @@ returns c =
     let texts = c.args.texts.now.items in
     let text = string_bytes c.args.text in
     let other : is_text text (slice_get texts (length texts - 1)) ≡ false =
-    sym (λ i. is_text (c.as_str.ensures.value i) (slice_get (c.deref.ensures.value i) (length (c.deref.ensures.value i) - 1))) ∙ sym c.is_last.ensures
+    sym (λ i. is_text (c.as_str.ensures.value i)
+    (slice_get (c.deref.ensures.value i) (length (c.deref.ensures.value i) - 1))) ∙ sym c.is_last.ensures
     ∙ c.if-is_last.false in
-    c.in_ok-push.ensures.items ∙ ap (λ t. texts ++ t ∷ []) c.new.ensures ∙ sym (ap (λ v. if v then texts else texts ++ text ∷ []) other)
+    c.in_ok-push.ensures.items ∙ ap (λ t. texts ++ t ∷ []) c.new.ensures
+    ∙ sym (ap (λ v. if v then texts else texts ++ text ∷ []) other)

@@ -7,6 +7,7 @@ use Rattle.records.proofs.list_field.push_items.Given as goal
 abbrev pub invariant-loop-x : goal.invariant-loop-x
 invariant-loop-x g l =
     record {
-      written : l.body.items ++ items g.F.Spell.spell (drop l.x-index l.items) ≡ l.initial.body.items ++ items g.F.Spell.spell l.items;
+      written : l.body.items ++ items g.F.Spell.spell (drop l.x-index l.items) ≡ l.initial.body.items
+          ++ items g.F.Spell.spell l.items;
       fit : All g.F.Spell.fits (drop l.x-index l.items);
     }

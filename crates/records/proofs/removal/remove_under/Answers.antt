@@ -13,5 +13,6 @@ returns-clause-rows g c honest =
     ap table_of (
     (rw none at (c.loop-entry.invariant.rows honest))
     ∙ ap (λ m. without_listed m items) (c.in_ok-list.ensures.call.same early)
-    ∙ ap (without_listed (g.T.RecordsTx.seen c.args.tx.now).rows) (c.deref-entry-items.ensures.value ∙ c.in_ok-list.ensures.listed early))
+    ∙ ap (without_listed (g.T.RecordsTx.seen c.args.tx.now).rows)
+    (c.deref-entry-items.ensures.value ∙ c.in_ok-list.ensures.listed early))
     ∙ table_of-without_under (g.T.RecordsTx.seen c.args.tx.now).rows c.args.kind c.args.prefix.now

@@ -3,9 +3,11 @@ use Rattle.std.proofs.lemmas.Bool.{eqb-true, false≢true}
 use Rattle.std.proofs.lemmas.List.{nil_from_length}
 use Rattle.std.proofs.lemmas.Result.{err_from_is_err_and}
 use Rattle.records.specs.KeyEntry.{secret_in}
-use Rattle.records.proofs.RowReads.{something_left, reads_record, reads_no_record, narrow_read, narrow_refused, narrow_none}
+use Rattle.records.proofs.RowReads.{something_left, reads_record, reads_no_record, narrow_read, narrow_refused}
+use Rattle.records.proofs.RowReads.{narrow_none}
 use Rattle.records.proofs.Conversions.{VersionFields, HasNone, version_converts}
-use Rattle.records.proofs.secret.read_version.Goals.{else-is_destroyed-via-then-is_destroyed+else-not-is_empty, else-is_destroyed-via-else-is_destroyed}
+use Rattle.records.proofs.secret.read_version.Goals.{else-is_destroyed-via-then-is_destroyed+else-not-is_empty}
+use Rattle.records.proofs.secret.read_version.Goals.{else-is_destroyed-via-else-is_destroyed}
 use Rattle.records.proofs.secret.read_version.Goals as goal
 
 pub returns-in_err-created : goal.returns-in_err-created
@@ -28,7 +30,8 @@ returns c =
     let none : HasNone x =
     elim c.else-is_destroyed.branch [
       | else-is_destroyed-via-then-is_destroyed+else-not-is_empty w ↦ λ e.
-          sym c.object.view_is ∙ nil_from_length c.object.inside.text.now (eqb-true _ 0 (sym w.is_empty.ensures ∙ w.if-not-is_empty.false))
+          sym c.object.view_is ∙ nil_from_length c.object.inside.text.now
+          (eqb-true _ 0 (sym w.is_empty.ensures ∙ w.if-not-is_empty.false))
       | else-is_destroyed-via-else-is_destroyed w ↦ λ e. absurd (false≢true (sym w.if-is_destroyed.false ∙ e))
     ] in
     reads_record version_converts c.args.kept.now x _

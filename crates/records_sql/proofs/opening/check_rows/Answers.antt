@@ -10,7 +10,9 @@ pub returns-clause-sound : goal.returns-clause-sound
 returns-clause-sound g c clean has live =
     let old = state g.S.Store c.args.conn.now in
     let new = state g.S.Store c.numbers.new.conn in
-    on_ok_weaker c.check_numbers.result (λ numbered. adopted old new c.in-Ok.rows.items has live (c.in-Ok.ensures.ok clean) (subst (AreNumbered None) c.deref.ensures.value numbered)) c.check_numbers.ensures.numbered
+    on_ok_weaker c.check_numbers.result
+    (λ numbered. adopted old new c.in-Ok.rows.items has live (c.in-Ok.ensures.ok clean)
+    (subst (AreNumbered None) c.deref.ensures.value numbered)) c.check_numbers.ensures.numbered
 
 pub returns-clause-same : goal.returns-clause-same
 returns-clause-same g c clean has =

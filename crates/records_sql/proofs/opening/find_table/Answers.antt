@@ -10,11 +10,13 @@ returns-clause-found g c clean settled =
     let old = state g.S.Store c.args.conn.now in
     let new = state g.S.Store c.check_rows.new.conn in
     let has = sym c.schema-2.ensures.value ∙ c.if-not-is_ours.ensures refl in
-    on_ok_both c.check_rows.result (λ same store. kept_as_found old new settled same store) (c.check_rows.ensures.same clean has) (c.check_rows.ensures.sound clean has c.schema-2.ensures.live)
+    on_ok_both c.check_rows.result (λ same store. kept_as_found old new settled same store)
+    (c.check_rows.ensures.same clean has) (c.check_rows.ensures.sound clean has c.schema-2.ensures.live)
 
 pub returns-then-is_blank-clause-found : goal.returns-then-is_blank-clause-found
 returns-then-is_blank-clause-found g c clean settled =
     let old = state g.S.Store c.args.conn.now in
     let new = state g.S.Store c.make_table.new.conn in
     let has = sym c.schema.ensures.value ∙ c.if-is_blank.ensures refl in
-    on_ok_weaker c.make_table.result (λ made. made_new old new settled has made.0 made.1) (c.make_table.ensures.made clean has)
+    on_ok_weaker c.make_table.result (λ made. made_new old new settled has made.0 made.1)
+    (c.make_table.ensures.made clean has)

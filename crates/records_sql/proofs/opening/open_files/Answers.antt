@@ -15,5 +15,7 @@ pub returns-in-Ok-open_files_with-clause-found : goal.returns-in-Ok-open_files_w
 returns-in-Ok-open_files_with-clause-found g c clean =
     let (log, db) = c.in-Ok.ensures.fresh in
     let found = c.in-Ok-open_files_with.ensures.found clean in
-    let same = ap₂ image (ap₂ (seen g.S.Start.log g.S.Start.db) log.0 log.1) (ap₂ (seen g.S.Start.log g.S.Start.db) db.0 db.1) in
-    subst (λ i. FindsIn i (file_state c.in-Ok-open_files_with.conn)) same (record { holds = found.holds; reads = found.reads })
+    let same = ap₂ image (ap₂ (seen g.S.Start.log g.S.Start.db) log.0 log.1)
+    (ap₂ (seen g.S.Start.log g.S.Start.db) db.0 db.1) in
+    subst (λ i. FindsIn i (file_state c.in-Ok-open_files_with.conn)) same
+    (record { holds = found.holds; reads = found.reads })

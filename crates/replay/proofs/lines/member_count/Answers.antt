@@ -7,4 +7,5 @@ use Rattle.replay.proofs.lines.member_count.Goals as goal
 
 pub returns-in-Some : goal.returns-in-Some
 returns-in-Some c =
-    c.len.ensures.len ∙ length-members c.in-Some.members.now.entries ∙ ap (λ (o : Option Members). option_map_or members_len o 0) c.in-Some.ensures
+    c.len.ensures.len ∙ length-members c.in-Some.members.now.entries
+    ∙ ap (λ (o : Option Members). option_map_or members_len o 0) c.in-Some.ensures

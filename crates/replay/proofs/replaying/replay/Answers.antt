@@ -4,10 +4,12 @@ use Rattle.replay.proofs.WritingLemmas.{Appends-none}
 use Rattle.replay.proofs.replaying.replay.Goals as goal
 
 pub returns-in-Err-Memory-clause-stopped : goal.returns-in-Err-Memory-clause-stopped
-returns-in-Err-Memory-clause-stopped g c = λ input left. stopped_none (told_in (lines_of input)) (g.W.Sink.written c.args.writer.now) _
+returns-in-Err-Memory-clause-stopped g c =
+    λ input left. stopped_none (told_in (lines_of input)) (g.W.Sink.written c.args.writer.now) _
 
 pub returns-in-Err-Failed-clause-stopped : goal.returns-in-Err-Failed-clause-stopped
-returns-in-Err-Failed-clause-stopped g c = λ input left. stopped_none (told_in (lines_of input)) (g.W.Sink.written c.args.writer.now) _
+returns-in-Err-Failed-clause-stopped g c =
+    λ input left. stopped_none (told_in (lines_of input)) (g.W.Sink.written c.args.writer.now) _
 
 pub returns-in-Err-Memory-clause-nothing : goal.returns-in-Err-Memory-clause-nothing
 returns-in-Err-Memory-clause-nothing g c = λ early. Appends-none (g.W.Sink.written c.args.writer.now)

@@ -10,7 +10,8 @@ use Rattle.replay.proofs.WritingLemmas.{Appends-none}
 use Rattle.replay.proofs.replaying.run_in_memory.Goals as goal
 
 pub returns-in-Err-clause-stopped : goal.returns-in-Err-clause-stopped
-returns-in-Err-clause-stopped g c = stopped_none (Some (told c.args.script.now)) (g.W.Sink.written c.args.writer.now) c.from.result
+returns-in-Err-clause-stopped g c = stopped_none (Some (told c.args.script.now))
+    (g.W.Sink.written c.args.writer.now) c.from.result
 
 pub returns-in-Err-start-clause-stopped : goal.returns-in-Err-start-clause-stopped
 returns-in-Err-start-clause-stopped g c =
@@ -19,8 +20,10 @@ returns-in-Err-start-clause-stopped g c =
 pub returns-in-Err-start-clause-ends : goal.returns-in-Err-start-clause-ends
 returns-in-Err-start-clause-ends g c =
     let honest = always_honest (λ _. refl) c.start.new.self in
-    subst (EndsBy (HasEqualWords (Some (told c.args.script.now))) ⊤ (g.W.Sink.has_failed c.args.writer.now)) (sym c.from-in-Err-start.ensures)
-    (ends_by_start c.in-Err-start.fault (HasEqualWords (Some (told c.args.script.now))) (g.W.Sink.has_failed c.args.writer.now)
+    subst (EndsBy (HasEqualWords (Some (told c.args.script.now))) ⊤ (g.W.Sink.has_failed c.args.writer.now))
+    (sym c.from-in-Err-start.ensures)
+    (ends_by_start c.in-Err-start.fault (HasEqualWords (Some (told c.args.script.now)))
+    (g.W.Sink.has_failed c.args.writer.now)
     c.in-Err-start.ensures.faults
     (λ bad. elim (c.in-Err-start.ensures.bad_start honest (ap Err bad)) [
       | inl rows ↦ absurd (rows c.in-Ok.ensures.rows)
@@ -38,7 +41,8 @@ pub returns-clause-ends : goal.returns-clause-ends
 returns-clause-ends g c =
     let start = c.args.script.now.start in
     let b = first_broker start.moment (slice_index start.words.0 1) (slice_index start.words.0 2) in
-    ends_weaker _ _ _ _ (g.W.Sink.has_failed c.run_script.new.writer) c.run_script.result (λ none. absurd none) (λ failed. tt)
+    ends_weaker _ _ _ _ (g.W.Sink.has_failed c.run_script.new.writer) c.run_script.result (λ none. absurd none)
+    (λ failed. tt)
     (c.run_script.ensures.ends (always_honest (λ _. refl) c.run_script.new.hub.store) (started start)
     (c.new.ensures.represents b (c.in_default.ensures.told (always_honest (λ _. refl) c.start.new.self))))
 
@@ -47,8 +51,10 @@ returns-clause-stopped g c =
     let start = c.args.script.now.start in
     let b = first_broker start.moment (slice_index start.words.0 1) (slice_index start.words.0 2) in
     let honest = always_honest (λ _. refl) c.run_script.new.hub.store in
-    let represents = c.new.ensures.represents b (c.in_default.ensures.told (always_honest (λ _. refl) c.start.new.self)) in
-    stopped_from _ (started start) c.args.script.now.events.items c.new.result c.run_script.new.hub (g.W.Sink.written c.args.writer.now)
+    let represents = c.new.ensures.represents b
+    (c.in_default.ensures.told (always_honest (λ _. refl) c.start.new.self)) in
+    stopped_from _ (started start) c.args.script.now.events.items c.new.result c.run_script.new.hub
+    (g.W.Sink.written c.args.writer.now)
     (g.W.Sink.written c.run_script.new.writer) c.run_script.result honest represents c.run_script.ensures.stopped
 
 -- ---- faults before the first event

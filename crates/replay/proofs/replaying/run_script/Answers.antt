@@ -25,8 +25,10 @@ returns-in-Ok-clause-ran g c = λ honest w is unfaulted.
     record {
       replies = bytes_of c.in-Ok.replies.items;
       after = a.after;
-      run = subst (λ (events : List Event). Run w events (bytes_of c.in-Ok.replies.items) a.after) c.as_slice.ensures.value a.run;
-      written = subst (λ (replies : List (Vec ℕ Global)). Appends old new (concat (bytes_of replies))) c.as_slice-in-Ok.ensures.value pushed;
+      run = subst (λ (events : List Event). Run w events (bytes_of c.in-Ok.replies.items) a.after)
+          c.as_slice.ensures.value a.run;
+      written = subst (λ (replies : List (Vec ℕ Global)). Appends old new (concat (bytes_of replies)))
+          c.as_slice-in-Ok.ensures.value pushed;
     }
 
 pub returns-in-Err-clause-stopped : goal.returns-in-Err-clause-stopped
@@ -39,13 +41,15 @@ returns-in-Err-clause-stopped g c =
     let number = fault_number c.in-Err.fault in
     stopped_of seen c.args.script.now.events.items before after old new c.finish-in-Err.result c.from.result number _ _
     c.finish-in-Err.ensures c.from.ensures
-    (λ written. subst (λ (events : List Event). StopsRun seen events before after old new number) c.as_slice.ensures.value
+    (λ written. subst (λ (events : List Event). StopsRun seen events before after old new number)
+    c.as_slice.ensures.value
     (record {
       place = c.in-Err.field-0-0;
       replies = c.in-Err.replies.items;
       fault = c.in-Err.fault;
       number_is = refl;
-      written = subst (λ (rs : List (Vec ℕ Global)). Appends old new (concat (bytes_of rs))) c.as_slice-in-Err.ensures.value written;
+      written = subst (λ (rs : List (Vec ℕ Global)). Appends old new (concat (bytes_of rs)))
+          c.as_slice-in-Err.ensures.value written;
       run = c.in-Err.ensures.before;
       stopped = c.in-Err.ensures.stopped;
       turns = c.in-Err.ensures.connections;

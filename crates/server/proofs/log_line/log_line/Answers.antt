@@ -6,7 +6,8 @@ use Rattle.server.proofs.log_line.log_line.Goals as goal
 -- the parts of a line, in the order in which they are joined
 joined : (t a s b m e : List ℕ) → t ++ (a ++ (s ++ (b ++ (m ++ e)))) ≡ t ++ a ++ s ++ b ++ m ++ e
 joined t a s b m e =
-    sym (append_assoc (t ++ a ++ s ++ b) m e ∙ append_assoc (t ++ a ++ s) b (m ++ e) ∙ append_assoc (t ++ a) s (b ++ (m ++ e))
+    sym (append_assoc (t ++ a ++ s ++ b) m e ∙ append_assoc (t ++ a ++ s) b (m ++ e)
+    ∙ append_assoc (t ++ a) s (b ++ (m ++ e))
     ∙ append_assoc t a (s ++ (b ++ (m ++ e))))
 
 -- what is before the method, with the texts of the time and of the status
@@ -26,4 +27,5 @@ returns c =
     let same : c.into_bytes-line.result.items ≡ string_bytes c.in_ok-format.field-0 = search rules in
     c.in_ok-push_asked.ensures
     ∙ ap (λ (l : List ℕ). l ++ asked_text c.args.asked.now)
-    (front _ time status _ _ millis (same ∙ printed) (c.in_ok-time.ensures ∙ ap time_text c.seconds.ensures.value) c.in_ok-status.ensures)
+    (front _ time status _ _ millis (same ∙ printed)
+    (c.in_ok-time.ensures ∙ ap time_text c.seconds.ensures.value) c.in_ok-status.ensures)

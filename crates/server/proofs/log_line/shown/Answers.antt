@@ -15,14 +15,16 @@ loop-i-preserved c =
     elim c.if-byte-eq47.branch [
       | then-byte-eq47+in_ok-push_segment+in_ok-push w ↦ record {
         rest =
-            let added : w.push.new.self.items ≡ (shown ++ shown_segment (slice_range s start i)) ++ 47 ∷ [] = search rules in
+            let added : w.push.new.self.items ≡ (shown ++ shown_segment (slice_range s start i)) ++ 47 ∷ [] =
+            search rules in
             rw (w.start-is, w.shown-is, added)
             (sym (at_slash s shown start i within w.if-byte-eq47.true) ∙ c.loop-i.invariant.rest);
         order = omega arith;
       }
       | else-byte-eq47 w ↦ record {
         rest = rw (w.start-is, w.shown-is)
-            (sym (ap (λ (l : List ℕ). shown ++ l) (at_other s start i c.loop-i.invariant.order within (grind (arith, nat_tests)))) ∙ c.loop-i.invariant.rest);
+            (sym (ap (λ (l : List ℕ). shown ++ l) (at_other s start i c.loop-i.invariant.order within
+            (grind (arith, nat_tests)))) ∙ c.loop-i.invariant.rest);
         order = omega arith;
       }
     ]

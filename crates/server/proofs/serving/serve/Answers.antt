@@ -19,7 +19,8 @@ returns-in_default-clause-lawful g c =
 
 pub returns-clause-others : goal.returns-clause-others
 returns-clause-others g c = λ all each.
-    seen_below c.in-Some.first all c.serve_rounds-served.new.hub (c.in-Some.ensures all each) (c.serve_rounds-served.ensures.below all each)
+    seen_below c.in-Some.first all c.serve_rounds-served.new.hub (c.in-Some.ensures all each)
+    (c.serve_rounds-served.ensures.below all each)
 
 pub returns-clause-lawful : goal.returns-clause-lawful
 returns-clause-lawful g c =

@@ -35,20 +35,24 @@ loop-next-preserved g c =
     let asked = c.as_str.ensures ∙ c.index.ensures in
     let children : (honest : IsHonest (seen c.by_owner.new.self))
     → All (λ (e : RowKey × Row). Ends (table_of rows) e.0.1) c.deref.result.now = λ honest.
-    let before = honest_before (seen c.loop-next.tx) (seen c.by_owner.new.self) _ c.in_ok-children.ensures.call.goes_on honest in
+    let before = honest_before (seen c.loop-next.tx)
+    (seen c.by_owner.new.self) _ c.in_ok-children.ensures.call.goes_on honest in
     let above = c.loop-next.invariant.queue before c.loop-next.next next below in
     let listed = c.deref.ensures.value ∙ c.in_ok-children.ensures.listed honest
     ∙ (λ i. rows_owned (c.loop-next.invariant.same before i) kind.Token (asked i)) in
     subst (All (λ (e : RowKey × Row). Ends (table_of rows) e.0.1)) (sym listed) (children_end rows _ above) in
     record {
       same = λ honest.
-          let before = honest_before (seen c.loop-next.tx) (seen c.by_owner.new.self) _ c.in_ok-children.ensures.call.goes_on honest in
+          let before = honest_before (seen c.loop-next.tx)
+          (seen c.by_owner.new.self) _ c.in_ok-children.ensures.call.goes_on honest in
           c.in_ok-children.ensures.call.same honest ∙ c.loop-next.invariant.same before;
       words = λ honest.
-          let before = honest_before (seen c.loop-next.tx) (seen c.by_owner.new.self) _ c.in_ok-children.ensures.call.goes_on honest in
+          let before = honest_before (seen c.loop-next.tx)
+          (seen c.by_owner.new.self) _ c.in_ok-children.ensures.call.goes_on honest in
           c.in_ok-add_each.ensures.words (table_of rows) (children honest) (c.loop-next.invariant.words before);
       queue = λ honest.
-          let before = honest_before (seen c.loop-next.tx) (seen c.by_owner.new.self) _ c.in_ok-children.ensures.call.goes_on honest in
+          let before = honest_before (seen c.loop-next.tx)
+          (seen c.by_owner.new.self) _ c.in_ok-children.ensures.call.goes_on honest in
           c.in_ok-add_each.ensures.queue (table_of rows) (children honest) (c.loop-next.invariant.queue before);
       goes_on = search rules;
     }

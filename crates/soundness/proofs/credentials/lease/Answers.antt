@@ -15,11 +15,13 @@ pub returns-clause-sound : goal.returns-clause-sound
 returns-clause-sound g c honest =
     let seen = g.T.RecordsTx.seen in
     let rows = (seen c.args.tx.now).rows in
-    let mid = honest_before (seen c.has_row.new.tx) (seen c.is_of_lease.new.tx) _ c.in_ok-is_of_lease.ensures.call.goes_on honest in
+    let mid = honest_before (seen c.has_row.new.tx)
+    (seen c.is_of_lease.new.tx) _ c.in_ok-is_of_lease.ensures.call.goes_on honest in
     let read = c.in-Ok.ensures.exact in
     let same = c.in_ok-has_row.ensures.call.same mid in
     let credential = ap (λ (l : Lease). l.credential) c.lease.view_is in
-    let row = from_true c.in_ok-is_of_lease.field-0 c.if-not-branch-2.false (c.in_ok-is_of_lease.ensures.found honest) in (
+    let row = from_true c.in_ok-is_of_lease.field-0 c.if-not-branch-2.false
+    (c.in_ok-is_of_lease.ensures.found honest) in (
       (c.args.row.now.owner, c.in-Ok.lease),
       record {
         in_range = read.0;
@@ -66,7 +68,8 @@ returns-then-not-branch-clause-broken g c honest =
 pub returns-then-not-branch-2-clause-broken : goal.returns-then-not-branch-2-clause-broken
 returns-then-not-branch-2-clause-broken g c honest =
     let seen = g.T.RecordsTx.seen in
-    let mid = honest_before (seen c.has_row.new.tx) (seen c.is_of_lease.new.tx) _ c.in_ok-is_of_lease.ensures.call.goes_on honest in
+    let mid = honest_before (seen c.has_row.new.tx)
+    (seen c.is_of_lease.new.tx) _ c.in_ok-is_of_lease.ensures.call.goes_on honest in
     let read = c.in-Ok.ensures.exact in
     let same = c.in_ok-has_row.ensures.call.same mid in
     let credential = ap (λ (l : Lease). l.credential) c.lease.view_is in (

@@ -11,7 +11,8 @@ use Rattle.soundness.proofs.lookups.token_has.Goals as goal
 
 pub returns-in-Some-2-clause-found : goal.returns-in-Some-2-clause-found
 returns-in-Some-2-clause-found g c honest = on_true c.is_same.result (λ one.
-    let read = MatchOption-at_some _ (λ (x : TokenEntry). IsTokenInRange x × (c.in-Some.row ≡ entry_row x)) c.in-Some-2.found
+    let read = MatchOption-at_some _ (λ (x : TokenEntry). IsTokenInRange x × (c.in-Some.row ≡ entry_row x))
+    c.in-Some-2.found
     c.in-Some-2.is c.in_ok-found.ensures.found in (
       c.in-Some-2.found,
       read.0,
@@ -31,7 +32,8 @@ returns-clause-whole g c honest = λ n.
 
 pub returns-in-Some-2-clause-whole : goal.returns-in-Some-2-clause-whole
 returns-in-Some-2-clause-whole g c honest = λ n.
-    let read = MatchOption-at_some _ (λ (x : TokenEntry). IsTokenInRange x × (c.in-Some.row ≡ entry_row x)) c.in-Some-2.found
+    let read = MatchOption-at_some _ (λ (x : TokenEntry). IsTokenInRange x × (c.in-Some.row ≡ entry_row x))
+    c.in-Some-2.found
     c.in-Some-2.is c.in_ok-found.ensures.found in
     let one : c.in-Some-2.found ≡ n.0 = entry_row-injective c.in-Some-2.found n.0 read.0 n.1
     (sym read.1 ∙ same_Some _ _ (sym c.in-Some.is ∙ c.in_ok-row.ensures.found honest ∙ n.2)) in

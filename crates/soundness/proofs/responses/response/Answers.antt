@@ -9,13 +9,18 @@ use Rattle.records.specs.declared.kind.Kind.TheVariants as kind
 use Rattle.soundness.proofs.responses.response.Goals as goal
 
 pub returns-in_default-clause-broken : goal.returns-in_default-clause-broken
-returns-in_default-clause-broken g c honest = unread IsWaitingInRange waiting_row c.args.row.now _ c.in_default.ensures _ refl
+returns-in_default-clause-broken g c honest =
+    unread IsWaitingInRange waiting_row c.args.row.now _ c.in_default.ensures _ refl
 
 pub returns-then-waiting-eq0-clause-broken : goal.returns-then-waiting-eq0-clause-broken
 returns-then-waiting-eq0-clause-broken g c honest =
     let read = c.in-Ok.ensures.exact in (
       c.in-Ok.waiting,
-      (read.0, λ waits. omega (arith, waits, subst (λ (w : Waiting). w.ttl ≡ 0) c.waiting.view_is c.if-waiting-eq0.true)),
+      (
+        read.0,
+        λ waits. omega
+            (arith, waits, subst (λ (w : Waiting). w.ttl ≡ 0) c.waiting.view_is c.if-waiting-eq0.true),
+      ),
       read.1,
     )
 

@@ -10,7 +10,8 @@ use Rattle.soundness.proofs.secrets.key.Goals as goal
 pub returns-clause-sound : goal.returns-clause-sound
 returns-clause-sound c =
     let k = c.in-Some.found in
-    let read = MatchOption-at_some _ (λ (k : KeyEntry). IsKeyInRange k × (c.args.row.now ≡ key_entry_row k)) k c.in-Some.is
+    let read = MatchOption-at_some _ (λ (k : KeyEntry). IsKeyInRange k × (c.args.row.now ≡ key_entry_row k)) k
+    c.in-Some.is
     c.in_ok-found.ensures.found in
     let fits : are_fit k.custom_metadata ≡ true =
     ap (λ (k : KeyEntry). are_fit k.custom_metadata) (sym c.found.view_is)

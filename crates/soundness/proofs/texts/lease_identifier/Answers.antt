@@ -11,9 +11,11 @@ use Rattle.soundness.proofs.texts.lease_identifier.Goals as goal
 
 pub returns-clause-sound : goal.returns-clause-sound
 returns-clause-sound c =
-    lease_id_of c.args.text.now c.in-Some.mount.now c.in-Some.rest.now c.in-Some-issued.role.now c.in-Some-issued.identifier.now
+    lease_id_of c.args.text.now c.in-Some.mount.now c.in-Some.rest.now c.in-Some-issued.role.now
+    c.in-Some-issued.identifier.now
     (parts_of c.args.text.now c.cut.result (c.in-Some.mount, c.in-Some.rest) c.in-Some.is c.cut.ensures.sound)
-    (issued_parts c.in-Some.rest.now c.issued.result (c.in-Some-issued.role, c.in-Some-issued.identifier) c.in-Some-issued.is
+    (issued_parts c.in-Some.rest.now c.issued.result
+    (c.in-Some-issued.role, c.in-Some-issued.identifier) c.in-Some-issued.is
     c.issued.ensures.sound)
     (from_true c.are_parts_of_id.result c.if-not-are_parts_of_id.false c.are_parts_of_id.ensures.sound)
 

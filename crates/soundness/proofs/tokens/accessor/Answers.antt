@@ -24,7 +24,8 @@ returns-then-not-branch-clause-broken g c honest = (
   (
     tt,
     λ named. fails c.in_ok-is_held.field-0 c.if-not-branch.true (c.in_ok-is_held.ensures.whole honest)
-        (subst (λ (t : Text). IsNamedBy (table_of (g.T.RecordsTx.seen c.args.tx.now).rows) c.args.key.now (t, c.in-Ok.what))
+        (subst (λ (t : Text). IsNamedBy (table_of (g.T.RecordsTx.seen c.args.tx.now).rows) c.args.key.now
+        (t, c.in-Ok.what))
         (sym c.as_str.ensures) named),
   ),
   c.in-Ok.ensures.exact.1,

@@ -17,7 +17,8 @@ returns-clause-sound g c honest =
       (c.args.row.now.owner, c.in-Ok.text.now),
       record {
         path = c.in-Some.path.now;
-        key = path_at c.args.key.now c.as_str.result.now c.path_of.result c.in-Some.path c.in-Some.is c.path_of.ensures.sound
+        key = path_at c.args.key.now c.as_str.result.now c.path_of.result c.in-Some.path c.in-Some.is
+            c.path_of.ensures.sound
             ∙ ap (λ (t : Text). t ++ slash ∷ c.in-Some.path.now) c.as_str.ensures;
         owner = subst (λ (t : Text). table_of rows kind.Token t ≡ None → ⊥) c.as_str-2.ensures
             (from_true c.in_ok-has_row.field-0 c.if-not-branch-2.false (c.in_ok-has_row.ensures.found honest));
@@ -39,7 +40,8 @@ returns-in_default-path_of-clause-broken g c honest = λ k.
 
 pub returns-then-not-is_path-clause-broken : goal.returns-then-not-is_path-clause-broken
 returns-then-not-is_path-clause-broken g c honest = λ k.
-    let is = path_at c.args.key.now c.as_str.result.now c.path_of.result c.in-Some.path c.in-Some.is c.path_of.ensures.sound
+    let is = path_at c.args.key.now c.as_str.result.now c.path_of.result c.in-Some.path c.in-Some.is
+    c.path_of.ensures.sound
     ∙ ap (λ (t : Text). t ++ slash ∷ c.in-Some.path.now) c.as_str.ensures in
     fails c.is_path.result c.if-not-is_path.true c.is_path.ensures.whole
     (subst IsPathText (same_rest c.args.row.now.owner k.0 c.in-Some.path.now (sym k.1 ∙ is)) k.2)

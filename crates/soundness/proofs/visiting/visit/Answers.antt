@@ -9,8 +9,10 @@ pub returns-clause-passed : goal.returns-clause-passed
 returns-clause-passed g c honest ends =
     let seen = g.T.RecordsTx.seen in
     let first = (seen c.args.tx.now).rows in
-    let two = honest_before (seen c.note_identifier.new.tx) (seen c.note_origin.new.tx) _ c.in_ok-origin.ensures.call.goes_on honest in
-    let one = honest_before (seen c.test.new.tx) (seen c.note_identifier.new.tx) _ c.in_ok-place.ensures.call.goes_on two in
+    let two = honest_before (seen c.note_identifier.new.tx)
+    (seen c.note_origin.new.tx) _ c.in_ok-origin.ensures.call.goes_on honest in
+    let one = honest_before (seen c.test.new.tx)
+    (seen c.note_identifier.new.tx) _ c.in_ok-place.ensures.call.goes_on two in
     let after : Notes = record {
       rooted = c.args.notes.now.rooted;
       identifiers = c.note_identifier.new.places;

@@ -7,5 +7,6 @@ pub returns-clause-passed : goal.returns-clause-passed
 returns-clause-passed g c honest ends =
     IfOk-weaker c.visit_kinds.result _ _
     (λ o. if_none_weaker o
-    (λ passed. each_kind (KindPassed (table_of (g.T.RecordsTx.seen c.args.tx.now).rows) c.visit_kinds.new.notes) passed.1))
+    (λ passed. each_kind (KindPassed (table_of (g.T.RecordsTx.seen c.args.tx.now).rows) c.visit_kinds.new.notes)
+    passed.1))
     (c.visit_kinds.ensures.passed honest ends)

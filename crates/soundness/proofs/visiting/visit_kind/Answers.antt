@@ -18,7 +18,8 @@ loop-init g c =
       same = λ honest. refl;
       passed = λ honest ends. (
         notes_stay notes,
-        subst (λ (t : Text). PassedBelow rows notes c.args.kind t) (sym c.new-from.ensures.bytes) (none_below rows _ _ c.args.kind),
+        subst (λ (t : Text). PassedBelow rows notes c.args.kind t) (sym c.new-from.ensures.bytes)
+            (none_below rows _ _ c.args.kind),
       );
       goes_on = search rules;
     }
@@ -29,11 +30,14 @@ returns-then-len-clause-passed g c honest ends =
     let first = (seen c.args.tx.now).rows in
     let page = c.in_ok-page.page.items in
     let from = string_bytes c.loop.from in
-    let listed = honest_before (seen c.under_from.new.self) (seen c.visit_each.new.tx) false c.in_ok-trouble.ensures.call.goes_on honest in
-    let early = honest_before (seen c.loop.tx) (seen c.under_from.new.self) false c.in_ok-page.ensures.call.goes_on listed in
+    let listed = honest_before (seen c.under_from.new.self)
+    (seen c.visit_each.new.tx) false c.in_ok-trouble.ensures.call.goes_on honest in
+    let early = honest_before (seen c.loop.tx)
+    (seen c.under_from.new.self) false c.in_ok-page.ensures.call.goes_on listed in
     let same = c.loop.invariant.same early in
     let is : page ≡ take 16 (rows_from first c.args.kind [] from) =
-    c.in_ok-page.ensures.listed listed ∙ (λ i. take 16 (rows_from (same i) c.args.kind [] (c.as_str.ensures.value i))) in
+    c.in_ok-page.ensures.listed listed
+    ∙ (λ i. take 16 (rows_from (same i) c.args.kind [] (c.as_str.ensures.value i))) in
     let more = page_more first (seen c.under_from.new.self).rows (c.in_ok-page.ensures.call.same listed ∙ same)
     c.args.notes.now c.loop.notes c.visit_each.new.notes c.args.kind from c.deref.result.now c.in_ok-trouble.field-0
     c.in_default.is ends (c.loop.invariant.passed early ends) (c.in_ok-trouble.ensures.passed honest) in
@@ -51,17 +55,24 @@ loop-preserved g c =
     let from = string_bytes c.loop.from in
     record {
       same = λ honest.
-          let listed = honest_before (seen c.under_from.new.self) (seen c.visit_each.new.tx) false c.in_ok-trouble.ensures.call.goes_on honest in
-          let early = honest_before (seen c.loop.tx) (seen c.under_from.new.self) false c.in_ok-page.ensures.call.goes_on listed in
-          c.in_ok-trouble.ensures.call.same honest ∙ c.in_ok-page.ensures.call.same listed ∙ c.loop.invariant.same early;
+          let listed = honest_before (seen c.under_from.new.self)
+          (seen c.visit_each.new.tx) false c.in_ok-trouble.ensures.call.goes_on honest in
+          let early = honest_before (seen c.loop.tx)
+          (seen c.under_from.new.self) false c.in_ok-page.ensures.call.goes_on listed in
+          c.in_ok-trouble.ensures.call.same honest ∙ c.in_ok-page.ensures.call.same listed
+          ∙ c.loop.invariant.same early;
       passed = λ honest ends.
-          let listed = honest_before (seen c.under_from.new.self) (seen c.visit_each.new.tx) false c.in_ok-trouble.ensures.call.goes_on honest in
-          let early = honest_before (seen c.loop.tx) (seen c.under_from.new.self) false c.in_ok-page.ensures.call.goes_on listed in
+          let listed = honest_before (seen c.under_from.new.self)
+          (seen c.visit_each.new.tx) false c.in_ok-trouble.ensures.call.goes_on honest in
+          let early = honest_before (seen c.loop.tx)
+          (seen c.under_from.new.self) false c.in_ok-page.ensures.call.goes_on listed in
           let same = c.loop.invariant.same early in
           let is : page ≡ take 16 (rows_from first c.args.kind [] from) =
-          c.in_ok-page.ensures.listed listed ∙ (λ i. take 16 (rows_from (same i) c.args.kind [] (c.as_str.ensures.value i))) in
+          c.in_ok-page.ensures.listed listed
+          ∙ (λ i. take 16 (rows_from (same i) c.args.kind [] (c.as_str.ensures.value i))) in
           let more = page_more first (seen c.under_from.new.self).rows (c.in_ok-page.ensures.call.same listed ∙ same)
-          c.args.notes.now c.loop.notes c.visit_each.new.notes c.args.kind from c.deref.result.now c.in_ok-trouble.field-0
+          c.args.notes.now c.loop.notes c.visit_each.new.notes c.args.kind from c.deref.result.now
+          c.in_ok-trouble.field-0
           c.in_default.is ends (c.loop.invariant.passed early ends) (c.in_ok-trouble.ensures.passed honest) in
           let all = subst (All (Passed (table_of first) c.visit_each.new.notes)) c.deref.ensures.value more.2 in
           let some : 0 < length page = search rules in
@@ -69,10 +80,12 @@ loop-preserved g c =
           let last : slice_get c.deref-in-loop.result.now (length c.deref-in-loop.result.now - 1) ≡ Some on.0 =
           ap (λ (es : List (RowKey × Row)). slice_get es (length es - 1)) c.deref-in-loop.ensures.value ∙ on.1 in (
             more.0,
-            subst (λ (t : Text). PassedBelow first c.visit_each.new.notes c.args.kind t) (sym (c.in_ok-from.ensures on.0 last)) on.2,
+            subst (λ (t : Text). PassedBelow first c.visit_each.new.notes c.args.kind t)
+                (sym (c.in_ok-from.ensures on.0 last)) on.2,
           );
       goes_on =
           goes_further (seen c.args.tx.now) (seen c.under_from.new.self) (seen c.visit_each.new.tx) false
-          (goes_further (seen c.args.tx.now) (seen c.loop.tx) (seen c.under_from.new.self) false c.loop.invariant.goes_on c.in_ok-page.ensures.call.goes_on)
+          (goes_further (seen c.args.tx.now) (seen c.loop.tx)
+          (seen c.under_from.new.self) false c.loop.invariant.goes_on c.in_ok-page.ensures.call.goes_on)
           c.in_ok-trouble.ensures.call.goes_on;
     }

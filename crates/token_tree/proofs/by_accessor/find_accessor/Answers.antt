@@ -15,22 +15,27 @@ pub returns-in_default-clause-told : goal.returns-in_default-clause-told
 returns-in_default-clause-told g c honest forms b stands =
     let a = c.args.accessor.now in
     let row = stands.tells kind.Accessor a refl ∙ row_named b a in
-    let none = mapped_none named_row (get (all_named b) a) (sym row ∙ sym (c.in_ok-kept.ensures.found honest) ∙ none_of _ c.in_default.not-Some) in
+    let none = mapped_none named_row (get (all_named b) a)
+    (sym row ∙ sym (c.in_ok-kept.ensures.found honest) ∙ none_of _ c.in_default.not-Some) in
     sym (token_named b a ∙ ap (option_and_then token_of) none)
 
 pub returns-in_err-holder-clause-wants : goal.returns-in_err-holder-clause-wants
 returns-in_err-holder-clause-wants g c honest forms b stands =
     let a = c.args.accessor.now in
     let row = stands.tells kind.Accessor a refl ∙ row_named b a in
-    let x = mapped named_row (get (all_named b) a) c.in-Some.kept (sym row ∙ sym (c.in_ok-kept.ensures.found honest) ∙ c.in-Some.is) in
-    absurd (let e = c.in_err-holder.ensures.again x.0.1 tt (x.2 ∙ ap (λ t. accessor_row t x.0.1) (ap (λ (r : Row). r.owner) (sym x.2))) in cc)
+    let x = mapped named_row (get (all_named b) a) c.in-Some.kept
+    (sym row ∙ sym (c.in_ok-kept.ensures.found honest) ∙ c.in-Some.is) in
+    absurd (let e = c.in_err-holder.ensures.again x.0.1 tt
+    (x.2 ∙ ap (λ t. accessor_row t x.0.1) (ap (λ (r : Row). r.owner) (sym x.2))) in cc)
 
 pub returns-in-Token-clause-told : goal.returns-in-Token-clause-told
 returns-in-Token-clause-told g c honest forms b stands =
     let a = c.args.accessor.now in
     let row = stands.tells kind.Accessor a refl ∙ row_named b a in
-    let x = mapped named_row (get (all_named b) a) c.in-Some.kept (sym row ∙ sym (c.in_ok-kept.ensures.found honest) ∙ c.in-Some.is) in
-    let read = ok_inj (c.in_ok-holder.ensures.again x.0.1 tt (x.2 ∙ ap (λ t. accessor_row t x.0.1) (ap (λ (r : Row). r.owner) (sym x.2)))) in
+    let x = mapped named_row (get (all_named b) a) c.in-Some.kept
+    (sym row ∙ sym (c.in_ok-kept.ensures.found honest) ∙ c.in-Some.is) in
+    let read = ok_inj (c.in_ok-holder.ensures.again x.0.1 tt
+    (x.2 ∙ ap (λ t. accessor_row t x.0.1) (ap (λ (r : Row). r.owner) (sym x.2)))) in
     sym (token_named b a ∙ ap (option_and_then token_of) x.1 ∙ ap (λ h. token_of (x.0.0, h)) (sym read ∙ c.in-Token.is)
     ∙ ap Some (ap (λ (r : Row). r.owner) (sym x.2)))
 
@@ -38,9 +43,12 @@ pub returns-in-WrappingToken-clause-told : goal.returns-in-WrappingToken-clause-
 returns-in-WrappingToken-clause-told g c honest forms b stands =
     let a = c.args.accessor.now in
     let row = stands.tells kind.Accessor a refl ∙ row_named b a in
-    let x = mapped named_row (get (all_named b) a) c.in-Some.kept (sym row ∙ sym (c.in_ok-kept.ensures.found honest) ∙ c.in-Some.is) in
-    let read = ok_inj (c.in_ok-holder.ensures.again x.0.1 tt (x.2 ∙ ap (λ t. accessor_row t x.0.1) (ap (λ (r : Row). r.owner) (sym x.2)))) in
-    sym (token_named b a ∙ ap (option_and_then token_of) x.1 ∙ ap (λ h. token_of (x.0.0, h)) (sym read ∙ c.in-WrappingToken.is))
+    let x = mapped named_row (get (all_named b) a) c.in-Some.kept
+    (sym row ∙ sym (c.in_ok-kept.ensures.found honest) ∙ c.in-Some.is) in
+    let read = ok_inj (c.in_ok-holder.ensures.again x.0.1 tt
+    (x.2 ∙ ap (λ t. accessor_row t x.0.1) (ap (λ (r : Row). r.owner) (sym x.2)))) in
+    sym (token_named b a ∙ ap (option_and_then token_of) x.1
+    ∙ ap (λ h. token_of (x.0.0, h)) (sym read ∙ c.in-WrappingToken.is))
 
 pub returns-in-Token-clause-found : goal.returns-in-Token-clause-found
 returns-in-Token-clause-found g c honest =

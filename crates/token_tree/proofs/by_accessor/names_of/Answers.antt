@@ -13,5 +13,6 @@ returns-in_err-add_accessor-clause-faults c =
     let p = err_from_is_err_and c.from_residual.result c.from_residual.ensures.1 in
     let worse : (IsAccessorRow c.entry-item.result → ⊥) → AllByRecursion IsAccessorRow entries → ⊥ =
     λ damage all. damage (subst IsAccessorRow (sym c.entry-item.is)
-    (subst (AllByRecursion IsAccessorRow) (drop_more entries i c.entry-item.result c.loop-entry-test.true) (c.loop-entry.invariant.left all)).0) in
+    (subst (AllByRecursion IsAccessorRow) (drop_more entries i c.entry-item.result c.loop-entry-test.true)
+    (c.loop-entry.invariant.left all)).0) in
     rw (p.1, p.2) (decode_then worse _ c.in_err-add_accessor.ensures.faults)

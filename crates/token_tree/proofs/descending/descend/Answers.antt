@@ -27,25 +27,32 @@ loop-next-preserved g c =
     let next = c.index.result.now in
     let below : c.loop-next.next < length es = omega (arith, c.loop-next-test.true, c.len.ensures) in
     let asked : c.as_str.result.now ≡ (get_or es c.loop-next.next next).0.1 =
-    c.as_str.ensures ∙ ap (λ (e : RowKey × Row). e.0.1) c.behind-ended.view_is ∙ ap (λ (e : RowKey × Row). e.0.1) c.index.ensures in
+    c.as_str.ensures ∙ ap (λ (e : RowKey × Row). e.0.1) c.behind-ended.view_is
+    ∙ ap (λ (e : RowKey × Row). e.0.1) c.index.ensures in
     let found : (honest : IsHonest (seen c.children_of.new.tx))
-    → (c.add_children.new.ended.items ≡ es ++ filter (λ (e : RowKey × Row). not (s e)) (children rows (get_or es c.loop-next.next next).0.1)) =
+    → (c.add_children.new.ended.items ≡ es ++ filter (λ (e : RowKey × Row). not (s e))
+    (children rows (get_or es c.loop-next.next next).0.1)) =
     λ honest.
-    let before = honest_before (seen c.loop-next.tx) (seen c.children_of.new.tx) _ c.in_ok-children.ensures.call.goes_on honest in
+    let before = honest_before (seen c.loop-next.tx)
+    (seen c.children_of.new.tx) _ c.in_ok-children.ensures.call.goes_on honest in
     let is : c.in_ok-children.children.items ≡ children rows (get_or es c.loop-next.next next).0.1 =
     c.in_ok-children.ensures.found honest ∙ (λ i. children (c.loop-next.invariant.same before i) (asked i)) in
     c.in_ok-add_children.ensures ∙ ap (λ l. es ++ filter (λ (e : RowKey × Row). not (s e)) l) is in
     record {
       walk = λ honest started.
-          let before = honest_before (seen c.loop-next.tx) (seen c.children_of.new.tx) _ c.in_ok-children.ensures.call.goes_on honest in
+          let before = honest_before (seen c.loop-next.tx)
+          (seen c.children_of.new.tx) _ c.in_ok-children.ensures.call.goes_on honest in
           subst (λ l. IsWalk s rows l (c.loop-next.next + 1)) (sym (found honest))
           (walk_goes_on s rows es c.loop-next.next next below (c.loop-next.invariant.walk before started));
       down = λ honest.
-          let before = honest_before (seen c.loop-next.tx) (seen c.children_of.new.tx) _ c.in_ok-children.ensures.call.goes_on honest in
+          let before = honest_before (seen c.loop-next.tx)
+          (seen c.children_of.new.tx) _ c.in_ok-children.ensures.call.goes_on honest in
           subst (Descends rows c.args.started.items) (sym (found honest))
-          (descends_further s rows c.args.started.items es c.loop-next.next next below (c.loop-next.invariant.down before));
+          (descends_further s rows c.args.started.items es c.loop-next.next next below
+          (c.loop-next.invariant.down before));
       same = λ honest.
-          let before = honest_before (seen c.loop-next.tx) (seen c.children_of.new.tx) _ c.in_ok-children.ensures.call.goes_on honest in
+          let before = honest_before (seen c.loop-next.tx)
+          (seen c.children_of.new.tx) _ c.in_ok-children.ensures.call.goes_on honest in
           c.in_ok-children.ensures.call.same honest ∙ c.loop-next.invariant.same before;
       goes_on = search rules;
     }

@@ -16,11 +16,14 @@ pub returns-in_err-remove_tokens-clause-call : goal.returns-in_err-remove_tokens
 returns-in_err-remove_tokens-clause-call g c =
     let seen = g.T.RecordsTx.seen in
     let rows = (seen c.args.tx.now).rows in
-    let p = err_from_is_err_and c.from_residual-in_err-remove_tokens.result c.from_residual-in_err-remove_tokens.ensures.1 in
+    let p = err_from_is_err_and c.from_residual-in_err-remove_tokens.result
+    c.from_residual-in_err-remove_tokens.ensures.1 in
     let worse : (AllByRecursion IsTokenRow c.deref-2.result.now → ⊥) → IsHonest (seen c.remove_tokens.new.tx)
-    → AreStarted (starts c.args.start.now) rows c.args.started.items → HasDamagedDescent (starts c.args.start.now) rows =
+    → AreStarted (starts c.args.start.now) rows c.args.started.items
+    → HasDamagedDescent (starts c.args.start.now) rows =
     λ damage honest started.
-    let mid = honest_before (seen c.descend.new.tx) (seen c.remove_tokens.new.tx) _ c.remove_tokens.ensures.call.goes_on honest in
+    let mid = honest_before (seen c.descend.new.tx)
+    (seen c.remove_tokens.new.tx) _ c.remove_tokens.ensures.call.goes_on honest in
     let down = c.in_ok-ended.ensures.found mid started in
     found_damaged rows c.in_ok-ended.ended.items down.tokens (starts c.args.start.now) down.descent
     (subst (λ es. AllByRecursion IsTokenRow es → ⊥) c.deref-2.ensures.value damage) in
@@ -34,26 +37,30 @@ pub returns-clause-rows : goal.returns-clause-rows
 returns-clause-rows g c honest started =
     let seen = g.T.RecordsTx.seen in
     let rows = (seen c.args.tx.now).rows in
-    let mid = honest_before (seen c.descend.new.tx) (seen c.remove_tokens.new.tx) _ c.in_ok-remove_tokens.ensures.call.goes_on honest in
+    let mid = honest_before (seen c.descend.new.tx)
+    (seen c.remove_tokens.new.tx) _ c.in_ok-remove_tokens.ensures.call.goes_on honest in
     let down = c.in_ok-ended.ensures.found mid started in
     subst (λ list. EndsDescent (starts c.args.start.now) rows list (seen c.remove_tokens.new.tx).rows)
     (sym (c.in_ok-texts.ensures ∙ ap (Rattle.token_tree.specs.Walks.texts) c.deref.ensures.value))
     (found_ends rows c.in_ok-ended.ended.items down.tokens (starts c.args.start.now) down.descent
     (subst (AllByRecursion IsTokenRow) c.deref-2.ensures.value c.in_ok-remove_tokens.ensures.readable)
     (seen c.remove_tokens.new.tx).rows
-    (c.in_ok-remove_tokens.ensures.rows honest ∙ ap (without_each c.deref-2.result.now) (c.in_ok-ended.ensures.call.same mid)
+    (c.in_ok-remove_tokens.ensures.rows honest
+    ∙ ap (without_each c.deref-2.result.now) (c.in_ok-ended.ensures.call.same mid)
     ∙ ap (λ es. without_each es rows) c.deref-2.ensures.value))
 
 pub returns-clause-listed : goal.returns-clause-listed
 returns-clause-listed g c honest =
     let seen = g.T.RecordsTx.seen in
     let rows = (seen c.args.tx.now).rows in
-    let mid = honest_before (seen c.descend.new.tx) (seen c.remove_tokens.new.tx) _ c.in_ok-remove_tokens.ensures.call.goes_on honest in
+    let mid = honest_before (seen c.descend.new.tx)
+    (seen c.remove_tokens.new.tx) _ c.in_ok-remove_tokens.ensures.call.goes_on honest in
     record {
       list = c.in_ok-ended.ended.items;
       descends = c.in_ok-ended.ensures.listed mid;
       texts_are = c.in_ok-texts.ensures ∙ ap (Rattle.token_tree.specs.Walks.texts) c.deref.ensures.value;
-      rows = c.in_ok-remove_tokens.ensures.rows honest ∙ ap (without_each c.deref-2.result.now) (c.in_ok-ended.ensures.call.same mid)
+      rows = c.in_ok-remove_tokens.ensures.rows honest
+          ∙ ap (without_each c.deref-2.result.now) (c.in_ok-ended.ensures.call.same mid)
           ∙ ap (λ es. without_each es rows) c.deref-2.ensures.value;
     }
 
@@ -62,9 +69,11 @@ returns-clause-call g c =
     record {
       others = λ honest.
           let seen = g.T.RecordsTx.seen in
-          let mid = honest_before (seen c.descend.new.tx) (seen c.remove_tokens.new.tx) _ c.in_ok-remove_tokens.ensures.call.goes_on honest in
+          let mid = honest_before (seen c.descend.new.tx)
+          (seen c.remove_tokens.new.tx) _ c.in_ok-remove_tokens.ensures.call.goes_on honest in
           subst (λ rows. KeepsOthers of_tokens (table_of (seen c.args.tx.now).rows) (table_of rows))
-          (sym (c.in_ok-remove_tokens.ensures.rows honest ∙ ap (without_each c.deref-2.result.now) (c.in_ok-ended.ensures.call.same mid)))
+          (sym (c.in_ok-remove_tokens.ensures.rows honest
+          ∙ ap (without_each c.deref-2.result.now) (c.in_ok-ended.ensures.call.same mid)))
           (each_keeps c.deref-2.result.now (seen c.args.tx.now).rows);
       faults = tt;
       goes_on = search rules;

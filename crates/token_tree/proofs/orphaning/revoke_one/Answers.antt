@@ -12,7 +12,8 @@ use Rattle.token_tree.specs.TokenRows.{IsDamagedToken}
 use Rattle.token_tree.specs.Removed.{without_token, IsTokenRow}
 use Rattle.token_tree.proofs.Ends.{readable}
 use Rattle.token_tree.proofs.Found.{lone_without, lone_readable, readable_lone, owned_orphans}
-use Rattle.token_tree.proofs.Orphans.{revoked_one, revoked_one_each, orphaned_unknown, orphaned_none, is_token, parents_keep}
+use Rattle.token_tree.proofs.Orphans.{revoked_one, revoked_one_each, orphaned_unknown, orphaned_none, is_token}
+use Rattle.token_tree.proofs.Orphans.{parents_keep}
 use Rattle.token_tree.proofs.Removals.{others_stay}
 use Rattle.token_tree.proofs.Taken.{without_ended}
 use Rattle.token_tree.proofs.TokenEnds.{ends_alone, damage_alone}
@@ -39,13 +40,17 @@ returns-in_err-remove_token-clause-wants g c honest forms b stands =
     let seen = g.T.RecordsTx.seen in
     let rows = (seen c.args.tx.now).rows in
     let t = c.args.token.now in
-    let early = honest_before (seen c.by_owner.new.self) (seen c.remove_token.new.tx) _ c.remove_token.ensures.call.goes_on honest in
-    let first = honest_before (seen c.get.new.self) (seen c.by_owner.new.self) _ c.in_ok-children.ensures.call.goes_on early in
+    let early = honest_before (seen c.by_owner.new.self)
+    (seen c.remove_token.new.tx) _ c.remove_token.ensures.call.goes_on honest in
+    let first = honest_before (seen c.get.new.self)
+    (seen c.by_owner.new.self) _ c.in_ok-children.ensures.call.goes_on early in
     let is = sym (c.in_ok-row.ensures.found first) ∙ c.in-Some.is in
-    let p = err_from_is_err_and c.from_residual-in_err-remove_token.result c.from_residual-in_err-remove_token.ensures.1 in
+    let p = err_from_is_err_and c.from_residual-in_err-remove_token.result
+    c.from_residual-in_err-remove_token.ensures.1 in
     rw (p.1, p.2) (not_damaged (λ damage. damage
     (subst (λ key. IsTokenRow ((kind.Token, key), c.in-Some.row)) (sym c.in_ok-copied.ensures)
-    (readable_lone rows t c.in-Some.row is (readable forms b rows stands (t ∷ []) (rows_under rows kind.Token []) refl))))
+    (readable_lone rows t c.in-Some.row is
+    (readable forms b rows stands (t ∷ []) (rows_under rows kind.Token []) refl))))
     _ c.in_err-remove_token.ensures.call.faults)
 
 pub returns-clause-told : goal.returns-clause-told
@@ -53,20 +58,26 @@ returns-clause-told g c honest forms b stands =
     let seen = g.T.RecordsTx.seen in
     let rows = (seen c.args.tx.now).rows in
     let t = c.args.token.now in
-    let mid = honest_before (seen c.remove_token.new.tx) (seen c.orphan_children.new.tx) _ c.orphan_children.ensures.call.goes_on honest in
-    let early = honest_before (seen c.by_owner.new.self) (seen c.remove_token.new.tx) _ c.in_ok-remove_token.ensures.call.goes_on mid in
-    let first = honest_before (seen c.get.new.self) (seen c.by_owner.new.self) _ c.in_ok-children.ensures.call.goes_on early in
+    let mid = honest_before (seen c.remove_token.new.tx)
+    (seen c.orphan_children.new.tx) _ c.orphan_children.ensures.call.goes_on honest in
+    let early = honest_before (seen c.by_owner.new.self)
+    (seen c.remove_token.new.tx) _ c.in_ok-remove_token.ensures.call.goes_on mid in
+    let first = honest_before (seen c.get.new.self)
+    (seen c.by_owner.new.self) _ c.in_ok-children.ensures.call.goes_on early in
     let is = sym (c.in_ok-row.ensures.found first) ∙ c.in-Some.is in
     let was = c.in_ok-children.ensures.call.same early ∙ c.in_ok-row.ensures.call.same first in
     let is_mid : (seen c.remove_token.new.tx).rows ≡ without_ended (t ∷ []) (rows_under rows kind.Token []) rows =
-    c.in_ok-remove_token.ensures.rows mid ∙ (λ i. without_token (was i) ((kind.Token, c.in_ok-copied.ensures i), c.in-Some.row))
+    c.in_ok-remove_token.ensures.rows mid
+    ∙ (λ i. without_token (was i) ((kind.Token, c.in_ok-copied.ensures i), c.in-Some.row))
     ∙ lone_without rows t c.in-Some.row is in
-    let is_new : (seen c.orphan_children.new.tx).rows ≡ without_parent t (rows_under rows kind.Token []) (seen c.remove_token.new.tx).rows =
+    let is_new : (seen c.orphan_children.new.tx).rows ≡ without_parent t (rows_under rows kind.Token [])
+    (seen c.remove_token.new.tx).rows =
     c.in_ok-orphan_children.ensures.rows honest
     ∙ (λ i. without_parent t ((c.deref.ensures.value ∙ c.in_ok-children.ensures.listed early
     ∙ ap (λ m. rows_owned m kind.Token t) (c.in_ok-row.ensures.call.same first)) i) (seen c.remove_token.new.tx).rows)
     ∙ owned_orphans t rows (seen c.remove_token.new.tx).rows in
-    revoked_one forms b rows stands t (rows_under rows kind.Token []) (rows_under rows kind.Token []) (t ∷ []) refl refl refl
+    revoked_one forms b rows stands t (rows_under rows kind.Token []) (rows_under rows kind.Token [])
+    (t ∷ []) refl refl refl
     (seen c.remove_token.new.tx).rows is_mid (seen c.orphan_children.new.tx).rows is_new
 
 pub returns-clause-ended : goal.returns-clause-ended
@@ -74,9 +85,12 @@ returns-clause-ended g c honest forms b stands =
     let seen = g.T.RecordsTx.seen in
     let rows = (seen c.args.tx.now).rows in
     let t = c.args.token.now in
-    let mid = honest_before (seen c.remove_token.new.tx) (seen c.orphan_children.new.tx) _ c.orphan_children.ensures.call.goes_on honest in
-    let early = honest_before (seen c.by_owner.new.self) (seen c.remove_token.new.tx) _ c.in_ok-remove_token.ensures.call.goes_on mid in
-    let first = honest_before (seen c.get.new.self) (seen c.by_owner.new.self) _ c.in_ok-children.ensures.call.goes_on early in
+    let mid = honest_before (seen c.remove_token.new.tx)
+    (seen c.orphan_children.new.tx) _ c.orphan_children.ensures.call.goes_on honest in
+    let early = honest_before (seen c.by_owner.new.self)
+    (seen c.remove_token.new.tx) _ c.in_ok-remove_token.ensures.call.goes_on mid in
+    let first = honest_before (seen c.get.new.self)
+    (seen c.by_owner.new.self) _ c.in_ok-children.ensures.call.goes_on early in
     let is = sym (c.in_ok-row.ensures.found first) ∙ c.in-Some.is in
     revoked_one_each forms b rows stands t c.in-Some.row is c.in_ok-vec.field-0.items
     (c.in_ok-vec.ensures.items ∙ ap (λ key. key ∷ []) c.in_ok-copied.ensures)
@@ -86,9 +100,12 @@ returns-clause-unknown g c honest forms b stands none =
     let seen = g.T.RecordsTx.seen in
     let rows = (seen c.args.tx.now).rows in
     let t = c.args.token.now in
-    let mid = honest_before (seen c.remove_token.new.tx) (seen c.orphan_children.new.tx) _ c.orphan_children.ensures.call.goes_on honest in
-    let early = honest_before (seen c.by_owner.new.self) (seen c.remove_token.new.tx) _ c.in_ok-remove_token.ensures.call.goes_on mid in
-    let first = honest_before (seen c.get.new.self) (seen c.by_owner.new.self) _ c.in_ok-children.ensures.call.goes_on early in
+    let mid = honest_before (seen c.remove_token.new.tx)
+    (seen c.orphan_children.new.tx) _ c.orphan_children.ensures.call.goes_on honest in
+    let early = honest_before (seen c.by_owner.new.self)
+    (seen c.remove_token.new.tx) _ c.in_ok-remove_token.ensures.call.goes_on mid in
+    let first = honest_before (seen c.get.new.self)
+    (seen c.by_owner.new.self) _ c.in_ok-children.ensures.call.goes_on early in
     let is = sym (c.in_ok-row.ensures.found first) ∙ c.in-Some.is in
     let x = is_token forms b rows stands t c.in-Some.row is in
     absurd (none-some _ (sym none ∙ x.1))
@@ -100,18 +117,24 @@ returns-clause-call g c =
           let seen = g.T.RecordsTx.seen in
           let rows = (seen c.args.tx.now).rows in
           let t = c.args.token.now in
-          let mid = honest_before (seen c.remove_token.new.tx) (seen c.orphan_children.new.tx) _ c.orphan_children.ensures.call.goes_on honest in
-          let early = honest_before (seen c.by_owner.new.self) (seen c.remove_token.new.tx) _ c.in_ok-remove_token.ensures.call.goes_on mid in
-          let first = honest_before (seen c.get.new.self) (seen c.by_owner.new.self) _ c.in_ok-children.ensures.call.goes_on early in
+          let mid = honest_before (seen c.remove_token.new.tx)
+          (seen c.orphan_children.new.tx) _ c.orphan_children.ensures.call.goes_on honest in
+          let early = honest_before (seen c.by_owner.new.self)
+          (seen c.remove_token.new.tx) _ c.in_ok-remove_token.ensures.call.goes_on mid in
+          let first = honest_before (seen c.get.new.self)
+          (seen c.by_owner.new.self) _ c.in_ok-children.ensures.call.goes_on early in
           let is = sym (c.in_ok-row.ensures.found first) ∙ c.in-Some.is in
           let was = c.in_ok-children.ensures.call.same early ∙ c.in_ok-row.ensures.call.same first in
           let is_mid : (seen c.remove_token.new.tx).rows ≡ without_ended (t ∷ []) (rows_under rows kind.Token []) rows =
-          c.in_ok-remove_token.ensures.rows mid ∙ (λ i. without_token (was i) ((kind.Token, c.in_ok-copied.ensures i), c.in-Some.row))
+          c.in_ok-remove_token.ensures.rows mid
+          ∙ (λ i. without_token (was i) ((kind.Token, c.in_ok-copied.ensures i), c.in-Some.row))
           ∙ lone_without rows t c.in-Some.row is in
-          let is_new : (seen c.orphan_children.new.tx).rows ≡ without_parent t (rows_under rows kind.Token []) (seen c.remove_token.new.tx).rows =
+          let is_new : (seen c.orphan_children.new.tx).rows ≡ without_parent t (rows_under rows kind.Token [])
+          (seen c.remove_token.new.tx).rows =
           c.in_ok-orphan_children.ensures.rows honest
           ∙ (λ i. without_parent t ((c.deref.ensures.value ∙ c.in_ok-children.ensures.listed early
-          ∙ ap (λ m. rows_owned m kind.Token t) (c.in_ok-row.ensures.call.same first)) i) (seen c.remove_token.new.tx).rows)
+          ∙ ap (λ m. rows_owned m kind.Token t) (c.in_ok-row.ensures.call.same first)) i)
+          (seen c.remove_token.new.tx).rows)
           ∙ owned_orphans t rows (seen c.remove_token.new.tx).rows in
           subst (λ m. KeepsOthers of_tokens (table_of rows) (table_of m)) (sym is_new) (λ k q h.
           parents_keep t (rows_under rows kind.Token []) (seen c.remove_token.new.tx).rows k q h
@@ -125,23 +148,30 @@ returns-clause-rows g c honest =
     let seen = g.T.RecordsTx.seen in
     let rows = (seen c.args.tx.now).rows in
     let t = c.args.token.now in
-    let mid = honest_before (seen c.remove_token.new.tx) (seen c.orphan_children.new.tx) _ c.orphan_children.ensures.call.goes_on honest in
-    let early = honest_before (seen c.by_owner.new.self) (seen c.remove_token.new.tx) _ c.in_ok-remove_token.ensures.call.goes_on mid in
-    let first = honest_before (seen c.get.new.self) (seen c.by_owner.new.self) _ c.in_ok-children.ensures.call.goes_on early in
+    let mid = honest_before (seen c.remove_token.new.tx)
+    (seen c.orphan_children.new.tx) _ c.orphan_children.ensures.call.goes_on honest in
+    let early = honest_before (seen c.by_owner.new.self)
+    (seen c.remove_token.new.tx) _ c.in_ok-remove_token.ensures.call.goes_on mid in
+    let first = honest_before (seen c.get.new.self)
+    (seen c.by_owner.new.self) _ c.in_ok-children.ensures.call.goes_on early in
     let is = sym (c.in_ok-row.ensures.found first) ∙ c.in-Some.is in
     let was = c.in_ok-children.ensures.call.same early ∙ c.in_ok-row.ensures.call.same first in
     let is_mid : (seen c.remove_token.new.tx).rows ≡ without_ended (t ∷ []) (rows_under rows kind.Token []) rows =
-    c.in_ok-remove_token.ensures.rows mid ∙ (λ i. without_token (was i) ((kind.Token, c.in_ok-copied.ensures i), c.in-Some.row))
+    c.in_ok-remove_token.ensures.rows mid
+    ∙ (λ i. without_token (was i) ((kind.Token, c.in_ok-copied.ensures i), c.in-Some.row))
     ∙ lone_without rows t c.in-Some.row is in
-    let is_new : (seen c.orphan_children.new.tx).rows ≡ without_parent t (rows_under rows kind.Token []) (seen c.remove_token.new.tx).rows =
+    let is_new : (seen c.orphan_children.new.tx).rows ≡ without_parent t (rows_under rows kind.Token [])
+    (seen c.remove_token.new.tx).rows =
     c.in_ok-orphan_children.ensures.rows honest
     ∙ (λ i. without_parent t ((c.deref.ensures.value ∙ c.in_ok-children.ensures.listed early
     ∙ ap (λ m. rows_owned m kind.Token t) (c.in_ok-row.ensures.call.same first)) i) (seen c.remove_token.new.tx).rows)
     ∙ owned_orphans t rows (seen c.remove_token.new.tx).rows in
     ends_alone rows t c.in-Some.row is (rows_under rows kind.Token []) (t ∷ []) refl refl
     (lone_readable rows t c.in-Some.row is
-    (subst (λ key. IsTokenRow ((kind.Token, key), c.in-Some.row)) c.in_ok-copied.ensures c.in_ok-remove_token.ensures.readable))
-    (rows_under rows kind.Token []) refl (seen c.remove_token.new.tx).rows (seen c.orphan_children.new.tx).rows is_mid is_new
+    (subst (λ key. IsTokenRow ((kind.Token, key), c.in-Some.row)) c.in_ok-copied.ensures
+    c.in_ok-remove_token.ensures.readable))
+    (rows_under rows kind.Token []) refl (seen c.remove_token.new.tx).rows
+    (seen c.orphan_children.new.tx).rows is_mid is_new
     c.in_ok-vec.field-0.items (c.in_ok-vec.ensures.items ∙ ap (λ key. key ∷ []) c.in_ok-copied.ensures)
 
 pub returns-in_err-remove_token-clause-call : goal.returns-in_err-remove_token-clause-call
@@ -149,15 +179,20 @@ returns-in_err-remove_token-clause-call g c =
     let seen = g.T.RecordsTx.seen in
     let rows = (seen c.args.tx.now).rows in
     let t = c.args.token.now in
-    let p = err_from_is_err_and c.from_residual-in_err-remove_token.result c.from_residual-in_err-remove_token.ensures.1 in
-    let worse : (IsTokenRow ((kind.Token, c.in_ok-copied.field-0), c.in-Some.row) → ⊥) → IsHonest (seen c.remove_token.new.tx)
+    let p = err_from_is_err_and c.from_residual-in_err-remove_token.result
+    c.from_residual-in_err-remove_token.ensures.1 in
+    let worse : (IsTokenRow ((kind.Token, c.in_ok-copied.field-0), c.in-Some.row) → ⊥)
+    → IsHonest (seen c.remove_token.new.tx)
     → IsDamagedToken (table_of rows) t =
     λ damage honest.
-    let early = honest_before (seen c.by_owner.new.self) (seen c.remove_token.new.tx) _ c.remove_token.ensures.call.goes_on honest in
-    let first = honest_before (seen c.get.new.self) (seen c.by_owner.new.self) _ c.in_ok-children.ensures.call.goes_on early in
+    let early = honest_before (seen c.by_owner.new.self)
+    (seen c.remove_token.new.tx) _ c.remove_token.ensures.call.goes_on honest in
+    let first = honest_before (seen c.get.new.self)
+    (seen c.by_owner.new.self) _ c.in_ok-children.ensures.call.goes_on early in
     let is = sym (c.in_ok-row.ensures.found first) ∙ c.in-Some.is in
     damage_alone rows t c.in-Some.row is (rows_under rows kind.Token []) (t ∷ []) refl refl (λ all. damage
-    (subst (λ key. IsTokenRow ((kind.Token, key), c.in-Some.row)) (sym c.in_ok-copied.ensures) (readable_lone rows t c.in-Some.row is all))) in
+    (subst (λ key. IsTokenRow ((kind.Token, key), c.in-Some.row)) (sym c.in_ok-copied.ensures)
+    (readable_lone rows t c.in-Some.row is all))) in
     record {
       others = search rules;
       faults = rw (p.1, p.2) (fault_then worse _ c.in_err-remove_token.ensures.call.faults);

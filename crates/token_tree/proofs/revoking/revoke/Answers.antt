@@ -23,17 +23,20 @@ returns-clause-rows g c honest =
 
 pub returns-clause-told : goal.returns-clause-told
 returns-clause-told g c honest forms b stands =
-    on_each c.end_all.result _ (λ list ends. revocation_told forms b (g.T.RecordsTx.seen c.args.tx.now).rows stands c.args.token.now list.items _ ends)
+    on_each c.end_all.result _ (λ list ends. revocation_told forms b
+    (g.T.RecordsTx.seen c.args.tx.now).rows stands c.args.token.now list.items _ ends)
     (returns-clause-rows g c honest)
 
 pub returns-clause-ended : goal.returns-clause-ended
 returns-clause-ended g c honest forms b stands =
-    IfOk-weaker c.end_all.result _ _ (λ list ends. revocation_ended forms b (g.T.RecordsTx.seen c.args.tx.now).rows stands c.args.token.now list.items _ ends)
+    IfOk-weaker c.end_all.result _ _ (λ list ends. revocation_ended forms b
+    (g.T.RecordsTx.seen c.args.tx.now).rows stands c.args.token.now list.items _ ends)
     (returns-clause-rows g c honest)
 
 pub returns-clause-unknown : goal.returns-clause-unknown
 returns-clause-unknown g c honest forms b stands none =
-    IfOk-weaker c.end_all.result _ _ (λ list ends. revocation_unknown forms b (g.T.RecordsTx.seen c.args.tx.now).rows stands c.args.token.now list.items _ ends none)
+    IfOk-weaker c.end_all.result _ _ (λ list ends. revocation_unknown forms b
+    (g.T.RecordsTx.seen c.args.tx.now).rows stands c.args.token.now list.items _ ends none)
     (returns-clause-rows g c honest)
 
 pub returns-clause-wants : goal.returns-clause-wants
@@ -44,7 +47,8 @@ returns-clause-wants g c honest forms b stands =
     let same = c.in_ok-started.ensures.call.same mid in
     each_fault (λ f. not_damaged (λ damage. undamaged forms b (seen c.args.tx.now).rows stands s
     (subst (HasDamagedDescent s) same
-    (damage honest (subst (λ rows. AreStarted s rows c.in_ok-started.started.items) (sym same) (c.in_ok-started.ensures.found mid))))) f)
+    (damage honest (subst (λ rows. AreStarted s rows c.in_ok-started.started.items) (sym same)
+    (c.in_ok-started.ensures.found mid))))) f)
     c.end_all.result c.end_all.ensures.call.faults
 
 pub returns-clause-call : goal.returns-clause-call
@@ -53,14 +57,18 @@ returns-clause-call g c =
     let s = is_named c.args.token.now in
     record {
       others = λ honest.
-          let mid = honest_before (seen c.named.new.tx) (seen c.end_all.new.tx) _ c.end_all.ensures.call.goes_on honest in
-          subst (λ rows. OnOk c.end_all.result (KeepsOthers of_tokens (table_of rows) (table_of (seen c.end_all.new.tx).rows)))
+          let mid = honest_before (seen c.named.new.tx)
+          (seen c.end_all.new.tx) _ c.end_all.ensures.call.goes_on honest in
+          subst (λ rows. OnOk c.end_all.result
+          (KeepsOthers of_tokens (table_of rows) (table_of (seen c.end_all.new.tx).rows)))
           (c.in_ok-started.ensures.call.same mid) (c.end_all.ensures.call.others honest);
       faults = each_fault (λ f. fault_then (λ damage honest.
-          let mid = honest_before (seen c.named.new.tx) (seen c.end_all.new.tx) _ c.end_all.ensures.call.goes_on honest in
+          let mid = honest_before (seen c.named.new.tx)
+          (seen c.end_all.new.tx) _ c.end_all.ensures.call.goes_on honest in
           let same = c.in_ok-started.ensures.call.same mid in
           damaged_descent s (seen c.args.tx.now).rows (subst (HasDamagedDescent s) same
-          (damage honest (subst (λ rows. AreStarted s rows c.in_ok-started.started.items) (sym same) (c.in_ok-started.ensures.found mid))))) f)
+          (damage honest (subst (λ rows. AreStarted s rows c.in_ok-started.started.items) (sym same)
+          (c.in_ok-started.ensures.found mid))))) f)
           c.end_all.result c.end_all.ensures.call.faults;
       goes_on = search rules;
     }

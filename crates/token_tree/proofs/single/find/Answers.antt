@@ -15,19 +15,24 @@ pub returns-in_default-clause-told : goal.returns-in_default-clause-told
 returns-in_default-clause-told g c honest forms b stands =
     let found = token_row_at b (g.T.RecordsTx.seen c.args.tx.now).rows stands.tells c.args.token.now in
     sym (ap (option_map token_entry)
-    (mapped_none token_row (get b.tokens c.args.token.now) (sym found ∙ sym (c.in_ok-kept.ensures.found honest) ∙ none_of _ c.in_default.not-Some)))
+    (mapped_none token_row (get b.tokens c.args.token.now)
+    (sym found ∙ sym (c.in_ok-kept.ensures.found honest) ∙ none_of _ c.in_default.not-Some)))
 
 pub returns-in_err-read_token-clause-wants : goal.returns-in_err-read_token-clause-wants
 returns-in_err-read_token-clause-wants g c honest forms b stands =
     let found = token_row_at b (g.T.RecordsTx.seen c.args.tx.now).rows stands.tells c.args.token.now in
-    let x = mapped token_row (get b.tokens c.args.token.now) c.in-Some.kept (sym found ∙ sym (c.in_ok-kept.ensures.found honest) ∙ c.in-Some.is) in
+    let x = mapped token_row (get b.tokens c.args.token.now) c.in-Some.kept
+    (sym found ∙ sym (c.in_ok-kept.ensures.found honest) ∙ c.in-Some.is) in
     let p = err_from_is_err_and c.from_residual-in_err-read_token.result c.from_residual-in_err-read_token.ensures.1 in
     rw (p.1, p.2) (subst IsMemoryOrStorage
-    (sym (c.in_err-read_token.ensures.again (token_entry x.0) (token_in_range forms b.tokens stands.sound c.args.token.now x.0 x.1) x.2)) tt)
+    (sym (c.in_err-read_token.ensures.again (token_entry x.0)
+    (token_in_range forms b.tokens stands.sound c.args.token.now x.0 x.1) x.2)) tt)
 
 pub returns-clause-told : goal.returns-clause-told
 returns-clause-told g c honest forms b stands =
     let found = token_row_at b (g.T.RecordsTx.seen c.args.tx.now).rows stands.tells c.args.token.now in
-    let x = mapped token_row (get b.tokens c.args.token.now) c.in-Some.kept (sym found ∙ sym (c.in_ok-kept.ensures.found honest) ∙ c.in-Some.is) in
-    ap Some (c.in_ok-read_token.ensures.again (token_entry x.0) (token_in_range forms b.tokens stands.sound c.args.token.now x.0 x.1) x.2)
+    let x = mapped token_row (get b.tokens c.args.token.now) c.in-Some.kept
+    (sym found ∙ sym (c.in_ok-kept.ensures.found honest) ∙ c.in-Some.is) in
+    ap Some (c.in_ok-read_token.ensures.again (token_entry x.0)
+    (token_in_range forms b.tokens stands.sound c.args.token.now x.0 x.1) x.2)
     ∙ sym (ap (option_map token_entry) x.1)

@@ -27,7 +27,8 @@ returns-clause-call g c =
           let t = c.args.token.now in
           let r = entry_row c.args.entry.now in
           on_ok_weaker c.put_token.result
-          (λ put k q h. ap (λ (table : Table). table k q) (ap table_of put ∙ table_of-insert rows kind.Token t r) ∙ put_keeps (table_of rows) t r k q h)
+          (λ put k q h. ap (λ (table : Table). table k q) (ap table_of put ∙ table_of-insert rows kind.Token t r)
+          ∙ put_keeps (table_of rows) t r k q h)
           (c.put_token.ensures.rows honest);
       faults = c.put_token.ensures.call.faults;
       goes_on = search rules;
@@ -36,5 +37,6 @@ returns-clause-call g c =
 pub returns-clause-rows : goal.returns-clause-rows
 returns-clause-rows g c honest =
     on_ok_weaker c.put_token.result
-    (λ put. ap table_of put ∙ table_of-insert (g.T.RecordsTx.seen c.args.tx.now).rows kind.Token c.args.token.now (entry_row c.args.entry.now))
+    (λ put. ap table_of put ∙ table_of-insert (g.T.RecordsTx.seen c.args.tx.now).rows kind.Token c.args.token.now
+    (entry_row c.args.entry.now))
     (c.put_token.ensures.rows honest)

@@ -26,7 +26,8 @@ returns-in_default-clause-told g c honest forms b stands k q h =
     let none : get b.tokens t ≡ None = mapped_none token_entry (get b.tokens t)
     (sym (c.in_ok-record.ensures.told honest forms b stands) ∙ none_of _ c.in_default.not-Some) in
     let still = change_same b.tokens t one_less (λ x is. absurd (none-some _ (sym none ∙ is))) in
-    ap (λ rows. table_of rows k q) (c.in_ok-record.ensures.call.same honest) ∙ stands.tells k q h ∙ ap (λ ts. rows_of (record b { tokens = ts }) k q) (sym still)
+    ap (λ rows. table_of rows k q) (c.in_ok-record.ensures.call.same honest) ∙ stands.tells k q h
+    ∙ ap (λ ts. rows_of (record b { tokens = ts }) k q) (sym still)
 
 unlimited : (x : Token) → x.uses_left ≡ None → one_less x ≡ x
 unlimited x none = λ i. record x { uses_left = (ap (option_map (λ (n : ℕ). n - 1)) none ∙ sym none) i }
@@ -34,10 +35,14 @@ unlimited x none = λ i. record x { uses_left = (ap (option_map (λ (n : ℕ). n
 pub returns-in_default-uses_left-clause-told : goal.returns-in_default-uses_left-clause-told
 returns-in_default-uses_left-clause-told g c honest forms b stands k q h =
     let t = c.args.token.now in
-    let x = mapped token_entry (get b.tokens t) c.in-Some.record (sym (c.in_ok-record.ensures.told honest forms b stands) ∙ c.in-Some.is) in
-    let none : x.0.uses_left ≡ None = ap (λ (e : TokenEntry). e.uses_left) (sym (c.record.view_is ∙ x.2)) ∙ none_of _ c.in_default-uses_left.not-Some in
-    let still = change_same b.tokens t one_less (λ y is. unlimited y (ap (λ (z : Token). z.uses_left) ((same_Some _ _ (sym is ∙ x.1))) ∙ none)) in
-    ap (λ rows. table_of rows k q) (c.in_ok-record.ensures.call.same honest) ∙ stands.tells k q h ∙ ap (λ ts. rows_of (record b { tokens = ts }) k q) (sym still)
+    let x = mapped token_entry (get b.tokens t) c.in-Some.record
+    (sym (c.in_ok-record.ensures.told honest forms b stands) ∙ c.in-Some.is) in
+    let none : x.0.uses_left ≡ None = ap (λ (e : TokenEntry). e.uses_left) (sym (c.record.view_is ∙ x.2))
+    ∙ none_of _ c.in_default-uses_left.not-Some in
+    let still = change_same b.tokens t one_less
+    (λ y is. unlimited y (ap (λ (z : Token). z.uses_left) ((same_Some _ _ (sym is ∙ x.1))) ∙ none)) in
+    ap (λ rows. table_of rows k q) (c.in_ok-record.ensures.call.same honest) ∙ stands.tells k q h
+    ∙ ap (λ ts. rows_of (record b { tokens = ts }) k q) (sym still)
 
 pub rewrite-requires : goal.rewrite-requires
 rewrite-requires g c =
@@ -63,12 +68,16 @@ returns-clause-told g c honest forms b stands =
     let seen = g.T.RecordsTx.seen in
     let mid = honest_before (seen c.find.new.tx) (seen c.rewrite.new.tx) _ c.rewrite.ensures.call.goes_on honest in
     let t = c.args.token.now in
-    let x = mapped token_entry (get b.tokens t) c.in-Some.record (sym (c.in_ok-record.ensures.told mid forms b stands) ∙ c.in-Some.is) in
+    let x = mapped token_entry (get b.tokens t) c.in-Some.record
+    (sym (c.in_ok-record.ensures.told mid forms b stands) ∙ c.in-Some.is) in
     let whole = c.record.view_is ∙ x.2 in
-    let uses : x.0.uses_left ≡ Some c.in-Some-uses_left.uses = ap (λ (e : TokenEntry). e.uses_left) (sym whole) ∙ c.in-Some-uses_left.is in
-    let less : option_map (λ (n : ℕ). n - 1) x.0.uses_left ≡ Some c.saturating_sub.result = ap (option_map (λ (n : ℕ). n - 1)) uses
+    let uses : x.0.uses_left ≡ Some c.in-Some-uses_left.uses = ap (λ (e : TokenEntry). e.uses_left) (sym whole)
+    ∙ c.in-Some-uses_left.is in
+    let less : option_map (λ (n : ℕ). n - 1) x.0.uses_left ≡ Some c.saturating_sub.result =
+    ap (option_map (λ (n : ℕ). n - 1)) uses
     ∙ ap Some (sym c.saturating_sub.ensures) in
-    c.in_ok-rewrite.ensures.told honest b x.0 one_less (subst (λ rows. Tells of_tokens (table_of rows) b) (sym (c.in_ok-record.ensures.call.same mid)) stands.tells) x.1
+    c.in_ok-rewrite.ensures.told honest b x.0 one_less (subst (λ rows. Tells of_tokens (table_of rows) b)
+    (sym (c.in_ok-record.ensures.call.same mid)) stands.tells) x.1
     (λ i. record (sym whole i) { uses_left = less i }) (λ y. refl)
 
 pub returns-in_err-record-clause-wants : goal.returns-in_err-record-clause-wants
@@ -93,7 +102,8 @@ returns-in_default-clause-rows g c honest =
 
 pub returns-in_default-clause-left : goal.returns-in_default-clause-left
 returns-in_default-clause-left g c honest forms b stands =
-    ap (option_map spent_entry) (sym (none_of _ c.in_default.not-Some) ∙ c.in_ok-record.ensures.told honest forms b stands)
+    ap (option_map spent_entry) (sym (none_of _ c.in_default.not-Some)
+    ∙ c.in_ok-record.ensures.told honest forms b stands)
     ∙ left_entry b c.args.token.now
 
 pub returns-in_default-uses_left-clause-rows : goal.returns-in_default-uses_left-clause-rows
@@ -102,7 +112,8 @@ returns-in_default-uses_left-clause-rows g c honest =
     let t = c.args.token.now in
     let x = c.in-Some.record in
     let here = c.in_ok-record.ensures.found honest ∙ ap (option_map entry_row) c.in-Some.is in
-    let none : x.uses_left ≡ None = ap (λ (e : TokenEntry). e.uses_left) (sym c.record.view_is) ∙ none_of _ c.in_default-uses_left.not-Some in
+    let none : x.uses_left ≡ None = ap (λ (e : TokenEntry). e.uses_left) (sym c.record.view_is)
+    ∙ none_of _ c.in_default-uses_left.not-Some in
     record {
       changes = record {
         entry = Some x;
@@ -135,7 +146,8 @@ returns-clause-rows g c honest =
     let t = c.args.token.now in
     let x = c.in-Some.record in
     let mid = honest_before (seen c.find.new.tx) (seen c.rewrite.new.tx) _ c.rewrite.ensures.call.goes_on honest in
-    let left = less_entry x _ c.in-Some-uses_left.uses c.saturating_sub.result c.record.view_is c.in-Some-uses_left.is c.saturating_sub.ensures in
+    let left = less_entry x _ c.in-Some-uses_left.uses c.saturating_sub.result c.record.view_is c.in-Some-uses_left.is
+    c.saturating_sub.ensures in
     record {
       changes = record {
         entry = Some x;
@@ -152,6 +164,7 @@ returns-clause-left g c honest forms b stands =
     let seen = g.T.RecordsTx.seen in
     let x = c.in-Some.record in
     let mid = honest_before (seen c.find.new.tx) (seen c.rewrite.new.tx) _ c.rewrite.ensures.call.goes_on honest in
-    let left = less_entry x _ c.in-Some-uses_left.uses c.saturating_sub.result c.record.view_is c.in-Some-uses_left.is c.saturating_sub.ensures in
+    let left = less_entry x _ c.in-Some-uses_left.uses c.saturating_sub.result c.record.view_is c.in-Some-uses_left.is
+    c.saturating_sub.ensures in
     ap Some left ∙ ap (option_map spent_entry) (sym c.in-Some.is ∙ c.in_ok-record.ensures.told mid forms b stands)
     ∙ left_entry b c.args.token.now

@@ -9,5 +9,7 @@ use Rattle.api_json.proofs.parsed.Body.into_text.Goals as goal
 pub returns-clause-kept : goal.returns-clause-kept
 returns-clause-kept c bytes fits is =
     let seen = view-Object c.args.self.members in
-    let text = c.new.ensures ∙ c.in_ok-to_string.ensures.text (ap has_float seen ∙ c.args.self.whole) ∙ ap compact_text seen in
-    subst IsKept (sym text) (bodies_kept bytes (members_of c.args.self) fits (given_members bytes (members_of c.args.self) is))
+    let text = c.new.ensures ∙ c.in_ok-to_string.ensures.text (ap has_float seen ∙ c.args.self.whole)
+    ∙ ap compact_text seen in
+    subst IsKept (sym text)
+    (bodies_kept bytes (members_of c.args.self) fits (given_members bytes (members_of c.args.self) is))

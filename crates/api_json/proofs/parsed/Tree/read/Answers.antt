@@ -5,4 +5,5 @@ use Rattle.api_json.proofs.parsed.Tree.read.Goals as goal
 
 pub without_floats-requires : goal.without_floats-requires
 without_floats-requires c =
-    value_shallow c.args.bytes.now (view c.in-Some.value) (sym c.in_ok-value.ensures ∙ ap (option_map view) c.in-Some.is)
+    value_shallow c.args.bytes.now (view c.in-Some.value)
+    (sym c.in_ok-value.ensures ∙ ap (option_map view) c.in-Some.is)

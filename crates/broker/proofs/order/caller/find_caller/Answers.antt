@@ -39,14 +39,17 @@ returns-in_default-clause-told g c honest b st =
 
 -- ---- it is that of no token
 
-nothing_changes : (t : Text) (old new : Rows) (left : Option TokenEntry) → left ≡ None → SpendsUse t (table_of old) (table_of new) left
+nothing_changes : (t : Text) (old new : Rows) (left : Option TokenEntry) → left ≡ None
+    → SpendsUse t (table_of old) (table_of new) left
     → (map.get old (kind.Token, t) ≡ None) × (new ≡ old)
 nothing_changes t old new left none spends =
-    let spent = nothing_spent t (table_of old) (table_of new) (subst (SpendsUse t (table_of old) (table_of new)) none spends) in
+    let spent = nothing_spent t (table_of old) (table_of new)
+    (subst (SpendsUse t (table_of old) (table_of new)) none spends) in
     (spent.0, table_of-injective new old spent.1)
 
 -- and what is dropped then is no row of a token
-no_token_still : (t : Text) (old new : Rows) → KeepsOthers of_waiting (table_of old) (table_of new) → map.get old (kind.Token, t) ≡ None
+no_token_still : (t : Text) (old new : Rows) → KeepsOthers of_waiting (table_of old) (table_of new)
+    → map.get old (kind.Token, t) ≡ None
     → map.get new (kind.Token, t) ≡ None
 no_token_still t old new keeps none = keeps kind.Token t refl ∙ none
 
@@ -57,9 +60,12 @@ returns-in_default-2-clause-found g c honest =
     let mid = (seen c.spend.new.tx).rows in
     let new = (seen c.drop_token.new.tx).rows in
     let t = c.as_str-token.result.now in
-    let spent = honest_before (seen c.spend.new.tx) (seen c.drop_token.new.tx) _ c.drop_token.ensures.call.goes_on honest in
-    let same = nothing_changes t old mid c.in_ok-known.field-0 (none_of _ c.in_default-2.not-Some) (c.in_ok-known.ensures.rows spent) in
-    let none : map.get mid (kind.Token, t) ≡ None = ap (λ (rows : Rows). map.get rows (kind.Token, t)) same.1 ∙ same.0 in
+    let spent = honest_before (seen c.spend.new.tx)
+    (seen c.drop_token.new.tx) _ c.drop_token.ensures.call.goes_on honest in
+    let same = nothing_changes t old mid c.in_ok-known.field-0 (none_of _ c.in_default-2.not-Some)
+    (c.in_ok-known.ensures.rows spent) in
+    let none : map.get mid (kind.Token, t) ≡ None = ap (λ (rows : Rows). map.get rows (kind.Token, t)) same.1
+    ∙ same.0 in
     let dropped = c.in_ok-drop_token.ensures.rows honest in
     let drops : DropsResponse t mid new = (dropped.0, dropped.1) in (
       λ u is. subst (λ q. map.get new (kind.Token, q) ≡ None)
@@ -77,11 +83,13 @@ returns-in_default-2-clause-told g c honest b st =
     let new = (seen c.drop_token.new.tx).rows in
     let t = c.as_str-token.result.now in
     let none = none_of _ c.in_default-2.not-Some in
-    let spent = honest_before (seen c.spend.new.tx) (seen c.drop_token.new.tx) _ c.drop_token.ensures.call.goes_on honest in
+    let spent = honest_before (seen c.spend.new.tx)
+    (seen c.drop_token.new.tx) _ c.drop_token.ensures.call.goes_on honest in
     let same = nothing_changes t old mid c.in_ok-known.field-0 none (c.in_ok-known.ensures.rows spent) in
     let still = still_represented b old mid same.1 st in (
       drop_waiting b t,
-      subst (λ o. (go : Text → Outcome) → for_caller b o go ≡ denied (drop_waiting b t)) (sym (c.in-Some.is ∙ ap Some (sym c.as_str-token.ensures)))
+      subst (λ o. (go : Text → Outcome) → for_caller b o go ≡ denied (drop_waiting b t))
+          (sym (c.in-Some.is ∙ ap Some (sym c.as_str-token.ensures)))
           (nothing_called b t (sym none ∙ c.in_ok-known.ensures.left spent b st)),
       represents_dropped b t mid new still (c.in_ok-drop_token.ensures.told honest b (represents_waiting b mid still))
           (c.in_ok-drop_token.ensures.call.others honest),
@@ -93,10 +101,13 @@ returns-in_err-drop_token-clause-wants g c honest b st =
     let old = (seen c.args.tx.now).rows in
     let mid = (seen c.spend.new.tx).rows in
     let t = c.as_str-token.result.now in
-    let spent = honest_before (seen c.spend.new.tx) (seen c.drop_token.new.tx) _ c.drop_token.ensures.call.goes_on honest in
-    let same = nothing_changes t old mid c.in_ok-known.field-0 (none_of _ c.in_default-2.not-Some) (c.in_ok-known.ensures.rows spent) in
+    let spent = honest_before (seen c.spend.new.tx)
+    (seen c.drop_token.new.tx) _ c.drop_token.ensures.call.goes_on honest in
+    let same = nothing_changes t old mid c.in_ok-known.field-0 (none_of _ c.in_default-2.not-Some)
+    (c.in_ok-known.ensures.rows spent) in
     let p = err_from_is_err_and c.from_residual-in_err-drop_token.result c.from_residual-in_err-drop_token.ensures.1 in
-    rw (p.1, p.2) (c.in_err-drop_token.ensures.wants honest b (represents_waiting b mid (still_represented b old mid same.1 st)))
+    rw (p.1, p.2) (c.in_err-drop_token.ensures.wants honest b
+    (represents_waiting b mid (still_represented b old mid same.1 st)))
 
 -- ---- it is that of the caller
 
@@ -104,7 +115,8 @@ pub returns-clause-found : goal.returns-clause-found
 returns-clause-found g c honest =
     let seen = g.T.RecordsTx.seen in (
       c.in-Some.is ∙ ap Some (sym c.as_str-token.ensures),
-      subst (SpendsUse c.as_str-token.result.now (table_of (seen c.args.tx.now).rows) (table_of (seen c.spend.new.tx).rows)) c.in-Some-2.is
+      subst (SpendsUse c.as_str-token.result.now (table_of (seen c.args.tx.now).rows)
+          (table_of (seen c.spend.new.tx).rows)) c.in-Some-2.is
           (c.in_ok-known.ensures.rows honest),
     )
 
@@ -112,7 +124,8 @@ pub returns-clause-told : goal.returns-clause-told
 returns-clause-told g c honest b st =
     let t = c.as_str-token.result.now in
     let left = sym c.in-Some-2.is ∙ c.in_ok-known.ensures.left honest b st in (
-      subst (λ o. (go : Text → Outcome) → for_caller b o go ≡ go t) (sym (c.in-Some.is ∙ ap Some (sym c.as_str-token.ensures)))
+      subst (λ o. (go : Text → Outcome) → for_caller b o go ≡ go t)
+          (sym (c.in-Some.is ∙ ap Some (sym c.as_str-token.ensures)))
           (entry_called b t c.in-Some-2.known st left),
       left,
       c.in_ok-known.ensures.told honest b st,
@@ -120,4 +133,5 @@ returns-clause-told g c honest b st =
 
 pub returns-clause-in_range : goal.returns-clause-in_range
 returns-clause-in_range g c x is =
-    subst (λ (y : Caller). IsTokenInRange y.known) (same_Some _ _ is) (c.in_ok-known.ensures.in_range c.in-Some-2.known c.in-Some-2.is)
+    subst (λ (y : Caller). IsTokenInRange y.known) (same_Some _ _ is)
+    (c.in_ok-known.ensures.in_range c.in-Some-2.known c.in-Some-2.is)

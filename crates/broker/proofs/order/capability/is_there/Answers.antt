@@ -16,7 +16,8 @@ returns-in-Object-clause-told g c honest b st here =
     let caller = c.args.caller.now in
     let inside = c.route.inside in
     let is = ap (λ (r : Route). capabilities.stands_there (has_stored b caller) (stored (Ok r))) (sym c.route.view_is)
-    ∙ ap (λ (s : Stores). capabilities.stands_there (has_stored b caller) (stored_at s inside.mount.now inside.parameter.now))
+    ∙ ap (λ (s : Stores). capabilities.stands_there (has_stored b caller)
+    (stored_at s inside.mount.now inside.parameter.now))
     (ap (λ (f : Facts). f.stores) (sym c.facts.ensures) ∙ c.in-Object.is) in
     IfOk-weaker c.is_there.result _ _ (λ v told. told ∙ sym is)
     (c.is_there.ensures.told honest b (tells_part of_cubbyholes b rows st) (caller_len b rows caller st here))

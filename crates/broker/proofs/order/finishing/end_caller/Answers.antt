@@ -6,7 +6,8 @@ use Rattle.broker.proofs.order.finishing.end_caller.Goals as goal
 
 pub returns-then-not-is_last_use-clause-told : goal.returns-then-not-is_last_use-clause-told
 returns-then-not-is_last_use-clause-told g c honest still b st =
-    unspent_represented b c.args.caller.now (g.T.RecordsTx.seen c.args.tx.now).rows c.token_rows_tell_their_entries.ensures st
+    unspent_represented b c.args.caller.now (g.T.RecordsTx.seen c.args.tx.now).rows
+    c.token_rows_tell_their_entries.ensures st
     (still c.if-not-is_last_use.true)
 
 pub returns-then-not-is_last_use-clause-rows : goal.returns-then-not-is_last_use-clause-rows

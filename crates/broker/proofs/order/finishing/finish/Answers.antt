@@ -9,6 +9,8 @@ returns-in_ok-answer-in-Ok-clause-told g c honest still b m h =
     let seen = g.T.RecordsTx.seen in
     let caller = c.args.caller.now in
     let old = (seen c.args.tx.now).rows in
-    finish_served caller old (seen c.end_caller.new.tx).rows b (λ next st. c.in_ok-end_caller.ensures.told honest still next st)
-    c.in-Ok.answered m c.in_ok-answer-in-Ok.field-0 (subst (λ served. HasServed (Some caller) old b served m) c.in-Ok.is h)
+    finish_served caller old (seen c.end_caller.new.tx).rows b
+    (λ next st. c.in_ok-end_caller.ensures.told honest still next st)
+    c.in-Ok.answered m c.in_ok-answer-in-Ok.field-0
+    (subst (λ served. HasServed (Some caller) old b served m) c.in-Ok.is h)
     c.in_ok-answer-in-Ok.ensures.response

@@ -20,4 +20,5 @@ returns-in-Err-Refused-clause-told g c opens honest b begins =
     let m : Result Wrapped Refusal = served b None (names_of c.args.context.now.words) c.args.ask.now in
     let refused : HasServed None rows b (Err c.in-Err-Refused.refusal) m =
     rw c.in-Err-Refused.field-0-is at (c.in-Err-Refused.ensures.told opens honest b begins) in
-    IfOk-weaker c.refuse.result _ _ (λ a is. openly_refused rows b c.in-Err-Refused.refusal m a refused is) c.refuse.ensures.response
+    IfOk-weaker c.refuse.result _ _ (λ a is. openly_refused rows b c.in-Err-Refused.refusal m a refused is)
+    c.refuse.ensures.response

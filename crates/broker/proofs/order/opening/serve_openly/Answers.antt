@@ -22,7 +22,8 @@ pub returns-in_err-found-clause-told : goal.returns-in_err-found-clause-told
 returns-in_err-found-clause-told g c opens honest b starts =
     let p = err_from_is_err_and c.from_residual.result c.from_residual.ensures.1 in
     rw (p.1 ∙ ap Err p.2)
-    (c.in_err-found.ensures.wants honest b.mounts (mounts_there b (g.T.RecordsTx.seen c.args.tx.now).rows starts.represents))
+    (c.in_err-found.ensures.wants honest b.mounts
+    (mounts_there b (g.T.RecordsTx.seen c.args.tx.now).rows starts.represents))
 
 pub returns-in_err-found-2-clause-told : goal.returns-in_err-found-2-clause-told
 returns-in_err-found-2-clause-told g c opens honest b starts =
@@ -36,7 +37,8 @@ returns-in_err-found-2-clause-told g c opens honest b starts =
     rw (p.1 ∙ ap Err p.2)
     (served_allowed b None names ask new (Err (Refused c.in_err-found-2.field-0.0)) (allowed_openly b None ask opens)
     (served_nowhere b None names ask new c.in_err-found-2.field-0.0 c.as_str-path.result.now c.as_str-path.ensures.text
-    (sym c.in_err-found-2.was ∙ routed) (still_represented b old new (c.in_ok-found.ensures.call.same honest) starts.represents)))
+    (sym c.in_err-found-2.was ∙ routed)
+    (still_represented b old new (c.in_ok-found.ensures.call.same honest) starts.represents)))
 
 pub returns-in_err-found-2-clause-readable : goal.returns-in_err-found-2-clause-readable
 returns-in_err-found-2-clause-readable g c honest =
@@ -47,8 +49,10 @@ returns-in_err-found-2-clause-readable g c honest =
     let names = names_of c.args.context.now.words in
     let p = err_from_is_err_and c.from_residual-in_err-found-2.result c.from_residual-in_err-found-2.ensures.1 in
     rw (p.1 ∙ ap Err p.2) (λ (command : Command) (asks : Asks old ask command).
-    no_route old ask command path c.in_err-found-2.field-0.0 (IsReadableIfNew old None names ask command) c.as_str-path.ensures.text asks
-    (sym c.in_err-found-2.was ∙ c.in_ok-found.ensures.found honest asks.mount (known_by old ask command path c.as_str-path.ensures.text asks)))
+    no_route old ask command path c.in_err-found-2.field-0.0
+    (IsReadableIfNew old None names ask command) c.as_str-path.ensures.text asks
+    (sym c.in_err-found-2.was ∙ c.in_ok-found.ensures.found honest asks.mount
+    (known_by old ask command path c.as_str-path.ensures.text asks)))
 
 -- ---- the body is read
 
@@ -63,9 +67,11 @@ returns-in_err-command-clause-told g c opens honest b starts =
     let p = err_from_is_err_and c.from_residual-in_err-command.result c.from_residual-in_err-command.ensures.1 in
     rw (p.1 ∙ ap Err p.2)
     (served_allowed b None names ask new (Err c.in_err-command.field-0.0) (allowed_openly b None ask opens)
-    (served_by b None names ask new (Err c.in_err-command.field-0.0) c.in_ok-found-2.field-0 c.as_str-path.result.now c.as_str-path.ensures.text
+    (served_by b None names ask new (Err c.in_err-command.field-0.0) c.in_ok-found-2.field-0 c.as_str-path.result.now
+    c.as_str-path.ensures.text
     (sym c.in_ok-found-2.was ∙ routed)
-    (not_meant b None names ask new (command_for c.in_ok-found-2.field-0 ask) c.in_err-command.field-0.0 c.in_err-command.ensures.reads
+    (not_meant b None names ask new (command_for c.in_ok-found-2.field-0 ask) c.in_err-command.field-0.0
+    c.in_err-command.ensures.reads
     (still_represented b old new (c.in_ok-found.ensures.call.same honest) starts.represents))))
 
 pub returns-in_err-command-clause-readable : goal.returns-in_err-command-clause-readable
@@ -98,7 +104,8 @@ returns-clause-told g c opens honest b starts =
     let ask = c.args.ask.now in
     let names = names_of c.args.context.now.words in
     let route = c.in_ok-found-2.field-0 in
-    let before = honest_before (seen c.find_route.new.tx) (seen c.operate.new.tx) _ c.operate.ensures.call.goes_on honest in
+    let before = honest_before (seen c.find_route.new.tx)
+    (seen c.operate.new.tx) _ c.operate.ensures.call.goes_on honest in
     let then = still_represented b old mid (c.in_ok-found.ensures.call.same before) starts.represents in
     let routed = c.in_ok-found.ensures.told before b.mounts (mounts_there b old starts.represents) in
     let found = sym c.in_ok-found-2.was ∙ routed in
@@ -106,10 +113,12 @@ returns-clause-told g c opens honest b starts =
       parameter = λ takes. c.in_ok-found.ensures.parameter c.as_str-path.ensures.good route takes c.in_ok-found-2.was;
       mount = λ is. mount_named b ask.verb path route starts.represents.sound.mounts (sym found) is;
     } in
-    let begins : Begins None c.args.context.now mid b = record { represents = then; here = starts.here; clock = starts.clock } in
+    let begins : Begins None c.args.context.now mid b =
+    record { represents = then; here = starts.here; clock = starts.clock } in
     served_allowed b None names ask new c.operate.result (allowed_openly b None ask opens)
     (served_by b None names ask new c.operate.result route path c.as_str-path.ensures.text found
-    (is_meant b None names ask new (command_for route ask) (meant c.in_ok-command.command) c.operate.result c.in_ok-command.ensures.reads
+    (is_meant b None names ask new (command_for route ask)
+    (meant c.in_ok-command.command) c.operate.result c.in_ok-command.ensures.reads
     (c.operate.ensures.told (c.in_ok-command.ensures.placed formed) honest b begins)))
 
 pub returns-clause-readable : goal.returns-clause-readable
@@ -120,13 +129,15 @@ returns-clause-readable g c honest =
     let ask = c.args.ask.now in
     let names = names_of c.args.context.now.words in
     let route = c.in_ok-found-2.field-0 in
-    let before = honest_before (seen c.find_route.new.tx) (seen c.operate.new.tx) _ c.operate.ensures.call.goes_on honest in
+    let before = honest_before (seen c.find_route.new.tx)
+    (seen c.operate.new.tx) _ c.operate.ensures.call.goes_on honest in
     let same = c.in_ok-found.ensures.call.same before in
     on_answer_weaker c.operate.result
     (λ read command asks.
     let routed = sym c.in_ok-found-2.was
     ∙ c.in_ok-found.ensures.found before asks.mount (known_by old ask command path c.as_str-path.ensures.text asks) in
-    let is = ok_inj (sym c.in_ok-command.ensures.reads ∙ meant_by_route old ask command path route c.as_str-path.ensures.text asks routed) in
+    let is = ok_inj (sym c.in_ok-command.ensures.reads
+    ∙ meant_by_route old ask command path route c.as_str-path.ensures.text asks routed) in
     subst (IsReadableIfNew old None names ask) is
     (subst (λ (rows : Rows). IsReadableIfNew rows None names ask (meant c.in_ok-command.command)) same read))
     (c.operate.ensures.readable honest tt)

@@ -31,7 +31,8 @@ act-requires-2-clause-own g c =
     let wraps : is_wrapped ask command ≡ true = sym c.is_wrapped.ensures ∙ c.if-not-is_wrapped.false in
     let needed = c.args.needed.now in
     let rest = ap (λ n. take n (drop 2 needed)) (sym (length-drop 2 needed)) ∙ take-length (drop 2 needed) in
-    subst (λ (own : List Text). ArePrinted own ((traits command).own names)) (sym rest) (own_printed ask names command wraps needed c.requires.needed)
+    subst (λ (own : List Text). ArePrinted own ((traits command).own names)) (sym rest)
+    (own_printed ask names command wraps needed c.requires.needed)
 
 pub returns-in_err-answered-clause-told : goal.returns-in_err-answered-clause-told
 returns-in_err-answered-clause-told g c placed honest b begins fresh =
@@ -41,7 +42,8 @@ returns-in_err-answered-clause-told g c placed honest b begins fresh =
     let names = names_of c.args.context.now.words in
     let wraps : is_wrapped ask command ≡ true = sym c.is_wrapped.ensures ∙ c.if-not-is_wrapped.false in
     let own : are_new b.used ((traits command).own names) ≡ true =
-    own_new b.used names.wrapping_token names.wrapping_accessor _ (ap (are_new b.used) (sym (needed_is ask names command wraps)) ∙ fresh) in
+    own_new b.used names.wrapping_token names.wrapping_accessor _
+    (ap (are_new b.used) (sym (needed_is ask names command wraps)) ∙ fresh) in
     let p = err_from_is_err_and c.from_residual.result c.from_residual.ensures.1 in
     rw (p.1 ∙ ap Err p.2)
     (acted_not b (who_of c.args.asker.now) names ask command (seen c.act-2.new.tx).rows c.in_err-answered.field-0.0
@@ -80,7 +82,8 @@ returns-clause-told g c placed honest b begins fresh =
     let wraps : is_wrapped ask command ≡ true = sym c.is_wrapped.ensures ∙ c.if-not-is_wrapped.false in
     let printed = printed_is ask names command wraps needed c.requires.needed in
     let all_new = ap (are_new b.used) (sym (needed_is ask names command wraps)) ∙ fresh in
-    let own : are_new b.used ((traits command).own names) ≡ true = own_new b.used names.wrapping_token names.wrapping_accessor _ all_new in
+    let own : are_new b.used ((traits command).own names) ≡ true =
+    own_new b.used names.wrapping_token names.wrapping_accessor _ all_new in
     let before = honest_before (seen c.act-2.new.tx) (seen c.wrap.new.tx) _ c.in_ok-wrap.ensures.call.goes_on honest in
     acted_wrapped b who names ask command new mid c.in_ok-answered.answered c.in_ok-wrap.field-0 wraps
     (c.in_ok-answered.ensures.told placed before b begins own)
@@ -90,8 +93,10 @@ returns-clause-told g c placed honest b begins fresh =
     (c.in_ok-wrap.ensures.told honest who b ((traits command).own names) d
     (record {
       clock = begins_clock c.args.asker.now c.args.context.now old b begins;
-      token = c.as_str-2.ensures ∙ c.index-needed-0.is ∙ ap (λ (needed : List Text). get_or needed 0 c.index-needed-0.result) printed;
-      accessor = c.as_str-3.ensures ∙ c.index-needed-1.is ∙ ap (λ (needed : List Text). get_or needed 1 c.index-needed-1.result) printed;
+      token = c.as_str-2.ensures ∙ c.index-needed-0.is
+          ∙ ap (λ (needed : List Text). get_or needed 0 c.index-needed-0.result) printed;
+      accessor = c.as_str-3.ensures ∙ c.index-needed-1.is
+          ∙ ap (λ (needed : List Text). get_or needed 1 c.index-needed-1.result) printed;
       new = all_new;
       proper = c.operations_are_proper.ensures b who c.args.context.now.words command d own does;
     }) done))
@@ -103,4 +108,5 @@ returns-clause-uses g c honest at =
     let mid = (seen c.act-2.new.tx).rows in
     let new = (seen c.wrap.new.tx).rows in
     let before = honest_before (seen c.act-2.new.tx) (seen c.wrap.new.tx) _ c.in_ok-wrap.ensures.call.goes_on honest in
-    uses_then old mid new (c.in_ok-answered.ensures.uses before at) (wrapped_uses mid new _ _ _ (c.in_ok-wrap.ensures.rows honest))
+    uses_then old mid new (c.in_ok-answered.ensures.uses before at)
+    (wrapped_uses mid new _ _ _ (c.in_ok-wrap.ensures.rows honest))

@@ -14,7 +14,8 @@ returns-then-not-branch-clause-refused g c honest who b names st needed =
     let new = (g.T.RecordsTx.seen c.are_new.new.tx).rows in
     let used : are_new b.used (needed_by ask names command) ≡ false =
     ap (are_new b.used) (sym needed) ∙ sym (c.in_ok-are_new.ensures.told honest who b st) ∙ c.if-not-branch.true in
-    operated_used b who names ask command new used (still_represented b old new (c.in_ok-are_new.ensures.call.same honest) st)
+    operated_used b who names ask command new used
+    (still_represented b old new (c.in_ok-are_new.ensures.call.same honest) st)
 
 pub returns-clause-fresh : goal.returns-clause-fresh
 returns-clause-fresh g c honest who b st = sym (c.in_ok-are_new.ensures.told honest who b st) ∙ c.if-not-branch.false

@@ -33,11 +33,14 @@ returns-clause-told g c placed honest b begins =
     let old = (seen c.args.tx.now).rows in
     let mid = (seen c.check.new.tx).rows in
     let st = begins_represented c.args.asker.now c.args.context.now old b begins in
-    let before = honest_before (seen c.check.new.tx) (seen c.carry_out.new.tx) _ c.carry_out.ensures.call.goes_on honest in
+    let before = honest_before (seen c.check.new.tx)
+    (seen c.carry_out.new.tx) _ c.carry_out.ensures.call.goes_on honest in
     let same = c.in_ok-check.ensures.call.same before in
     let needed = c.deref.ensures.value ∙ c.in_ok-needed.ensures.are
     ∙ ap (λ (x : Context). needed_by ask (names_of x.words) command) c.context.view_is in
     let fresh : are_new b.used (needed_by ask names command) ≡ true =
     ap (are_new b.used) (sym needed) ∙ c.in_ok-check.ensures.fresh before who b st in
-    operated_new b who names ask command (seen c.carry_out.new.tx).rows c.carry_out.result fresh c.in_ok-check.ensures.timed
-    (c.carry_out.ensures.told placed honest b (begins_still c.args.asker.now c.args.context.now old mid b same begins) fresh)
+    operated_new b who names ask command (seen c.carry_out.new.tx).rows c.carry_out.result fresh
+    c.in_ok-check.ensures.timed
+    (c.carry_out.ensures.told placed honest b
+    (begins_still c.args.asker.now c.args.context.now old mid b same begins) fresh)

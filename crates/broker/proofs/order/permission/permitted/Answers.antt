@@ -25,8 +25,10 @@ pub returns-in_err-rules-clause-wants : goal.returns-in_err-rules-clause-wants
 returns-in_err-rules-clause-wants g c honest b st =
     let seen = g.T.RecordsTx.seen in
     let p = err_from_is_err_and c.from_residual-in_err-rules.result c.from_residual-in_err-rules.ensures.1 in
-    let mid = honest_before (seen c.capability.new.tx) (seen c.rules_of.new.tx) _ c.in_err-rules.ensures.call.goes_on honest in
-    let still = still_represented b (seen c.args.tx.now).rows (seen c.capability.new.tx).rows (c.in_ok-asked.ensures.call.same mid) st in
+    let mid = honest_before (seen c.capability.new.tx)
+    (seen c.rules_of.new.tx) _ c.in_err-rules.ensures.call.goes_on honest in
+    let still = still_represented b (seen c.args.tx.now).rows (seen c.capability.new.tx).rows
+    (c.in_ok-asked.ensures.call.same mid) st in
     rw (p.1, p.2) (c.in_err-rules.ensures.wants honest is_object b.policies still.sound.policies
     (named_policies_there b (seen c.capability.new.tx).rows c.deref.result.now still))
 
@@ -39,16 +41,21 @@ returns-clause-told g c honest b st caller routed =
     let verb = c.args.ask.now.verb in
     let path = c.args.ask.now.path in
     let who = c.args.caller.now in
-    let mid = honest_before (seen c.capability.new.tx) (seen c.rules_of.new.tx) _ c.in_ok-rules.ensures.call.goes_on honest in
+    let mid = honest_before (seen c.capability.new.tx)
+    (seen c.rules_of.new.tx) _ c.in_ok-rules.ensures.call.goes_on honest in
     let token = (λ i. (c.caller-inside.view_is i).token.now) ∙ ap (λ (x : Caller). x.token) c.caller.view_is in
-    let names = c.deref.ensures.value ∙ (λ i. (c.caller-inside.view_is i).known.policies) ∙ ap (λ (x : Caller). x.known.policies) c.caller.view_is in
+    let names = c.deref.ensures.value ∙ (λ i. (c.caller-inside.view_is i).known.policies)
+    ∙ ap (λ (x : Caller). x.known.policies) c.caller.view_is in
     let still = still_represented b old (seen c.capability.new.tx).rows (c.in_ok-asked.ensures.call.same mid) st in
-    let said = c.in_ok-rules.ensures.told honest b.policies (named_policies_there b (seen c.capability.new.tx).rows c.deref.result.now still)
+    let said = c.in_ok-rules.ensures.told honest b.policies
+    (named_policies_there b (seen c.capability.new.tx).rows c.deref.result.now still)
     ∙ ap (λ (ns : List Text). rules_of b.policies ns verb) names in
     let asks = c.in_ok-asked.ensures.told mid b (subst (λ (t : Text). Represents (Some t) old b) (sym token) st)
     (subst (λ (t : Text). get b.tokens t ≢ None) (sym token) (entry_here b who caller))
     ∙ ap (λ (t : Text). asked_by (has_stored b t) verb c.args.found.now) token in
-    permitted_told b who verb path c.args.found.now c.in_ok-asked.asked c.in_ok-rules.rules true caller routed asks said (c.if-not-may.ensures ∙ ap (λ (p : Text). may c.in_ok-rules.rules p c.in_ok-asked.asked) c.as_str-path.ensures.text)
+    permitted_told b who verb path c.args.found.now c.in_ok-asked.asked c.in_ok-rules.rules true caller routed asks said
+    (c.if-not-may.ensures
+    ∙ ap (λ (p : Text). may c.in_ok-rules.rules p c.in_ok-asked.asked) c.as_str-path.ensures.text)
 
 pub returns-then-not-may-clause-told : goal.returns-then-not-may-clause-told
 returns-then-not-may-clause-told g c honest b st caller routed =
@@ -57,16 +64,21 @@ returns-then-not-may-clause-told g c honest b st caller routed =
     let verb = c.args.ask.now.verb in
     let path = c.args.ask.now.path in
     let who = c.args.caller.now in
-    let mid = honest_before (seen c.capability.new.tx) (seen c.rules_of.new.tx) _ c.in_ok-rules.ensures.call.goes_on honest in
+    let mid = honest_before (seen c.capability.new.tx)
+    (seen c.rules_of.new.tx) _ c.in_ok-rules.ensures.call.goes_on honest in
     let token = (λ i. (c.caller-inside.view_is i).token.now) ∙ ap (λ (x : Caller). x.token) c.caller.view_is in
-    let names = c.deref.ensures.value ∙ (λ i. (c.caller-inside.view_is i).known.policies) ∙ ap (λ (x : Caller). x.known.policies) c.caller.view_is in
+    let names = c.deref.ensures.value ∙ (λ i. (c.caller-inside.view_is i).known.policies)
+    ∙ ap (λ (x : Caller). x.known.policies) c.caller.view_is in
     let still = still_represented b old (seen c.capability.new.tx).rows (c.in_ok-asked.ensures.call.same mid) st in
-    let said = c.in_ok-rules.ensures.told honest b.policies (named_policies_there b (seen c.capability.new.tx).rows c.deref.result.now still)
+    let said = c.in_ok-rules.ensures.told honest b.policies
+    (named_policies_there b (seen c.capability.new.tx).rows c.deref.result.now still)
     ∙ ap (λ (ns : List Text). rules_of b.policies ns verb) names in
     let asks = c.in_ok-asked.ensures.told mid b (subst (λ (t : Text). Represents (Some t) old b) (sym token) st)
     (subst (λ (t : Text). get b.tokens t ≢ None) (sym token) (entry_here b who caller))
     ∙ ap (λ (t : Text). asked_by (has_stored b t) verb c.args.found.now) token in
-    permitted_told b who verb path c.args.found.now c.in_ok-asked.asked c.in_ok-rules.rules false caller routed asks said (c.if-not-may.ensures ∙ ap (λ (p : Text). may c.in_ok-rules.rules p c.in_ok-asked.asked) c.as_str-path.ensures.text)
+    permitted_told b who verb path c.args.found.now c.in_ok-asked.asked c.in_ok-rules.rules false caller routed asks
+    said (c.if-not-may.ensures
+    ∙ ap (λ (p : Text). may c.in_ok-rules.rules p c.in_ok-asked.asked) c.as_str-path.ensures.text)
 
 -- ---- by the rows
 
@@ -77,11 +89,15 @@ returns-clause-found g c honest at mount known routed =
     let verb = c.args.ask.now.verb in
     let path = c.args.ask.now.path in
     let who = c.args.caller.now in
-    let mid = honest_before (seen c.capability.new.tx) (seen c.rules_of.new.tx) _ c.in_ok-rules.ensures.call.goes_on honest in
+    let mid = honest_before (seen c.capability.new.tx)
+    (seen c.rules_of.new.tx) _ c.in_ok-rules.ensures.call.goes_on honest in
     let token = (λ i. (c.caller-inside.view_is i).token.now) ∙ ap (λ (x : Caller). x.token) c.caller.view_is in
-    let names = c.deref.ensures.value ∙ (λ i. (c.caller-inside.view_is i).known.policies) ∙ ap (λ (x : Caller). x.known.policies) c.caller.view_is in
-    let rules = rules_before old (seen c.capability.new.tx).rows c.deref.result.now who.known.policies verb c.in_ok-rules.rules
-    (c.in_ok-asked.ensures.call.same mid) names (record { readable = c.in_ok-rules.ensures.readable honest; told = c.in_ok-rules.ensures.told honest }) in
+    let names = c.deref.ensures.value ∙ (λ i. (c.caller-inside.view_is i).known.policies)
+    ∙ ap (λ (x : Caller). x.known.policies) c.caller.view_is in
+    let rules = rules_before old (seen c.capability.new.tx).rows c.deref.result.now who.known.policies verb
+    c.in_ok-rules.rules
+    (c.in_ok-asked.ensures.call.same mid) names
+    (record { readable = c.in_ok-rules.ensures.readable honest; told = c.in_ok-rules.ensures.told honest }) in
     record {
       entry = Some who.known;
       in_range = λ e is. subst IsTokenInRange (same_Some _ _ is) c.requires;
@@ -93,7 +109,9 @@ returns-clause-found g c honest at mount known routed =
         c.in_ok-asked.ensures.found mid ∙ ap (λ (t : Text). asked_by (has_row old t) verb c.args.found.now) token
             ∙ ap (asked_by (has_row old who.token) verb) routed,
       );
-      allowed = allowed_by old who.known.policies verb path c.in_ok-asked.asked c.in_ok-rules.rules true rules (c.if-not-may.ensures ∙ ap (λ (p : Text). may c.in_ok-rules.rules p c.in_ok-asked.asked) c.as_str-path.ensures.text);
+      allowed = allowed_by old who.known.policies verb path c.in_ok-asked.asked c.in_ok-rules.rules true rules
+          (c.if-not-may.ensures
+          ∙ ap (λ (p : Text). may c.in_ok-rules.rules p c.in_ok-asked.asked) c.as_str-path.ensures.text);
     }
 
 pub returns-then-not-may-clause-found : goal.returns-then-not-may-clause-found
@@ -103,11 +121,15 @@ returns-then-not-may-clause-found g c honest at mount known routed =
     let verb = c.args.ask.now.verb in
     let path = c.args.ask.now.path in
     let who = c.args.caller.now in
-    let mid = honest_before (seen c.capability.new.tx) (seen c.rules_of.new.tx) _ c.in_ok-rules.ensures.call.goes_on honest in
+    let mid = honest_before (seen c.capability.new.tx)
+    (seen c.rules_of.new.tx) _ c.in_ok-rules.ensures.call.goes_on honest in
     let token = (λ i. (c.caller-inside.view_is i).token.now) ∙ ap (λ (x : Caller). x.token) c.caller.view_is in
-    let names = c.deref.ensures.value ∙ (λ i. (c.caller-inside.view_is i).known.policies) ∙ ap (λ (x : Caller). x.known.policies) c.caller.view_is in
-    let rules = rules_before old (seen c.capability.new.tx).rows c.deref.result.now who.known.policies verb c.in_ok-rules.rules
-    (c.in_ok-asked.ensures.call.same mid) names (record { readable = c.in_ok-rules.ensures.readable honest; told = c.in_ok-rules.ensures.told honest }) in
+    let names = c.deref.ensures.value ∙ (λ i. (c.caller-inside.view_is i).known.policies)
+    ∙ ap (λ (x : Caller). x.known.policies) c.caller.view_is in
+    let rules = rules_before old (seen c.capability.new.tx).rows c.deref.result.now who.known.policies verb
+    c.in_ok-rules.rules
+    (c.in_ok-asked.ensures.call.same mid) names
+    (record { readable = c.in_ok-rules.ensures.readable honest; told = c.in_ok-rules.ensures.told honest }) in
     record {
       entry = Some who.known;
       in_range = λ e is. subst IsTokenInRange (same_Some _ _ is) c.requires;
@@ -119,17 +141,23 @@ returns-then-not-may-clause-found g c honest at mount known routed =
         c.in_ok-asked.ensures.found mid ∙ ap (λ (t : Text). asked_by (has_row old t) verb c.args.found.now) token
             ∙ ap (asked_by (has_row old who.token) verb) routed,
       );
-      allowed = allowed_by old who.known.policies verb path c.in_ok-asked.asked c.in_ok-rules.rules false rules (c.if-not-may.ensures ∙ ap (λ (p : Text). may c.in_ok-rules.rules p c.in_ok-asked.asked) c.as_str-path.ensures.text);
+      allowed = allowed_by old who.known.policies verb path c.in_ok-asked.asked c.in_ok-rules.rules false rules
+          (c.if-not-may.ensures
+          ∙ ap (λ (p : Text). may c.in_ok-rules.rules p c.in_ok-asked.asked) c.as_str-path.ensures.text);
     }
 
 pub returns-clause-rules : goal.returns-clause-rules
 returns-clause-rules g c honest =
     let seen = g.T.RecordsTx.seen in
     let old = (seen c.args.tx.now).rows in
-    let mid = honest_before (seen c.capability.new.tx) (seen c.rules_of.new.tx) _ c.in_ok-rules.ensures.call.goes_on honest in
-    let names = c.deref.ensures.value ∙ (λ i. (c.caller-inside.view_is i).known.policies) ∙ ap (λ (x : Caller). x.known.policies) c.caller.view_is in
-    let rules = rules_before old (seen c.capability.new.tx).rows c.deref.result.now c.args.caller.now.known.policies c.args.ask.now.verb c.in_ok-rules.rules
-    (c.in_ok-asked.ensures.call.same mid) names (record { readable = c.in_ok-rules.ensures.readable honest; told = c.in_ok-rules.ensures.told honest }) in
+    let mid = honest_before (seen c.capability.new.tx)
+    (seen c.rules_of.new.tx) _ c.in_ok-rules.ensures.call.goes_on honest in
+    let names = c.deref.ensures.value ∙ (λ i. (c.caller-inside.view_is i).known.policies)
+    ∙ ap (λ (x : Caller). x.known.policies) c.caller.view_is in
+    let rules = rules_before old (seen c.capability.new.tx).rows c.deref.result.now c.args.caller.now.known.policies
+    c.args.ask.now.verb c.in_ok-rules.rules
+    (c.in_ok-asked.ensures.call.same mid) names
+    (record { readable = c.in_ok-rules.ensures.readable honest; told = c.in_ok-rules.ensures.told honest }) in
     λ x is. subst (AreRulesAt old c.args.caller.now.known.policies c.args.ask.now.verb) (same_Some _ _ is) rules
 
 pub returns-in_err-rules-clause-call : goal.returns-in_err-rules-clause-call
@@ -137,13 +165,16 @@ returns-in_err-rules-clause-call g c =
     let seen = g.T.RecordsTx.seen in
     let old = (seen c.args.tx.now).rows in
     let p = err_from_is_err_and c.from_residual-in_err-rules.result c.from_residual-in_err-rules.ensures.1 in
-    let before : (IsHonest (seen c.rules_of.new.tx) → Any (IsUnreadable (table_of (seen c.capability.new.tx).rows)) c.deref.result.now)
+    let before : (IsHonest (seen c.rules_of.new.tx)
+    → Any (IsUnreadable (table_of (seen c.capability.new.tx).rows)) c.deref.result.now)
     → IsHonest (seen c.rules_of.new.tx) → Any (IsUnreadable (table_of old)) c.args.caller.now.known.policies =
     λ unread honest.
-    let mid = honest_before (seen c.capability.new.tx) (seen c.rules_of.new.tx) _ c.in_err-rules.ensures.call.goes_on honest in
+    let mid = honest_before (seen c.capability.new.tx)
+    (seen c.rules_of.new.tx) _ c.in_err-rules.ensures.call.goes_on honest in
     let names = c.deref.ensures.value ∙ (λ i. (c.caller-inside.view_is i).known.policies)
     ∙ ap (λ (x : Caller). x.known.policies) c.caller.view_is in
-    unread_before old (seen c.capability.new.tx).rows c.deref.result.now c.args.caller.now.known.policies (c.in_ok-asked.ensures.call.same mid) names
+    unread_before old (seen c.capability.new.tx).rows c.deref.result.now c.args.caller.now.known.policies
+    (c.in_ok-asked.ensures.call.same mid) names
     (unread honest) in
     record {
       same = search rules;

@@ -25,7 +25,8 @@ returns-in-Given-clause-rows g c honest =
     let seen = g.T.RecordsTx.seen in
     let waits = waiting_from c.args.context.now.clock c.args.wrapping.now in
     subst (λ (a : Answered). OnOk c.keep.result (table_of (seen c.keep.new.tx).rows
-    ≡ with_wrapped (table_of (seen c.args.tx.now).rows) (token_text c.args.wrapping.now.token) (λ r. waits (reply_text r))
+    ≡ with_wrapped (table_of (seen c.args.tx.now).rows) (token_text c.args.wrapping.now.token)
+    (λ r. waits (reply_text r))
     (answered_of a)))
     (sym c.in-Given.is) (c.keep.ensures.rows honest)
 
@@ -42,6 +43,7 @@ returns-in-Made-clause-rows g c honest =
     let seen = g.T.RecordsTx.seen in
     let waits = waiting_from c.args.context.now.clock c.args.wrapping.now in
     subst (λ (a : Answered). OnOk c.keep-in-Made.result (table_of (seen c.keep-in-Made.new.tx).rows
-    ≡ with_wrapped (table_of (seen c.args.tx.now).rows) (token_text c.args.wrapping.now.token) (λ r. waits (reply_text r))
+    ≡ with_wrapped (table_of (seen c.args.tx.now).rows) (token_text c.args.wrapping.now.token)
+    (λ r. waits (reply_text r))
     (answered_of a)))
     (sym c.in-Made.is) (c.keep-in-Made.ensures.rows honest)

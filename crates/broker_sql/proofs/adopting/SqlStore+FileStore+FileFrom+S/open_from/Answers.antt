@@ -6,13 +6,15 @@ use Rattle.broker_sql.proofs.adopting.SqlStore+FileStore+FileFrom+S.open_from.Go
 pub returns-clause-found : goal.returns-clause-found
 returns-clause-found g c =
     let records = kept_records over_files c.in_ok-records.records in
-    if_three c.adopt.result (λ store upgraded stands less. found_open _ records (sql_kept over_files store) c.in_ok-records.ensures.found upgraded stands less)
+    if_three c.adopt.result (λ store upgraded stands less. found_open _ records
+    (sql_kept over_files store) c.in_ok-records.ensures.found upgraded stands less)
     c.adopt.ensures.upgraded c.adopt.ensures.stands c.adopt.ensures.mismatches
 
 pub returns-clause-started : goal.returns-clause-started
 returns-clause-started g c =
     let records = kept_records over_files c.in_ok-records.records in
-    if_two c.adopt.result (λ store upgraded started. still_empty records (sql_kept over_files store) upgraded started) c.adopt.ensures.upgraded c.adopt.ensures.started
+    if_two c.adopt.result (λ store upgraded started. still_empty records (sql_kept over_files store) upgraded started)
+    c.adopt.ensures.upgraded c.adopt.ensures.started
 
 pub returns-clause-bad_start : goal.returns-clause-bad_start
 returns-clause-bad_start g c is =

@@ -22,5 +22,7 @@ returns-in_err-is_started-clause-bad_start g c is =
 
 pub returns-clause-upgraded : goal.returns-clause-upgraded
 returns-clause-upgraded g c =
-    upgraded_from (kept_records g.S.Store c.args.records) (sql_kept g.S.Store c.is_started.new.self) (sql_kept g.S.Store c.upgrade.new.self)
-    c.in_ok-upgrade.ensures.atomic.mismatches c.in_ok-is_started.ensures.stands c.in_ok-is_started.ensures.same c.in_ok-upgrade.ensures.upgraded
+    upgraded_from (kept_records g.S.Store c.args.records) (sql_kept g.S.Store c.is_started.new.self)
+    (sql_kept g.S.Store c.upgrade.new.self)
+    c.in_ok-upgrade.ensures.atomic.mismatches c.in_ok-is_started.ensures.stands c.in_ok-is_started.ensures.same
+    c.in_ok-upgrade.ensures.upgraded

@@ -9,6 +9,7 @@ pub returns-in-Ok-clause-told : goal.returns-in-Ok-clause-told
 returns-in-Ok-clause-told g c honest =
     let rows = (sql_kept g.S.Store c.write_start.new.self).rows in
     let token = c.token-token_word.result in
-    subst (λ (t : ℕ). Represents None rows (first_broker c.args.moment t (accessor_word c.args.words.now))) c.token-token_word.ensures
+    subst (λ (t : ℕ). Represents None rows (first_broker c.args.moment t (accessor_word c.args.words.now)))
+    c.token-token_word.ensures
     (subst (λ (a : ℕ). Represents None rows (first_broker c.args.moment token a)) c.accessor-accessor_word.ensures
     (c.in-Ok.ensures.told honest c.if-token_word-accessor_word.false))

@@ -17,5 +17,6 @@ returns-clause-unseen g c = λ all each none.
 
 pub returns-clause-worlds : goal.returns-clause-worlds
 returns-clause-worlds g c = λ w represents.
-    closed_world g.S.Store.seen c.args.conn c.args.self.now (record c.args.self.now { connections = c.close.new.connections }) w
+    closed_world g.S.Store.seen c.args.conn c.args.self.now
+    (record c.args.self.now { connections = c.close.new.connections }) w
     (record { store = refl; connections = returns-clause-connections g c }) represents

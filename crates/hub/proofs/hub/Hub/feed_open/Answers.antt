@@ -11,7 +11,8 @@ returns-clause-fed g c =
     let fed = c.feed_seen-fed in
     fed_here
     (λ (k d : Connection).
-    Feeds (seen c.args.self.now.store) (seen fed.new.self.store) k d c.args.piece.now c.args.moment c.args.words.now fed.result)
+    Feeds (seen c.args.self.now.store) (seen fed.new.self.store) k d c.args.piece.now c.args.moment c.args.words.now
+    fed.result)
     (λ (k : ℕ). get nat_cmp c.args.self.now.connections k) (λ (k : ℕ). get nat_cmp fed.new.self.connections k)
     (λ (k : ℕ). get nat_cmp c.settle.new.connections k) c.args.conn c.requires.is_open fed.ensures.fed c.settle.ensures
 
@@ -21,7 +22,9 @@ returns-clause-others g c =
     let fed = c.feed_seen-fed in
     fed_others
     (λ (k d : Connection).
-    Feeds (seen c.args.self.now.store) (seen fed.new.self.store) k d c.args.piece.now c.args.moment c.args.words.now fed.result)
+    Feeds (seen c.args.self.now.store) (seen fed.new.self.store) k d c.args.piece.now c.args.moment c.args.words.now
+    fed.result)
     (λ (k : ℕ). get nat_cmp c.args.self.now.connections k) (λ (k : ℕ). get nat_cmp fed.new.self.connections k)
-    (λ (k : ℕ). get nat_cmp c.settle.new.connections k) c.args.conn c.requires.is_open fed.ensures.fed c.settle.ensures c.requires.seen
+    (λ (k : ℕ). get nat_cmp c.settle.new.connections k) c.args.conn c.requires.is_open fed.ensures.fed c.settle.ensures
+    c.requires.seen
     fed.ensures.others

@@ -7,4 +7,5 @@ use Rattle.records.proofs.field.TextBufFormGlobal.read.Goals as goal
 pub returns : goal.returns
 returns c =
     let copied = c.in_ok-copied.ensures in
-    reads_taken text_way c.in_ok-text.ensures c.in_ok-copied.field-0 copied (subst IsShortText (sym copied) c.in_ok-text.ensures.exact.0)
+    reads_taken text_way c.in_ok-text.ensures c.in_ok-copied.field-0 copied
+    (subst IsShortText (sym copied) c.in_ok-text.ensures.exact.0)

@@ -14,6 +14,7 @@ returns-clause-listed c honest =
     ∙ ap (filter (λ (e : RowKey × Row). is_due c.args.moment e.1.due))
     (c.deref.ensures.value ∙ sym (lists es c.args.self.now.in_order)) in
     record {
-      whole = subst (λ (l : List (RowKey × Row)). IsPermutation l c.sort_by_due.new.list.items) chosen c.in_ok-sort_by_due.ensures.whole;
+      whole = subst (λ (l : List (RowKey × Row)). IsPermutation l c.sort_by_due.new.list.items) chosen
+          c.in_ok-sort_by_due.ensures.whole;
       sorted = c.in_ok-sort_by_due.ensures.sorted;
     }

@@ -17,6 +17,7 @@ returns-then-not-names_ascend c =
 
 pub returns : goal.returns
 returns c =
-    let tested = ap in_order (sym c.as_slice.ensures.value) ∙ sym c.names_ascend.ensures ∙ c.if-not-names_ascend.false in
+    let tested = ap in_order (sym c.as_slice.ensures.value) ∙ sym c.names_ascend.ensures
+    ∙ c.if-not-names_ascend.false in
     reads_taken meta_way c.in_ok-members.ensures c.in_ok-members.members.items refl
     (record { members = c.in_ok-members.ensures.exact.0; ascend = tested })

@@ -9,5 +9,6 @@ returns-clause-found g c =
     let was = file_state c.in_ok-conn.conn in
     if_both c.adopt.result (λ records found less clean.
     let before : HasCleanDisk was = omega (arith, less, clean) in
-    kept_in _ was (file_state records.conn) (c.in_ok-conn.ensures.found before) (c.in_ok-conn.ensures.opened before) (found clean))
+    kept_in _ was (file_state records.conn) (c.in_ok-conn.ensures.found before) (c.in_ok-conn.ensures.opened before)
+    (found clean))
     c.adopt.ensures.found c.adopt.ensures.mismatches

@@ -8,8 +8,10 @@ use Rattle.records_sql.proofs.opening.SqlRecords+FileStore+RamFile.in_memory.Goa
 pub returns-clause-empty : goal.returns-clause-empty
 returns-clause-empty c =
     let was = file_state c.in-Ok.conn in
-    IfOk-weaker c.adopt.result _ _ (λ records found. none_found was.committed _ (c.in-Ok.ensures.empty.0 0 (omega arith)) (found (always_clean (λ _. refl) records.conn))) c.adopt.ensures.found
+    IfOk-weaker c.adopt.result _ _ (λ records found. none_found was.committed _
+    (c.in-Ok.ensures.empty.0 0 (omega arith)) (found (always_clean (λ _. refl) records.conn))) c.adopt.ensures.found
 
 pub returns-clause-ready : goal.returns-clause-ready
 returns-clause-ready c =
-    IfOk-weaker c.adopt.result _ _ (λ records usable. usable (always_clean (λ _. refl) records.conn)) c.adopt.ensures.usable
+    IfOk-weaker c.adopt.result _ _ (λ records usable. usable (always_clean (λ _. refl) records.conn))
+    c.adopt.ensures.usable

@@ -14,8 +14,10 @@ invariant_of-result g c = record {
 }
 
 pub returns-clause-found : goal.returns-clause-found
-returns-clause-found g c clean = (c.in_ok-find_table.ensures.found clean (c.if-not-is_autocommit.ensures.settled refl)).has
+returns-clause-found g c clean =
+    (c.in_ok-find_table.ensures.found clean (c.if-not-is_autocommit.ensures.settled refl)).has
 
 pub returns-clause-usable : goal.returns-clause-usable
 returns-clause-usable g c clean =
-    clean_usable (state g.S.Store c.find_table.new.conn) clean (c.in_ok-find_table.ensures.found clean (c.if-not-is_autocommit.ensures.settled refl)).is_open
+    clean_usable (state g.S.Store c.find_table.new.conn) clean
+    (c.in_ok-find_table.ensures.found clean (c.if-not-is_autocommit.ensures.settled refl)).is_open

@@ -17,8 +17,13 @@ pub invariant_of-self-in_default : goal.invariant_of-self-in_default
 invariant_of-self-in_default g c =
     let old = state g.S.Store c.args.self.now.conn in
     let new = state g.S.Store c.under_upto.new.conn in
-    let it = stays old new _ c.under_upto.ensures.survives (λ clean. query_err _ _ old new _ (c.in_default.ensures.err clean)) in
-    record { sound = it.sound c.args.self.now.sound; active = λ t. absurd (let e = t in cc); remembered = λ _. c.clear.ensures _ }
+    let it = stays old new _ c.under_upto.ensures.survives
+    (λ clean. query_err _ _ old new _ (c.in_default.ensures.err clean)) in
+    record {
+      sound = it.sound c.args.self.now.sound;
+      active = λ t. absurd (let e = t in cc);
+      remembered = λ _. c.clear.ensures _;
+    }
 
 pub returns-in_default-clause-stays : goal.returns-in_default-clause-stays
 returns-in_default-clause-stays g c =
@@ -31,58 +36,80 @@ invariant_of-self-in-Ok-entries_under g c =
     let q : Key = (c.args.kind, c.args.prefix.now) in
     let old = state g.S.Store c.args.self.now.conn in
     let new = state g.S.Store c.under_upto.new.conn in
-    let it = upto_reads old new _ c.under_upto.ensures.survives c.args.self.now.sound (c.args.self.now.active c.if-not-self.false) q c.args.last.now c.in-Ok.rows.items c.in-Ok.ensures.ok in
-    record { sound = it.stays.sound c.args.self.now.sound; active = λ _. it.active; remembered = it.agrees _ c.args.self.now.remembered }
+    let it = upto_reads old new _ c.under_upto.ensures.survives c.args.self.now.sound
+    (c.args.self.now.active c.if-not-self.false) q c.args.last.now c.in-Ok.rows.items c.in-Ok.ensures.ok in
+    record {
+      sound = it.stays.sound c.args.self.now.sound;
+      active = λ _. it.active;
+      remembered = it.agrees _ c.args.self.now.remembered;
+    }
 
 pub returns-in-Ok-entries_under-clause-listed : goal.returns-in-Ok-entries_under-clause-listed
 returns-in-Ok-entries_under-clause-listed g c clean =
     let q : Key = (c.args.kind, c.args.prefix.now) in
     let old = state g.S.Store c.args.self.now.conn in
     let new = state g.S.Store c.under_upto.new.conn in
-    let it = upto_reads old new _ c.under_upto.ensures.survives c.args.self.now.sound (c.args.self.now.active c.if-not-self.false) q c.args.last.now c.in-Ok.rows.items c.in-Ok.ensures.ok in
-    c.in-Ok-entries_under.ensures.listed ∙ ap (λ (rs : List Row). filter (λ (e : Key × Fields). starts_with nat_eq e.0.1 q.1) (map (entry_in q.0) rs)) c.deref.ensures.value ∙ it.rows clean
+    let it = upto_reads old new _ c.under_upto.ensures.survives c.args.self.now.sound
+    (c.args.self.now.active c.if-not-self.false) q c.args.last.now c.in-Ok.rows.items c.in-Ok.ensures.ok in
+    c.in-Ok-entries_under.ensures.listed
+    ∙ ap (λ (rs : List Row). filter (λ (e : Key × Fields). starts_with nat_eq e.0.1 q.1) (map (entry_in q.0) rs))
+    c.deref.ensures.value ∙ it.rows clean
 
 pub returns-in-Ok-entries_under-clause-same : goal.returns-in-Ok-entries_under-clause-same
 returns-in-Ok-entries_under-clause-same g c =
     let q : Key = (c.args.kind, c.args.prefix.now) in
     let old = state g.S.Store c.args.self.now.conn in
     let new = state g.S.Store c.under_upto.new.conn in
-    (upto_reads old new _ c.under_upto.ensures.survives c.args.self.now.sound (c.args.self.now.active c.if-not-self.false) q c.args.last.now c.in-Ok.rows.items c.in-Ok.ensures.ok).same
+    (upto_reads old new _ c.under_upto.ensures.survives c.args.self.now.sound
+    (c.args.self.now.active c.if-not-self.false) q c.args.last.now c.in-Ok.rows.items c.in-Ok.ensures.ok).same
 
 pub returns-in-Ok-entries_under-clause-stays : goal.returns-in-Ok-entries_under-clause-stays
 returns-in-Ok-entries_under-clause-stays g c =
     let q : Key = (c.args.kind, c.args.prefix.now) in
     let old = state g.S.Store c.args.self.now.conn in
     let new = state g.S.Store c.under_upto.new.conn in
-    (upto_reads old new _ c.under_upto.ensures.survives c.args.self.now.sound (c.args.self.now.active c.if-not-self.false) q c.args.last.now c.in-Ok.rows.items c.in-Ok.ensures.ok).stays
+    (upto_reads old new _ c.under_upto.ensures.survives c.args.self.now.sound
+    (c.args.self.now.active c.if-not-self.false) q c.args.last.now c.in-Ok.rows.items c.in-Ok.ensures.ok).stays
 
 pub invariant_of-self-in-Err-Memory : goal.invariant_of-self-in-Err-Memory
 invariant_of-self-in-Err-Memory g c =
     let q : Key = (c.args.kind, c.args.prefix.now) in
     let old = state g.S.Store c.args.self.now.conn in
     let new = state g.S.Store c.under_upto.new.conn in
-    let it = upto_reads old new _ c.under_upto.ensures.survives c.args.self.now.sound (c.args.self.now.active c.if-not-self.false) q c.args.last.now c.in-Ok.rows.items c.in-Ok.ensures.ok in
-    record { sound = it.stays.sound c.args.self.now.sound; active = λ _. it.active; remembered = it.agrees _ c.args.self.now.remembered }
+    let it = upto_reads old new _ c.under_upto.ensures.survives c.args.self.now.sound
+    (c.args.self.now.active c.if-not-self.false) q c.args.last.now c.in-Ok.rows.items c.in-Ok.ensures.ok in
+    record {
+      sound = it.stays.sound c.args.self.now.sound;
+      active = λ _. it.active;
+      remembered = it.agrees _ c.args.self.now.remembered;
+    }
 
 pub returns-in-Err-Memory-clause-stays : goal.returns-in-Err-Memory-clause-stays
 returns-in-Err-Memory-clause-stays g c =
     let q : Key = (c.args.kind, c.args.prefix.now) in
     let old = state g.S.Store c.args.self.now.conn in
     let new = state g.S.Store c.under_upto.new.conn in
-    (upto_reads old new _ c.under_upto.ensures.survives c.args.self.now.sound (c.args.self.now.active c.if-not-self.false) q c.args.last.now c.in-Ok.rows.items c.in-Ok.ensures.ok).stays
+    (upto_reads old new _ c.under_upto.ensures.survives c.args.self.now.sound
+    (c.args.self.now.active c.if-not-self.false) q c.args.last.now c.in-Ok.rows.items c.in-Ok.ensures.ok).stays
 
 pub invariant_of-self-in-Err : goal.invariant_of-self-in-Err
 invariant_of-self-in-Err g c =
     let q : Key = (c.args.kind, c.args.prefix.now) in
     let old = state g.S.Store c.args.self.now.conn in
     let new = state g.S.Store c.under_upto.new.conn in
-    let it = upto_reads old new _ c.under_upto.ensures.survives c.args.self.now.sound (c.args.self.now.active c.if-not-self.false) q c.args.last.now c.in-Ok.rows.items c.in-Ok.ensures.ok in
-    record { sound = it.stays.sound c.args.self.now.sound; active = λ t. absurd (let e = t in cc); remembered = λ _. c.clear-in-Err.ensures _ }
+    let it = upto_reads old new _ c.under_upto.ensures.survives c.args.self.now.sound
+    (c.args.self.now.active c.if-not-self.false) q c.args.last.now c.in-Ok.rows.items c.in-Ok.ensures.ok in
+    record {
+      sound = it.stays.sound c.args.self.now.sound;
+      active = λ t. absurd (let e = t in cc);
+      remembered = λ _. c.clear-in-Err.ensures _;
+    }
 
 pub returns : goal.returns
 returns g c =
     let q : Key = (c.args.kind, c.args.prefix.now) in
     let old = state g.S.Store c.args.self.now.conn in
     let new = state g.S.Store c.under_upto.new.conn in
-    let it = upto_reads old new _ c.under_upto.ensures.survives c.args.self.now.sound (c.args.self.now.active c.if-not-self.false) q c.args.last.now c.in-Ok.rows.items c.in-Ok.ensures.ok in
+    let it = upto_reads old new _ c.under_upto.ensures.survives c.args.self.now.sound
+    (c.args.self.now.active c.if-not-self.false) q c.args.last.now c.in-Ok.rows.items c.in-Ok.ensures.ok in
     record { listed = λ _. tt; same = λ _. tt; stays = it.stays; failed = or_true c.args.self.now.failed; faults = tt }

@@ -11,7 +11,8 @@ returns c rows agrees is =
     let inside = subst (λ (m : Memory). Agrees m rows) (sym c.self.view_is) agrees in
     let IsFound = λ (e : RowKey × Option Row). get rows e.0 ≡ e.1 in
     record {
-      entries = All-set IsFound c.self.inside.entries.items (c.self.inside.turn % c.len-len.result) c.replace-oldest.new.dest
+      entries = All-set IsFound c.self.inside.entries.items
+          (c.self.inside.turn % c.len-len.result) c.replace-oldest.new.dest
           (subst IsFound (sym (c.replace-oldest.ensures.after ∙ c.in-Some.ensures)) (sym is)) inside.entries;
       calm = inside.calm;
     }

@@ -15,5 +15,6 @@ returns-in_ok-ok-in-Some c rows agrees =
     let inside = subst (λ (m : Memory). Agrees m rows) (sym c.self.view_is) agrees in
     let listed = subst (λ list. AreFound list rows) (sym c.deref.ensures.value) inside.entries in
     ap (λ (row : Row). Some row)
-    (copied_row c.copied.result c.in_ok-ok-in-Some.field-0 c.in-Some.row.now c.in_ok-ok-in-Some.ensures.value c.copied.ensures)
+    (copied_row c.copied.result c.in_ok-ok-in-Some.field-0 c.in-Some.row.now c.in_ok-ok-in-Some.ensures.value
+    c.copied.ensures)
     ∙ c.in-Some.ensures ∙ sym (c.in_ok-found.ensures rows listed)

@@ -14,6 +14,7 @@ returns c rows agrees =
     (record {
       entries = subst (λ list. AreFound list (insert rows q row)) (sym c.forget.ensures.others)
           (found_put rows q c.self.inside.entries.items inside.entries row);
-      calm = calm_put rows q c.self.inside.calm_until inside.calm row c.sooner-self-inside.result c.sooner-self-inside.ensures.before c.sooner-self-inside.ensures.due;
+      calm = calm_put rows q c.self.inside.calm_until inside.calm row c.sooner-self-inside.result
+          c.sooner-self-inside.ensures.before c.sooner-self-inside.ensures.due;
     })
     (sym (got_put rows q row))

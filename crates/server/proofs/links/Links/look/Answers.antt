@@ -9,7 +9,8 @@ loop-init g c = record {
 
 pub loop-preserved : goal.loop-preserved
 loop-preserved g c = record {
-  steps = closes_on g.S.Store.seen c.args.hub.now c.loop.hub c.close.new.hub c.loop.invariant.steps c.close.ensures.steps;
+  steps = closes_on g.S.Store.seen c.args.hub.now c.loop.hub c.close.new.hub c.loop.invariant.steps
+      c.close.ensures.steps;
   below = λ all each.
       below_on c.args.first all c.loop.hub c.close.new.hub (c.loop.invariant.below all each) c.close.ensures.below;
 }

@@ -9,8 +9,10 @@ returns-in_default-clause-served g c = leaves_none g.S.Store.seen _ tt c.args.hu
 pub returns-in-Ok-Gone-clause-served : goal.returns-in-Ok-Gone-clause-served
 returns-in-Ok-Gone-clause-served g c =
     let served = c.turn-turned.ensures.served in
-    leaves_closing g.S.Store.seen _ _ tt c.args.hub.now c.turn-turned.new.hub c.close.new.hub (rw c.in-Ok-Gone.is at served) c.close.ensures.steps
+    leaves_closing g.S.Store.seen _ _ tt c.args.hub.now c.turn-turned.new.hub c.close.new.hub
+    (rw c.in-Ok-Gone.is at served) c.close.ensures.steps
 
 pub returns-in-Ok-Gone-clause-below : goal.returns-in-Ok-Gone-clause-below
 returns-in-Ok-Gone-clause-below g c = λ all each.
-    below_on c.args.first all c.turn-turned.new.hub c.close.new.hub (c.turn-turned.ensures.below all each) c.close.ensures.below
+    below_on c.args.first all c.turn-turned.new.hub c.close.new.hub
+    (c.turn-turned.ensures.below all each) c.close.ensures.below

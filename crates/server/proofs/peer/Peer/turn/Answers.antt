@@ -17,11 +17,13 @@ returns-then-is_done-clause-served g c = leaves_none g.S.Store.seen _ _ c.args.h
 
 pub returns-in-Ok-clause-served : goal.returns-in-Ok-clause-served
 returns-in-Ok-clause-served g c =
-    leaves_turn g.S.Store.seen _ _ _ _ _ _ _ (Ok c.in-Ok.turn) (Ok c.settle.result) c.args.hub.now c.take_turn.new.hub tt c.in-Ok.ensures.took
+    leaves_turn g.S.Store.seen _ _ _ _ _ _ _ (Ok c.in-Ok.turn)
+    (Ok c.settle.result) c.args.hub.now c.take_turn.new.hub tt c.in-Ok.ensures.took
 
 pub returns-in-Ok-clause-below : goal.returns-in-Ok-clause-below
 returns-in-Ok-clause-below g c = λ all each.
-    below_others c.args.first _ all c.take_turn.new.hub (let number = c.conn.ensures in let least = c.if-conn-first.false in omega (arith, number, least))
+    below_others c.args.first _ all c.take_turn.new.hub
+    (let number = c.conn.ensures in let least = c.if-conn-first.false in omega (arith, number, least))
     (c.take_turn.ensures.took.others all each)
 
 pub returns-in-Err-clause-served : goal.returns-in-Err-clause-served
@@ -31,5 +33,6 @@ returns-in-Err-clause-served g c =
 
 pub returns-in-Err-clause-below : goal.returns-in-Err-clause-below
 returns-in-Err-clause-below g c = λ all each.
-    below_others c.args.first _ all c.take_turn.new.hub (let number = c.conn.ensures in let least = c.if-conn-first.false in omega (arith, number, least))
+    below_others c.args.first _ all c.take_turn.new.hub
+    (let number = c.conn.ensures in let least = c.if-conn-first.false in omega (arith, number, least))
     (c.take_turn.ensures.took.others all each)
