@@ -7,7 +7,7 @@ ghost use Rattle.broker_rows.specs.Done.{answered_of};
 use crate::context::Context;
 use api_json::plain_reply;
 use broker_types::{Reply, TextBuf, id_text};
-use std::alloc::{AllocError, Global};
+use std::alloc::AllocError;
 
 /// What an operation answers (Vault's documentation, "HTTP API", status codes).
 #[derive(Drop)]
@@ -26,15 +26,11 @@ pub enum Answered {
 
 impl Answered {
     /// What an operation answers that shows an object: 200 with the reply to the request. It fails if memory runs out.
-    pub fn shown(
-        alloc: Global,
-        context: &Context<'_>,
-        object: TextBuf,
-    ) -> Result<Answered, AllocError>
+    pub fn shown(context: &Context<'_>, object: TextBuf) -> Result<Answered, AllocError>
         ensures { IfOk result (λ a. answered_of a
             ≡ operation.reply (plain_reply (names_of context.now.words).request object) None) }
     {
-        let request = id_text(alloc, context.words.request())?;
-        Ok(Answered::Given(plain_reply(alloc, request.as_str(), object)?))
+        let request = id_text(context.alloc, context.words.request())?;
+        Ok(Answered::Given(plain_reply(context.alloc, request.as_str(), object)?))
     }
 }

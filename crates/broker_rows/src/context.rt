@@ -1,9 +1,12 @@
 use broker_types::{Moment, Words};
+use std::alloc::Global;
 use std::marker::Model;
 
-/// What an operation knows of its request beside what is asked and who asks.
+/// What an operation knows of its request beside what is asked and who asks, and from where it takes memory.
 #[derive(Drop)]
 pub struct Context<'r> {
+    /// Where memory is from.
+    pub alloc: Global,
     /// The broker's clock.
     pub clock: Moment,
     /// From which identifiers are made.

@@ -1,5 +1,5 @@
--- One more version, from what the calls say.
-use Rattle.std.specs.Prelude.{◌≡◌, ◌+◌, ℕ}
+-- The current version, from what the calls say.
+use Rattle.std.specs.Prelude.{◌≡◌, ℕ}
 use Rattle.std.specs.FinMap as map
 use Rattle.std.proofs.Common.{◌∙◌, ap}
 use Rattle.broker_types.specs.Text.{Text}
@@ -11,17 +11,16 @@ use Rattle.records.specs.Rows.{version_key}
 use Rattle.records.specs.Table.{Table, table_of, with_row}
 use Rattle.records.specs.TableLaws.{table_of-insert}
 use Rattle.records.specs.Transaction.{Rows}
-use Rattle.kv2.specs.SecretRows.{pruned, with_version, next_entry}
+use Rattle.kv2.specs.SecretRows.{pruned, with_current}
 use Rattle.kv2.specs.Versions.{new_version}
 
-pub put_by_calls : (r0 r1 r2 : Rows) (new : Table) (name place object : Text) (e : KeyEntry) (limit now number : ℕ)
+pub put_by_calls : (r0 r1 r2 : Rows) (new : Table) (name place object : Text) (e : KeyEntry) (limit number : ℕ)
     (vrow krow : Row)
     → r1 ≡ map.insert r0 (kind.KvVersion, place) vrow → r2 ≡ map.insert r1 (kind.KvKey, name) krow
-    → new ≡ pruned (table_of r2) name number limit
-    → number ≡ e.current + 1 → place ≡ version_key name number → vrow ≡ version_row (new_version now object)
-    → krow ≡ key_entry_row (next_entry now e)
-    → new ≡ with_version (table_of r0) name e limit now object
-put_by_calls r0 r1 r2 new name place object e limit now number vrow krow one two rest n p v k =
+    → number ≡ e.current → place ≡ version_key name number → vrow ≡ version_row (new_version e.updated object)
+    → krow ≡ key_entry_row e → new ≡ pruned (table_of r2) name number limit
+    → new ≡ with_current (table_of r0) name e limit object
+put_by_calls r0 r1 r2 new name place object e limit number vrow krow one two n p v k rest =
     rest
     ∙ ap (λ t. pruned t name number limit) (
     ap table_of two ∙ table_of-insert r1 kind.KvKey name krow

@@ -171,12 +171,17 @@ new_entry now = record {
 abbrev pub next_entry : ℕ → KeyEntry → KeyEntry
 next_entry now k = record k { current = k.current + 1; updated = now }
 
--- the table with one more version of a name, and without those that the limit does not leave
+-- the table with the current version of a name, made when its key was updated, and without those that the limit does
+-- not leave
+abbrev pub with_current : Table → Text → KeyEntry → ℕ → Text → Table
+with_current rows name k limit object =
+    pruned (with_row (with_row rows kind.KvVersion (version_key name k.current)
+    (version_row (new_version k.updated object))) kind.KvKey name (key_entry_row k))
+    name k.current limit
+
+-- the table with one more version of a name
 abbrev pub with_version : Table → Text → KeyEntry → ℕ → ℕ → Text → Table
-with_version rows name k limit now object =
-    pruned (with_row (with_row rows kind.KvVersion (version_key name (k.current + 1))
-    (version_row (new_version now object))) kind.KvKey name (key_entry_row (next_entry now k)))
-    name (k.current + 1) limit
+with_version rows name k limit now object = with_current rows name (next_entry now k) limit object
 
 -- the number that a write gave, the custom metadata of the key, by name, and the next rows
 pub record WrittenRows : Type 0 where

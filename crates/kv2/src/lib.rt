@@ -33,4 +33,4 @@ pub use secret_metadata::{SecretMetadata, VersionMetadata};
 pub use secret_settings::SecretSettings;
 pub use secret_version::{FoundVersion, SecretVersion, WrittenVersion};
 pub use settings::{config, set_config};
-pub use writing::write;
+pub use writing::{NewVersion, write};

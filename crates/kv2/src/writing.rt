@@ -34,6 +34,15 @@ use std::alloc::Global;
 /// How many versions of a secret are kept if no setting says it.
 const VERSIONS_KEPT: u64 = 10;
 
+/// An object that is written as the next version of a secret.
+#[derive(Clone, Copy)]
+pub struct NewVersion<'o> {
+    /// The version that it follows, 0 for a secret without versions; none if it may follow any.
+    pub cas: Option<u64>,
+    /// Its compact text.
+    pub object: &'o str,
+}
+
 /// The key, or a new one without versions and settings. No memory is taken.
 pub(crate) fn key_or_new(alloc: Global, found: Option<KeyRecord>, now: u64) -> KeyRecord
     ensures key { result ≡ unwrap_or found (rows.new_entry now) }
@@ -96,47 +105,51 @@ fn versions_kept(mount: &MountRecord, key: &KeyRecord) -> u64
     }
 }
 
-/// Puts one more version and the key, and removes the versions that the limit does not leave. It answers the key as
-/// it is then.
-fn put_version<T: RecordsTx>(
-    alloc: Global,
-    tx: &mut T,
-    name: &str,
-    key: KeyRecord,
-    limit: u64,
-    now: u64,
-    object: &str,
-) -> Result<KeyRecord, Fault>
+/// The key of a secret after one more version at a moment.
+fn next_key(key: KeyRecord, now: u64) -> KeyRecord
     requires room { key.current < greatest_version }
     requires kept { IsKeyInRange key }
     requires moment { IsMoment now }
-    requires short { length object.now < 2 ^ 32 }
-    ensures rows { IsHonest (T.seen tx.new) → OnOk result (table (T.seen tx.new)
-        ≡ rows.with_version (table (T.seen tx.old)) name.now key limit now object.now) }
-    ensures answer { IfOk result (λ k. k ≡ rows.next_entry now key) }
-    ensures call { IsCall (T.seen tx.old) (T.seen tx.new) result IsMemoryOrStorage }
+    ensures key { result ≡ rows.next_entry now key }
+    ensures in_range { IsKeyInRange result }
 {
-    let number = key.current + 1;
-    let version = VersionRecord {
-        created: now,
-        deleted: None,
-        secret: Some(object),
-    };
-    let next = KeyRecord {
-        current: number,
+    KeyRecord {
+        current: key.current + 1,
         created: key.created,
         updated: now,
         cas_required: key.cas_required,
         max_versions: key.max_versions,
         custom_metadata: key.custom_metadata,
+    }
+}
+
+/// Puts a key and its current version, which was made when the key was updated, and removes the versions that the
+/// limit does not leave.
+fn put_version<T: RecordsTx>(
+    alloc: Global,
+    tx: &mut T,
+    name: &str,
+    key: &KeyRecord,
+    limit: u64,
+    object: &str,
+) -> Result<(), Fault>
+    requires kept { IsKeyInRange key.now }
+    requires short { length object.now < 2 ^ 32 }
+    ensures rows { IsHonest (T.seen tx.new) → OnOk result (table (T.seen tx.new)
+        ≡ rows.with_current (table (T.seen tx.old)) name.now key.now limit object.now) }
+    ensures call { IsCall (T.seen tx.old) (T.seen tx.new) result IsMemoryOrStorage }
+{
+    let version = VersionRecord {
+        created: key.updated,
+        deleted: None,
+        secret: Some(object),
     };
-    let place = version_key(alloc, name, number)?;
+    let place = version_key(alloc, name, key.current)?;
     let version_row = write_version(alloc, &version)?;
-    let key_row = write_key(alloc, &next)?;
+    let key_row = write_key(alloc, key)?;
     tx.put(Kind::KvVersion, place.as_str(), version_row)?;
     tx.put(Kind::KvKey, name, key_row)?;
-    prune(alloc, tx, name, number, limit)?;
-    Ok(next)
+    prune(alloc, tx, name, key.current, limit)
 }
 
 /// The write of an object at a moment, in seconds since 1970-01-01T00:00:00Z, over the rows of a mount and of a
@@ -147,17 +160,16 @@ fn write_named<T: RecordsTx>(
     now: u64,
     mount: &str,
     name: &str,
-    cas: Option<u64>,
-    object: &str,
+    version: NewVersion<'_>,
 ) -> Result<WrittenVersion, RequestError>
     requires moment { IsMoment now }
-    requires short { length object.now < 2 ^ 32 }
+    requires short { length version.object.now < 2 ^ 32 }
     ensures rows { IsHonest (T.seen tx.new) → (m : Option Mount) (k : Option KeyEntry)
         → HasMount (table (T.seen tx.old)) mount.now m
         → (m ≢ None → HasKey (table (T.seen tx.old)) name.now k)
         → Ends (λ v w. (v.number ≡ w.number) × (v.custom_metadata ≡ w.custom_metadata)
         × (table (T.seen tx.new) ≡ w.rows)) ⊤ result
-        (rows.write (table (T.seen tx.old)) m k name.now now cas object.now) }
+        (rows.write (table (T.seen tx.old)) m k name.now now version.entry.cas version.entry.object.now) }
     ensures refused { IsHonest (T.seen tx.new) → OnRefused result ((T.seen tx.new).rows ≡ (T.seen tx.old).rows) }
     ensures readable { IsHonest (T.seen tx.new)
         → OnAnswer result (AreReadableToWrite (table (T.seen tx.old)) mount.now name.now) }
@@ -169,9 +181,10 @@ fn write_named<T: RecordsTx>(
     let found = find_key(alloc, tx, name)?;
     let key = key_or_new(alloc, found, now);
     let required = is_required(&settings, &key);
-    check(required, key.current, cas)?;
+    check(required, key.current, version.cas)?;
     let limit = versions_kept(&settings, &key);
-    let next = put_version(alloc, tx, name, key, limit, now, object)?;
+    let next = next_key(key, now);
+    put_version(alloc, tx, name, &next, limit, version.object)?;
     Ok(WrittenVersion {
         number: next.current,
         custom_metadata: next.custom_metadata,
@@ -179,33 +192,33 @@ fn write_named<T: RecordsTx>(
 }
 
 /// Writes the compact text of an object as the next version of the secret at a path of a mount, and answers that
-/// version, with the secret's custom metadata. `cas` is the version that the write follows, 0 for a secret without
-/// versions. It is refused, in this order, if the mount is not there, if `cas` is missing though the secret or the
-/// mount requires it, if it is not the current version, and if there is no number for one more version. It fails as
-/// `Damaged` if a row that it reads is not one of a mount or of a key, and also if memory runs out or the storage
-/// fails (Vault's documentation, "KV secrets engine - version 2 (API)", create/update secret).
+/// version, with the secret's custom metadata. It is refused, in this order, if the mount is not there, if `cas` is
+/// missing though the secret or the mount requires it, if it is not the current version, and if there is no number
+/// for one more version. It fails as `Damaged` if a row that it reads is not one of a mount or of a key, and also if
+/// memory runs out or the storage fails (Vault's documentation, "KV secrets engine - version 2 (API)", create/update
+/// secret).
 pub fn write<T: RecordsTx>(
     alloc: Global,
     tx: &mut T,
     now: Moment,
     mount: &str,
     path: &str,
-    cas: Option<u64>,
-    object: &str,
+    version: NewVersion<'_>,
 ) -> Result<WrittenVersion, RequestError>
-    requires { length object.now < 2 ^ 32 }
+    requires { length version.object.now < 2 ^ 32 }
     ensures rows { IsHonest (T.seen tx.new) → (m : Option Mount) (k : Option KeyEntry)
         → HasMount (table (T.seen tx.old)) mount.now m
         → (m ≢ None → HasKey (table (T.seen tx.old)) (secrets.secret_name mount.now path.now) k)
         → Ends (λ v w. (v.number ≡ w.number) × (v.custom_metadata ≡ w.custom_metadata)
         × (table (T.seen tx.new) ≡ w.rows)) ⊤ result
-        (rows.write (table (T.seen tx.old)) m k (secrets.secret_name mount.now path.now) now cas object.now) }
+        (rows.write (table (T.seen tx.old)) m k (secrets.secret_name mount.now path.now) now version.entry.cas
+        version.entry.object.now) }
     ensures told { IsHonest (T.seen tx.new) → (forms : Forms) (b : Broker) → SoundSecrets forms b.secrets
         → SoundMounts b.mounts → Tells of_secrets (table (T.seen tx.old)) b
         → Tells of_mounts (table (T.seen tx.old)) b → now ≡ b.clock → IsPathText path.now
         → Ends (λ v w. (v.number ≡ w.number) × (v.custom_metadata ≡ w.custom_metadata)
         × Tells of_secrets (table (T.seen tx.new)) w.next) ⊤ result
-        (secrets.write b mount.now path.now cas object.now) }
+        (secrets.write b mount.now path.now version.entry.cas version.entry.object.now) }
     ensures refused { IsHonest (T.seen tx.new) → OnRefused result ((T.seen tx.new).rows ≡ (T.seen tx.old).rows) }
     // Whatever the rows are: with a damaged row there is no answer, and no refusal.
     ensures readable { IsHonest (T.seen tx.new) → OnAnswer result (AreReadableToWrite
@@ -216,5 +229,5 @@ pub fn write<T: RecordsTx>(
     versions_have_keys();
     let now = now.seconds();
     let name = secret_name(alloc, mount, path)?;
-    write_named(alloc, tx, now, mount, name.as_str(), cas, object)
+    write_named(alloc, tx, now, mount, name.as_str(), version)
 }

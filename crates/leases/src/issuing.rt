@@ -26,15 +26,6 @@ use broker_types::{Fault, Moment, Reason, Refusal, RequestError, TextBuf};
 use records::{Due, Kind, LeaseRecord, RecordsTx, RoleRecord, write_credential, write_lease};
 use std::alloc::Global;
 
-/// Who asks for a credential.
-#[derive(Clone, Copy)]
-pub struct Caller<'c> {
-    /// The token.
-    pub token: &'c str,
-    /// Whether it has no uses left after this request.
-    pub is_last_use: bool,
-}
-
 /// Two new identifiers for a lease.
 #[derive(Clone, Copy)]
 pub struct Names<'n> {
@@ -42,6 +33,17 @@ pub struct Names<'n> {
     pub lease: &'n str,
     /// Its credential.
     pub credential: &'n str,
+}
+
+/// Who asks for a credential, and the identifiers that its lease gets.
+#[derive(Clone, Copy)]
+pub struct LeaseRequest<'r> {
+    /// The token that asks.
+    pub token: &'r str,
+    /// Whether it has no uses left after this request.
+    pub is_last_use: bool,
+    /// What the lease is named.
+    pub names: Names<'r>,
 }
 
 /// Makes a lease of a token. Neither its identifier nor its credential was given out before. It fails only if memory
@@ -96,28 +98,27 @@ pub fn creds<T: RecordsTx>(
     alloc: Global,
     tx: &mut T,
     now: Moment,
-    caller: Caller<'_>,
     mount: &str,
     name: &str,
-    names: Names<'_>,
+    asked: LeaseRequest<'_>,
 ) -> Result<IssuedLease, RequestError>
-    requires { length names.credential.now < 2 ^ 32 }
+    requires { length asked.names.credential.now < 2 ^ 32 }
     ensures rows { IsHonest (T.seen tx.new) → (o : Option Role) → IsRoleAt (table (T.seen tx.old)) mount.now name.now o
         → Ends (λ x i. (x ≡ (i.lease_id, i.lease.ttl))
-        × (table (T.seen tx.new) ≡ with_lease (table (T.seen tx.old)) caller.entry.token.now i))
+        × (table (T.seen tx.new) ≡ with_lease (table (T.seen tx.old)) asked.entry.token.now i))
         ((T.seen tx.new).rows ≡ (T.seen tx.old).rows) result
-        (roles.issued o caller.entry.is_last_use now mount.now name.now names.entry.lease.now
-        names.entry.credential.now) }
+        (roles.issued o asked.entry.is_last_use now mount.now name.now asked.entry.names.lease.now
+        asked.entry.names.credential.now) }
     ensures told { OfEachBroker (λ _. RepresentsLeases) (T.seen tx.old) (T.seen tx.new) (λ b. SoundRoles b.roles
         → Tells of_roles (table (T.seen tx.old)) b → now ≡ b.clock
-        → caller.entry.is_last_use ≡ roles.is_last_use b caller.entry.token.now
-        → get b.tokens caller.entry.token.now ≢ None → AllUsed b
-        → IsNew b (lease_identifier (roles.lease_id mount.now name.now names.entry.lease.now))
-        → IsNew b names.entry.credential.now
+        → asked.entry.is_last_use ≡ roles.is_last_use b asked.entry.token.now
+        → get b.tokens asked.entry.token.now ≢ None → AllUsed b
+        → IsNew b (lease_identifier (roles.lease_id mount.now name.now asked.entry.names.lease.now))
+        → IsNew b asked.entry.names.credential.now
         → Ends (λ x i. (x ≡ (i.lease_id, i.lease.ttl)) × Tells of_leases (table (T.seen tx.new)) i.next)
         ((T.seen tx.new).rows ≡ (T.seen tx.old).rows) result
-        (roles.creds b caller.entry.token.now mount.now name.now names.entry.lease.now
-        names.entry.credential.now)) }
+        (roles.creds b asked.entry.token.now mount.now name.now asked.entry.names.lease.now
+        asked.entry.names.credential.now)) }
     // Whatever the rows are: with a damaged row there is no answer, and no refusal.
     ensures readable { IsHonest (T.seen tx.new)
         → OnAnswer result (IsReadableRole (table (T.seen tx.old)) mount.now name.now) }
@@ -128,13 +129,13 @@ pub fn creds<T: RecordsTx>(
     let Some(found) = role(alloc, tx, mount, name)? else {
         return Err(RequestError::Refused(Refusal::NotFound));
     };
-    if caller.is_last_use {
+    if asked.is_last_use {
         return Err(RequestError::Refused(Refusal::BadRequest(Reason::LastUseTakesLease)));
     }
-    let lease = new_lease(&found, now, names.credential);
+    let lease = new_lease(&found, now, asked.names.credential);
     let ttl = lease.ttl;
-    let id = lease_id(alloc, mount, name, names.lease)?;
-    issue(alloc, tx, caller.token, id.as_str(), &lease)?;
+    let id = lease_id(alloc, mount, name, asked.names.lease)?;
+    issue(alloc, tx, asked.token, id.as_str(), &lease)?;
     Ok(IssuedLease {
         lease_id: TextBuf::new(id),
         ttl,

@@ -16,7 +16,7 @@ mod sweeping;
 mod times;
 
 pub use issued_lease::IssuedLease;
-pub use issuing::{Caller, Names, creds, issue};
+pub use issuing::{LeaseRequest, Names, creds, issue};
 pub use laws::{
     edits_evolve, edits_keep_soundness, edits_show_in_leases, ends_add_up, leases_are_bounded,
     leases_can_be_read, leases_go_with_tokens,

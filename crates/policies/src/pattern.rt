@@ -17,7 +17,9 @@ pub enum Pattern {
     Prefix(TextBuf),
 }
 
-/// How early a pattern is tried at a path, as a number that is greater the earlier it is; 0 if it does not match.
+/// How early a pattern is tried at a path: how many of those that can match are left then, itself among them; 0 if it
+/// does not match. LIST tries the path with a slash, the path, and each text that the path with a slash begins with,
+/// the longest first; the other verbs try the path, and each text that it begins with.
 #[tactic(auto, using(crate::proofs::Places::exact_placed, crate::proofs::Places::prefix_placed))]
 pub(crate) fn place(verb: Verb, path: &str, pattern: &Pattern) -> usize
     ensures { result ≡ place (tried verb path.now) pattern.now }

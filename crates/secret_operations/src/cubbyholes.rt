@@ -69,7 +69,6 @@ fn read_write(alloc: Global, body: &[u8]) -> Result<CubbyholeCommand, RequestErr
 /// out, with `Storage` if the transaction's storage failed, and with `Damaged` if a row that it asks for cannot be
 /// read.
 pub fn act_on_cubbyholes<T: RecordsTx>(
-    alloc: Global,
     tx: &mut T,
     context: &Context<'_>,
     caller: &str,
@@ -91,19 +90,24 @@ pub fn act_on_cubbyholes<T: RecordsTx>(
     ensures call { IsRequestCall (T.seen tx.old) (T.seen tx.new) result IsNotBadStart }
 {
     match command {
-        CubbyholeCommand::Read => read(alloc, tx, context, caller, path),
-        CubbyholeCommand::List => list(alloc, tx, context, caller, path),
+        CubbyholeCommand::Read => read(tx, context, caller, path),
+        CubbyholeCommand::List => list(tx, context, caller, path),
         CubbyholeCommand::Write(None) => {
             Err(RequestError::Refused(Refusal::BadRequest(Reason::MissingData)))
         }
-        CubbyholeCommand::Write(Some(text)) => write(alloc, tx, caller, path, text.as_str()),
-        CubbyholeCommand::Delete => delete(alloc, tx, caller, path),
+        CubbyholeCommand::Write(Some(text)) => write(
+            context.alloc,
+            tx,
+            caller,
+            path,
+            text.as_str(),
+        ),
+        CubbyholeCommand::Delete => delete(context.alloc, tx, caller, path),
     }
 }
 
 /// Reads a path of the caller's cubbyhole.
 fn read<T: RecordsTx>(
-    alloc: Global,
     tx: &mut T,
     context: &Context<'_>,
     caller: &str,
@@ -117,15 +121,14 @@ fn read<T: RecordsTx>(
         → OnAnswer result (IsReadableObject (T.seen tx.old).rows caller.now path.now) }
     ensures call { IsRequestReading (T.seen tx.old) (T.seen tx.new) result IsNotBadStart }
 {
-    let Some(object) = cubbyhole::read(alloc, tx, caller, path)? else {
+    let Some(object) = cubbyhole::read(context.alloc, tx, caller, path)? else {
         return Err(RequestError::Refused(Refusal::NotFound));
     };
-    Ok(Answered::shown(alloc, context, object)?)
+    Ok(Answered::shown(context, object)?)
 }
 
 /// Lists the objects and folders of a folder of the caller's cubbyhole, or of the whole cubbyhole at the empty path.
 fn list<T: RecordsTx>(
-    alloc: Global,
     tx: &mut T,
     context: &Context<'_>,
     caller: &str,
@@ -135,12 +138,12 @@ fn list<T: RecordsTx>(
         (λ b. part.act_on_cubbyhole b caller.now (names_of context.now.words) path.now commands.List) result }
     ensures call { IsRequestReading (T.seen tx.old) (T.seen tx.new) result IsNotBadStart }
 {
-    let names = cubbyhole::list(alloc, tx, caller, path)?;
+    let names = cubbyhole::list(context.alloc, tx, caller, path)?;
     if names.is_empty() {
         return Err(RequestError::Refused(Refusal::NotFound));
     }
-    let object = keys_object(alloc, &names)?;
-    Ok(Answered::shown(alloc, context, object)?)
+    let object = keys_object(context.alloc, &names)?;
+    Ok(Answered::shown(context, object)?)
 }
 
 /// Writes the text of an object to a path of the caller's cubbyhole.

@@ -75,7 +75,6 @@ fn read_credential(alloc: Global, body: &[u8]) -> Result<IssuedCommand, RequestE
 /// be refused. It fails with `Memory` if memory runs out, with `Storage` if the transaction's storage failed, and with
 /// `Damaged` if a row that it asks for cannot be read.
 pub fn act_on_issued<T: RecordsTx>(
-    alloc: Global,
     tx: &mut T,
     context: &Context<'_>,
     caller: &Caller<'_>,
@@ -103,10 +102,10 @@ pub fn act_on_issued<T: RecordsTx>(
     let mount = place.mount;
     let name = place.path;
     match command {
-        IssuedCommand::ShowRole => roles::show(alloc, tx, context, mount, name),
-        IssuedCommand::SetRole(asked) => roles::set(alloc, tx, mount, name, asked),
-        IssuedCommand::RemoveRole => roles::remove(alloc, tx, mount, name),
-        IssuedCommand::Issue => credentials::issue(alloc, tx, context, caller, own, mount, name),
-        IssuedCommand::Verify(text) => credentials::verify(alloc, tx, context, text.as_str()),
+        IssuedCommand::ShowRole => roles::show(tx, context, mount, name),
+        IssuedCommand::SetRole(asked) => roles::set(context.alloc, tx, mount, name, asked),
+        IssuedCommand::RemoveRole => roles::remove(context.alloc, tx, mount, name),
+        IssuedCommand::Issue => credentials::issue(tx, context, caller, own, mount, name),
+        IssuedCommand::Verify(text) => credentials::verify(tx, context, text.as_str()),
     }
 }

@@ -119,7 +119,6 @@ fn read_versions(alloc: Global, body: &[u8]) -> Result<Counts, RequestError>
 /// Carries out a command on a place of secrets. It may be refused. It fails with `Memory` if memory runs out, with
 /// `Storage` if the transaction's storage failed, and with `Damaged` if a row that it asks for cannot be read.
 pub fn act_on_secrets<T: RecordsTx>(
-    alloc: Global,
     tx: &mut T,
     context: &Context<'_>,
     place: &Place<'_>,
@@ -140,14 +139,15 @@ pub fn act_on_secrets<T: RecordsTx>(
         → OnAnswer result (Changes (secret_changes command) (T.seen tx.old).rows (T.seen tx.new).rows) }
     ensures call { IsRequestCall (T.seen tx.old) (T.seen tx.new) result IsNotBadStart }
 {
+    let alloc = context.alloc;
     let mount = place.mount;
     let path = place.path;
     match command {
-        SecretCommand::ShowSettings => settings::show(alloc, tx, context, mount),
+        SecretCommand::ShowSettings => settings::show(tx, context, mount),
         SecretCommand::SetSettings(asked) => settings::set(alloc, tx, mount, asked),
-        SecretCommand::Read(number) => versions::read(alloc, tx, context, mount, path, number),
-        SecretCommand::Write(asked) => versions::write(alloc, tx, context, mount, path, asked),
-        SecretCommand::DeleteCurrent => changes::delete_current(alloc, tx, context, mount, path),
+        SecretCommand::Read(number) => versions::read(tx, context, mount, path, number),
+        SecretCommand::Write(asked) => versions::write(tx, context, mount, path, asked),
+        SecretCommand::DeleteCurrent => changes::delete_current(tx, context, mount, path),
         SecretCommand::Delete(numbers) => {
             let deleted = Change::Delete(context.clock);
             changes::change_versions(alloc, tx, mount, path, numbers.as_slice(), deleted)
@@ -158,9 +158,9 @@ pub fn act_on_secrets<T: RecordsTx>(
         SecretCommand::Destroy(numbers) => {
             changes::change_versions(alloc, tx, mount, path, numbers.as_slice(), Change::Destroy)
         }
-        SecretCommand::ShowMetadata => metadata::show(alloc, tx, context, mount, path),
-        SecretCommand::SetMetadata(asked) => metadata::set(alloc, tx, context, mount, path, asked),
+        SecretCommand::ShowMetadata => metadata::show(tx, context, mount, path),
+        SecretCommand::SetMetadata(asked) => metadata::set(tx, context, mount, path, asked),
         SecretCommand::Remove => changes::remove(alloc, tx, mount, path),
-        SecretCommand::List => metadata::list(alloc, tx, context, mount, path),
+        SecretCommand::List => metadata::list(tx, context, mount, path),
     }
 }

@@ -62,7 +62,6 @@ fn read_set(alloc: Global, body: &[u8]) -> Result<PolicyCommand, RequestError>
 /// Carries out a command on policies, at the name of one. It may be refused. It fails with `Memory` if memory runs out,
 /// with `Storage` if the transaction's storage failed, and with `Damaged` if a row that it asks for cannot be read.
 pub fn act_on_policies<T: RecordsTx>(
-    alloc: Global,
     tx: &mut T,
     context: &Context<'_>,
     name: &str,
@@ -82,31 +81,26 @@ pub fn act_on_policies<T: RecordsTx>(
     ensures call { IsRequestCall (T.seen tx.old) (T.seen tx.new) result IsNotBadStart }
 {
     match command {
-        PolicyCommand::List => list(alloc, tx, context),
-        PolicyCommand::Show => show(alloc, tx, context, name),
-        PolicyCommand::Set(text) => set(alloc, tx, name, text.as_str()),
+        PolicyCommand::List => list(tx, context),
+        PolicyCommand::Show => show(tx, context, name),
+        PolicyCommand::Set(text) => set(context.alloc, tx, name, text.as_str()),
         PolicyCommand::Remove => remove(tx, name),
     }
 }
 
 /// Lists the names of all policies.
-fn list<T: RecordsTx>(
-    alloc: Global,
-    tx: &mut T,
-    context: &Context<'_>,
-) -> Result<Answered, RequestError>
+fn list<T: RecordsTx>(tx: &mut T, context: &Context<'_>) -> Result<Answered, RequestError>
     ensures told { (who : Option Text) → Performs who context.now [] (T.seen tx.old) (T.seen tx.new)
         (λ b. part.list b (names_of context.now.words)) result }
     ensures call { IsRequestReading (T.seen tx.old) (T.seen tx.new) result IsNotBadStart }
 {
-    let names = policies::list(alloc, tx)?;
-    let object = keys_object(alloc, &names)?;
-    Ok(Answered::shown(alloc, context, object)?)
+    let names = policies::list(context.alloc, tx)?;
+    let object = keys_object(context.alloc, &names)?;
+    Ok(Answered::shown(context, object)?)
 }
 
 /// Shows a policy with its text.
 fn show<T: RecordsTx>(
-    alloc: Global,
     tx: &mut T,
     context: &Context<'_>,
     name: &str,
@@ -119,11 +113,11 @@ fn show<T: RecordsTx>(
         → OnAnswer result (IsReadablePolicy (T.seen tx.old).rows name.now) }
     ensures call { IsRequestReading (T.seen tx.old) (T.seen tx.new) result IsNotBadStart }
 {
-    let Some(text) = policies::get(alloc, tx, name)? else {
+    let Some(text) = policies::get(context.alloc, tx, name)? else {
         return Err(RequestError::Refused(Refusal::NotFound));
     };
-    let object = policy_object(alloc, name, text.as_str())?;
-    Ok(Answered::shown(alloc, context, object)?)
+    let object = policy_object(context.alloc, name, text.as_str())?;
+    Ok(Answered::shown(context, object)?)
 }
 
 /// Sets a policy to a text.

@@ -61,7 +61,6 @@ fn read_enable(alloc: Global, body: &[u8]) -> Result<MountCommand, RequestError>
 /// Carries out a command on mounts, at the name of one. It may be refused. It fails with `Memory` if memory runs out,
 /// with `Storage` if the transaction's storage failed, and with `Damaged` if a row that it asks for cannot be read.
 pub fn act_on_mounts<T: RecordsTx>(
-    alloc: Global,
     tx: &mut T,
     context: &Context<'_>,
     name: &str,
@@ -80,18 +79,14 @@ pub fn act_on_mounts<T: RecordsTx>(
     ensures call { IsRequestCall (T.seen tx.old) (T.seen tx.new) result IsNotBadStart }
 {
     match command {
-        MountCommand::List => list(alloc, tx, context),
-        MountCommand::Enable(asked) => enable(alloc, tx, name, asked),
-        MountCommand::Disable => disable(alloc, tx, name),
+        MountCommand::List => list(tx, context),
+        MountCommand::Enable(asked) => enable(context.alloc, tx, name, asked),
+        MountCommand::Disable => disable(context.alloc, tx, name),
     }
 }
 
 /// Lists all mounts.
-fn list<T: RecordsTx>(
-    alloc: Global,
-    tx: &mut T,
-    context: &Context<'_>,
-) -> Result<Answered, RequestError>
+fn list<T: RecordsTx>(tx: &mut T, context: &Context<'_>) -> Result<Answered, RequestError>
     ensures told { (who : Option Text) → Performs who context.now [] (T.seen tx.old) (T.seen tx.new)
         (λ b. Ok (part.list b (names_of context.now.words))) result }
 
@@ -100,10 +95,11 @@ fn list<T: RecordsTx>(
         → OnAnswer result (All (λ e. IsMountRow e.1) (rows_under (T.seen tx.old).rows kind.Mount [])) }
     ensures call { IsRequestReading (T.seen tx.old) (T.seen tx.new) result IsNotBadStart }
 {
+    let alloc = context.alloc;
     let mounts = mounts::list(alloc, tx)?;
     let objects = all_shown(alloc, &mounts)?;
     let object = mounts_object(alloc, &objects)?;
-    Ok(Answered::shown(alloc, context, object)?)
+    Ok(Answered::shown(context, object)?)
 }
 
 /// Mounts as a reply prints them.

@@ -100,7 +100,6 @@ fn client_token(alloc: Global, client: &Option<CowText<'_>>) -> Result<Option<Te
 /// not valid or does not exist`. It fails with `Memory` if memory runs out, with `Storage` if the transaction's storage
 /// failed, and with `Damaged` if the row of the response cannot be read (Vault's documentation, "/sys/wrapping").
 pub fn act_on_wrappings<T: RecordsTx>(
-    alloc: Global,
     tx: &mut T,
     context: &Context<'_>,
     own: &[TextBuf],
@@ -125,10 +124,10 @@ pub fn act_on_wrappings<T: RecordsTx>(
     ensures call { IsRequestCall (T.seen tx.old) (T.seen tx.new) result IsNotBadStart }
 {
     match command {
-        WrappingCommand::Wrap(text) => Ok(Answered::shown(alloc, context, text)?),
-        WrappingCommand::LookUp(Some(token)) => look_up(alloc, tx, context, token.as_str()),
-        WrappingCommand::Rewrap(Some(token)) => rewrap(alloc, tx, context, own, token.as_str()),
-        WrappingCommand::Unwrap(Some(token)) => unwrap(alloc, tx, token.as_str()),
+        WrappingCommand::Wrap(text) => Ok(Answered::shown(context, text)?),
+        WrappingCommand::LookUp(Some(token)) => look_up(tx, context, token.as_str()),
+        WrappingCommand::Rewrap(Some(token)) => rewrap(tx, context, own, token.as_str()),
+        WrappingCommand::Unwrap(Some(token)) => unwrap(context.alloc, tx, token.as_str()),
         WrappingCommand::LookUp(None) => Err(NOT_WAITING),
         WrappingCommand::Rewrap(None) => Err(NOT_WAITING),
         WrappingCommand::Unwrap(None) => Err(NOT_WAITING),
@@ -137,7 +136,6 @@ pub fn act_on_wrappings<T: RecordsTx>(
 
 /// Shows the response that waits under a wrapping token, without its text. It stays.
 fn look_up<T: RecordsTx>(
-    alloc: Global,
     tx: &mut T,
     context: &Context<'_>,
     token: &str,
@@ -152,18 +150,17 @@ fn look_up<T: RecordsTx>(
     ensures refused { IsHonest (T.seen tx.new) → OnRefused result ((T.seen tx.new).rows ≡ (T.seen tx.old).rows) }
     ensures call { IsRequestReading (T.seen tx.old) (T.seen tx.new) result IsNotBadStart }
 {
-    let Some(response) = look(alloc, tx, token)? else {
+    let Some(response) = look(context.alloc, tx, token)? else {
         return Err(NOT_WAITING);
     };
     let created = moment(response.created);
-    let object = waiting_object(alloc, response.path.as_str(), created, response.ttl)?;
-    Ok(Answered::shown(alloc, context, object)?)
+    let object = waiting_object(context.alloc, response.path.as_str(), created, response.ttl)?;
+    Ok(Answered::shown(context, object)?)
 }
 
 /// Moves the response that waits under a wrapping token to the one of the request's words, and answers with that. The
 /// old wrapping token is not good any more. The identifiers of the new one are new, and have been printed.
 fn rewrap<T: RecordsTx>(
-    alloc: Global,
     tx: &mut T,
     context: &Context<'_>,
     own: &[TextBuf],
@@ -182,8 +179,9 @@ fn rewrap<T: RecordsTx>(
     ensures refused { IsHonest (T.seen tx.new) → OnRefused result ((T.seen tx.new).rows ≡ (T.seen tx.old).rows) }
     ensures call { IsRequestCall (T.seen tx.old) (T.seen tx.new) result IsNotBadStart }
 {
+    let alloc = context.alloc;
     let new_token = TokenText::of_word(alloc, context.words.wrapping_token())?;
-    let Some(response) = move_response(alloc, tx, context, own, token, new_token.as_str())? else {
+    let Some(response) = move_response(tx, context, own, token, new_token.as_str())? else {
         return Err(NOT_WAITING);
     };
     let token = TextBuf::copied(alloc, new_token.as_str())?;
@@ -195,7 +193,6 @@ fn rewrap<T: RecordsTx>(
 /// Moves the response that waits under a wrapping token to another, marks the identifiers of this one as given out, and
 /// answers the response as it waits there. If none waits under the token, nothing changes.
 fn move_response<T: RecordsTx>(
-    alloc: Global,
     tx: &mut T,
     context: &Context<'_>,
     own: &[TextBuf],
@@ -216,6 +213,7 @@ fn move_response<T: RecordsTx>(
         → Begins who context.now (T.seen tx.old).rows b → IfErr result IsMemoryOrStorage }
     ensures call { IsCall (T.seen tx.old) (T.seen tx.new) result IsNotBadStart }
 {
+    let alloc = context.alloc;
     wrapping_commands_are_proper();
     let identifier = own[0].as_str();
     let accessor = own[1].as_str();

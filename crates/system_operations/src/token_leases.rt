@@ -55,7 +55,6 @@ pub fn read_lease_command(
 /// Carries out a command on leases, below a prefix. It may be refused. It fails with `Memory` if memory runs out, with
 /// `Storage` if the transaction's storage failed, and with `Damaged` if a row that it asks for cannot be read.
 pub fn act_on_leases<T: RecordsTx>(
-    alloc: Global,
     tx: &mut T,
     context: &Context<'_>,
     prefix: &str,
@@ -74,16 +73,15 @@ pub fn act_on_leases<T: RecordsTx>(
     ensures call { IsRequestCall (T.seen tx.old) (T.seen tx.new) result IsNotBadStart }
 {
     match command {
-        LeaseCommand::LookUp(lease_id) => look_up(alloc, tx, context, lease_id),
-        LeaseCommand::Renew(asked) => renew(alloc, tx, context, asked),
+        LeaseCommand::LookUp(lease_id) => look_up(tx, context, lease_id),
+        LeaseCommand::Renew(asked) => renew(tx, context, asked),
         LeaseCommand::Revoke(lease_id) => revoke(tx, lease_id.as_str()),
-        LeaseCommand::RevokeUnder => revoke_under(alloc, tx, prefix),
+        LeaseCommand::RevokeUnder => revoke_under(context.alloc, tx, prefix),
     }
 }
 
 /// Shows the lease of an id. An unknown one is 400 `invalid lease`.
 fn look_up<T: RecordsTx>(
-    alloc: Global,
     tx: &mut T,
     context: &Context<'_>,
     lease_id: TextBuf,
@@ -97,13 +95,12 @@ fn look_up<T: RecordsTx>(
 {
     let times = leases::lookup(tx, lease_id.as_str())?;
     let lease = shown(context.clock, lease_id, &times);
-    let object = lease_object(alloc, &lease)?;
-    Ok(Answered::shown(alloc, context, object)?)
+    let object = lease_object(context.alloc, &lease)?;
+    Ok(Answered::shown(context, object)?)
 }
 
 /// Gives a lease another end. An unknown one is 400 `invalid lease`.
 fn renew<T: RecordsTx>(
-    alloc: Global,
     tx: &mut T,
     context: &Context<'_>,
     asked: LeaseRenewal,
@@ -120,6 +117,7 @@ fn renew<T: RecordsTx>(
         → OnAnswer result (ChangesOnly of_leases (T.seen tx.old).rows (T.seen tx.new).rows) }
     ensures call { IsRequestCall (T.seen tx.old) (T.seen tx.new) result IsNotBadStart }
 {
+    let alloc = context.alloc;
     let ends = leases::renew(
         alloc,
         tx,

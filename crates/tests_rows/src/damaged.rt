@@ -110,7 +110,11 @@ fn expect_damaged_mounts(rt: &(impl Abort + AllocGlobal), body: &str) -> Result<
     let set = kv2::set_config(alloc, &mut tx, "team", None, Some(3));
     assert!(rt; matches!(set, Err(Fault::Damaged)));
     let now = Moment::new(1000).ok_or("no moment")?;
-    let written = kv2::write(alloc, &mut tx, now, "team", "a", None, "{}");
+    let version = kv2::NewVersion {
+        cas: None,
+        object: "{}",
+    };
+    let written = kv2::write(alloc, &mut tx, now, "team", "a", version);
     assert!(rt; matches!(written, Err(RequestError::Fault(Fault::Damaged))));
     Ok(())
 }

@@ -3,8 +3,8 @@
 use crate::unlisted::Unlisted;
 use broker_types::{Bytes, Fault, Moment, Reason, Refusal, RequestError, Seconds, TextBuf};
 use leases::{
-    Caller, Names, creds, drop_owner, drop_owners, drop_roles, end_due, issue, lookup, remove_role,
-    renew, revoke, revoke_under, role, set_role, sweep_leases, verify,
+    LeaseRequest, Names, creds, drop_owner, drop_owners, drop_roles, end_due, issue, lookup,
+    remove_role, renew, revoke, revoke_under, role, set_role, sweep_leases, verify,
 };
 use records::{Due, Kind, LeaseRecord, ListRecords, ListTx, RecordsTx, Row};
 use std::alloc::Global;
@@ -185,15 +185,15 @@ fn issued(
     let Some(now) = Moment::new(1000) else {
         return Ok(0);
     };
-    let caller = Caller {
+    let asked = LeaseRequest {
         token: "root",
         is_last_use,
+        names: Names {
+            lease: "one",
+            credential: "two",
+        },
     };
-    let names = Names {
-        lease: "one",
-        credential: "two",
-    };
-    let made = creds(alloc, tx, now, caller, "db", name, names)?;
+    let made = creds(alloc, tx, now, "db", name, asked)?;
     if made.lease_id.as_str() != "db/creds/r/one" {
         return Ok(0);
     }

@@ -3,8 +3,8 @@
 
 use broker_types::{Bytes, Fault, Moment, RequestError, TextBuf};
 use kv2::{
-    FoundVersion, SecretSettings, config, delete, delete_versions, destroy, drop_mount, is_there,
-    list, metadata, read, remove_key, set_config, set_metadata, undelete, write,
+    FoundVersion, NewVersion, SecretSettings, config, delete, delete_versions, destroy, drop_mount,
+    is_there, list, metadata, read, remove_key, set_config, set_metadata, undelete, write,
 };
 use records::{Engine, Kind, ListRecords, ListTx, MountRecord, RecordsTx, Row, write_mount};
 use std::alloc::{AllocError, Global};
@@ -35,7 +35,8 @@ fn moment(seconds: u64) -> Result<Moment, Fail> {
 
 /// The number that a write at second 1,000 answers.
 fn writes(rt: &HostRuntime, tx: &mut ListTx, path: &str, cas: Option<u64>) -> Result<u64, Fail> {
-    match write(rt.alloc(), tx, moment(1000)?, "secret", path, cas, ONE) {
+    let version = NewVersion { cas, object: ONE };
+    match write(rt.alloc(), tx, moment(1000)?, "secret", path, version) {
         Ok(written) => Ok(written.number),
         Err(_) => Err(Fail::from("no write")),
     }
@@ -100,7 +101,11 @@ fn a_secret_has_settings_of_its_own(rt: HostRuntime) -> Result<(), Fail> {
     };
     set_metadata(alloc, &mut tx, moment(900)?, "secret", "x", strict)?;
     assert!(rt; is_there(alloc, &mut tx, "secret", "x")?);
-    let refused = write(alloc, &mut tx, moment(1000)?, "secret", "x", None, ONE);
+    let version = NewVersion {
+        cas: None,
+        object: ONE,
+    };
+    let refused = write(alloc, &mut tx, moment(1000)?, "secret", "x", version);
     assert!(rt; matches!(refused, Err(RequestError::Refused(_))));
     assert!(rt; writes(&rt, &mut tx, "x", Some(0))? == 1);
     assert!(rt; writes(&rt, &mut tx, "x", Some(1))? == 2);
@@ -179,7 +184,11 @@ fn folders_are_listed_and_mounts_are_dropped(rt: HostRuntime) -> Result<(), Fail
     for path in &["c/d/e", "a/b", "a/c", "a"] {
         writes(&rt, &mut tx, path, None)?;
     }
-    write(alloc, &mut tx, moment(1000)?, "secret2", "z", None, ONE)?;
+    let version = NewVersion {
+        cas: None,
+        object: ONE,
+    };
+    write(alloc, &mut tx, moment(1000)?, "secret2", "z", version)?;
     assert!(rt; lists(&rt, &mut tx, "secret", "", &["a", "a/", "c/"])?);
     assert!(rt; lists(&rt, &mut tx, "secret", "a", &["b", "c"])?);
     remove_key(alloc, &mut tx, "secret", "a/b")?;

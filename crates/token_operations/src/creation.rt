@@ -30,12 +30,10 @@ use broker_rows::{Answered, Asker, Context, token_text, use_up};
 use broker_types::{Denial, Refusal, RequestError, TextBuf, Verb, id_text};
 use policies::{Capability, Rules, allows_with};
 use records::{RecordsTx, TokenRecord};
-use std::alloc::Global;
 use token_tree::create as create_token;
 
 /// Makes the token that is asked for, if the caller may. The identifiers of the request are new, and have been printed.
 pub(crate) fn create<T: RecordsTx>(
-    alloc: Global,
     tx: &mut T,
     context: &Context<'_>,
     asker: &Asker<'_>,
@@ -64,6 +62,7 @@ pub(crate) fn create<T: RecordsTx>(
     ensures refused { IsHonest (T.seen tx.new) → OnRefused result ((T.seen tx.new).rows ≡ (T.seen tx.old).rows) }
     ensures call { IsRequestCall (T.seen tx.old) (T.seen tx.new) result IsNotBadStart }
 {
+    let alloc = context.alloc;
     let caller = &asker.caller;
     if caller.token.is_empty() {
         return Err(RequestError::Refused(Refusal::Forbidden(Denial::BadToken)));
@@ -74,7 +73,7 @@ pub(crate) fn create<T: RecordsTx>(
     let parent = new_parent(alloc, caller.token, making, &asked)?;
     let accessor = TextBuf::copied(alloc, own[1].as_str())?;
     let token = new_record(alloc, context.clock, parent, accessor, policies, &asked)?;
-    put(alloc, tx, context, own[0].as_str(), token)
+    put(tx, context, own[0].as_str(), token)
 }
 
 /// Whether rules allow `sudo` for a write to the path of the route that makes the token. By it a caller may give more
@@ -87,7 +86,6 @@ fn has_sudo(rules: &Rules, making: Making) -> bool
 
 /// Writes a new token, and marks its identifiers as given out.
 fn put<T: RecordsTx>(
-    alloc: Global,
     tx: &mut T,
     context: &Context<'_>,
     identifier: &str,
@@ -106,6 +104,7 @@ fn put<T: RecordsTx>(
     ensures refused { IsHonest (T.seen tx.new) → OnRefused result ((T.seen tx.new).rows ≡ (T.seen tx.old).rows) }
     ensures call { IsRequestCall (T.seen tx.old) (T.seen tx.new) result IsNotBadStart }
 {
+    let alloc = context.alloc;
     let text = token_text(alloc, identifier)?;
     let request = id_text(alloc, context.words.request())?;
     let accessor = TextBuf::copied(alloc, token.accessor.as_str())?;

@@ -22,12 +22,11 @@ use api_json::{keys_object, token_object};
 use broker_rows::{Answered, Caller, Context};
 use broker_types::{Denial, Reason, Refusal, RequestError};
 use records::{RecordsTx, TokenRecord};
-use std::alloc::{AllocError, Global};
+use std::alloc::AllocError;
 use token_tree::{accessors, find, find_accessor};
 
 /// Shows a token under an id. One that is not there is 403 `bad token`.
 pub(crate) fn look_up<T: RecordsTx>(
-    alloc: Global,
     tx: &mut T,
     context: &Context<'_>,
     token: &str,
@@ -41,15 +40,14 @@ pub(crate) fn look_up<T: RecordsTx>(
         → OnAnswer result (IsReadableToken (T.seen tx.old).rows token.now) }
     ensures call { IsRequestReading (T.seen tx.old) (T.seen tx.new) result IsNotBadStart }
 {
-    let Some(found) = find(alloc, tx, token)? else {
+    let Some(found) = find(context.alloc, tx, token)? else {
         return Err(RequestError::Refused(Refusal::Forbidden(Denial::BadToken)));
     };
-    Ok(shown(alloc, context, found, id)?)
+    Ok(shown(context, found, id)?)
 }
 
 /// Shows the caller's token, by what is known of it.
 pub(crate) fn look_up_self(
-    alloc: Global,
     context: &Context<'_>,
     caller: &Caller<'_>,
 ) -> Result<Answered, AllocError>
@@ -57,29 +55,23 @@ pub(crate) fn look_up_self(
     ensures { IfOk result (λ a. answered_of a ≡ operation.reply
         (token_reply (names_of context.now.words).request context.now.clock caller.now.token caller.now.known) None) }
 {
-    let known = copied_token(alloc, &caller.known)?;
-    shown(alloc, context, known, caller.token)
+    let known = copied_token(context.alloc, &caller.known)?;
+    shown(context, known, caller.token)
 }
 
 /// Shows a token that was found under an id.
-fn shown(
-    alloc: Global,
-    context: &Context<'_>,
-    found: TokenRecord,
-    id: &str,
-) -> Result<Answered, AllocError>
+fn shown(context: &Context<'_>, found: TokenRecord, id: &str) -> Result<Answered, AllocError>
     requires { IsTokenInRange found }
     ensures { IfOk result (λ a. answered_of a ≡ operation.reply
         (token_reply (names_of context.now.words).request context.now.clock id.now found) None) }
 {
-    let token = looked_up(alloc, found, context.clock, id)?;
-    let object = token_object(alloc, &token)?;
-    Answered::shown(alloc, context, object)
+    let token = looked_up(context.alloc, found, context.clock, id)?;
+    let object = token_object(context.alloc, &token)?;
+    Answered::shown(context, object)
 }
 
 /// Shows the token of an accessor, without its text. An accessor of none is 400 `invalid accessor`.
 pub(crate) fn look_up_accessor<T: RecordsTx>(
-    alloc: Global,
     tx: &mut T,
     context: &Context<'_>,
     accessor: &str,
@@ -96,12 +88,11 @@ pub(crate) fn look_up_accessor<T: RecordsTx>(
     let Some(token) = find_accessor(tx, accessor)? else {
         return Err(RequestError::Refused(Refusal::BadRequest(Reason::InvalidAccessor)));
     };
-    look_up(alloc, tx, context, token.as_str(), "")
+    look_up(tx, context, token.as_str(), "")
 }
 
 /// Lists the accessors of all tokens.
 pub(crate) fn list_accessors<T: RecordsTx>(
-    alloc: Global,
     tx: &mut T,
     context: &Context<'_>,
 ) -> Result<Answered, RequestError>
@@ -112,7 +103,7 @@ pub(crate) fn list_accessors<T: RecordsTx>(
     ensures readable { IsHonest (T.seen tx.new) → OnAnswer result (AreAccessorRows (T.seen tx.old).rows) }
     ensures call { IsRequestReading (T.seen tx.old) (T.seen tx.new) result IsNotBadStart }
 {
-    let names = accessors(alloc, tx)?;
-    let object = keys_object(alloc, &names)?;
-    Ok(Answered::shown(alloc, context, object)?)
+    let names = accessors(context.alloc, tx)?;
+    let object = keys_object(context.alloc, &names)?;
+    Ok(Answered::shown(context, object)?)
 }

@@ -25,13 +25,11 @@ use crate::shown::auth_reply;
 use broker_rows::{Answered, Context};
 use broker_types::{Denial, Moment, Reason, Refusal, RequestError, Seconds, id_text};
 use records::{Due, RecordsTx, TokenRecord};
-use std::alloc::Global;
 use token_tree::{find, renew as renew_token};
 
 /// Gives a token its new end. One that is not there is 403 `bad token`, and one without an end is 400 `lease is not
 /// renewable`.
 pub(crate) fn renew<T: RecordsTx>(
-    alloc: Global,
     tx: &mut T,
     context: &Context<'_>,
     token: &str,
@@ -51,15 +49,14 @@ pub(crate) fn renew<T: RecordsTx>(
     ensures refused { IsHonest (T.seen tx.new) → OnRefused result ((T.seen tx.new).rows ≡ (T.seen tx.old).rows) }
     ensures call { IsRequestCall (T.seen tx.old) (T.seen tx.new) result IsNotBadStart }
 {
-    let Some(found) = find(alloc, tx, token)? else {
+    let Some(found) = find(context.alloc, tx, token)? else {
         return Err(RequestError::Refused(Refusal::Forbidden(Denial::BadToken)));
     };
-    renew_found(alloc, tx, context, token, found, increment)
+    renew_found(tx, context, token, found, increment)
 }
 
 /// Gives a token that was found, and whose row still says so, its new end.
 fn renew_found<T: RecordsTx>(
-    alloc: Global,
     tx: &mut T,
     context: &Context<'_>,
     token: &str,
@@ -79,6 +76,7 @@ fn renew_found<T: RecordsTx>(
     ensures refused { IsHonest (T.seen tx.new) → OnRefused result ((T.seen tx.new).rows ≡ (T.seen tx.old).rows) }
     ensures call { IsRequestCall (T.seen tx.old) (T.seen tx.new) result IsNotBadStart }
 {
+    let alloc = context.alloc;
     if found.ends.is_none() {
         return Err(RequestError::Refused(Refusal::BadRequest(Reason::TokenNotRenewable)));
     }

@@ -91,7 +91,6 @@ fn creation(alloc: Global, making: Making, body: &[u8]) -> Result<TokenCommand, 
 /// refused. It fails with `Memory` if memory runs out, with
 /// `Storage` if the transaction's storage failed, and with `Damaged` if a row that it asks for cannot be read.
 pub fn act_on_tokens<T: RecordsTx>(
-    alloc: Global,
     tx: &mut T,
     context: &Context<'_>,
     asker: &Asker<'_>,
@@ -122,25 +121,20 @@ pub fn act_on_tokens<T: RecordsTx>(
     ensures refused { IsHonest (T.seen tx.new) → OnRefused result ((T.seen tx.new).rows ≡ (T.seen tx.old).rows) }
     ensures call { IsRequestCall (T.seen tx.old) (T.seen tx.new) result IsNotBadStart }
 {
+    let alloc = context.alloc;
     match command {
-        TokenCommand::Create(making, asked) => create(
-            alloc, tx, context, asker, own, making, asked,
-        ),
-        TokenCommand::LookUp(token) => look_up(alloc, tx, context, token.as_str(), token.as_str()),
+        TokenCommand::Create(making, asked) => create(tx, context, asker, own, making, asked),
+        TokenCommand::LookUp(token) => look_up(tx, context, token.as_str(), token.as_str()),
         TokenCommand::LookUpAccessor(accessor) => {
-            look_up_accessor(alloc, tx, context, accessor.as_str())
+            look_up_accessor(tx, context, accessor.as_str())
         }
-        TokenCommand::LookUpSelf => Ok(look_up_self(alloc, context, &asker.caller)?),
-        TokenCommand::Renew(asked) => {
-            renew(alloc, tx, context, asked.token.as_str(), asked.increment)
-        }
-        TokenCommand::RenewSelf(increment) => {
-            renew(alloc, tx, context, asker.caller.token, increment)
-        }
+        TokenCommand::LookUpSelf => Ok(look_up_self(context, &asker.caller)?),
+        TokenCommand::Renew(asked) => { renew(tx, context, asked.token.as_str(), asked.increment) }
+        TokenCommand::RenewSelf(increment) => { renew(tx, context, asker.caller.token, increment) }
         TokenCommand::Revoke(token) => revoke(alloc, tx, token.as_str(), Descent::Ends),
         TokenCommand::RevokeOrphan(token) => revoke(alloc, tx, token.as_str(), Descent::Stays),
         TokenCommand::RevokeAccessor(accessor) => revoke_accessor(alloc, tx, accessor.as_str()),
         TokenCommand::RevokeSelf => revoke(alloc, tx, asker.caller.token, Descent::Ends),
-        TokenCommand::ListAccessors => list_accessors(alloc, tx, context),
+        TokenCommand::ListAccessors => list_accessors(tx, context),
     }
 }

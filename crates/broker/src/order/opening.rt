@@ -92,7 +92,6 @@ fn is_own(client: &Option<CowText<'_>>, named: &Option<TextBuf>) -> bool
 /// Answers an ask that needs no caller: it is served or refused.
 pub(crate) fn answer_openly<T: RecordsTx>(
     routers: &Routers,
-    alloc: Global,
     tx: &mut T,
     context: &Context<'_>,
     ask: &Ask<'_>,
@@ -109,9 +108,9 @@ pub(crate) fn answer_openly<T: RecordsTx>(
         (λ b. (serving.is_open ask.now ≡ true) × Begins None context.now (T.seen tx.old).rows b) result }
     ensures faults { IfErr result IsNotBadStart }
 {
-    match serve_openly(routers, alloc, tx, context, ask) {
-        Ok(answered) => Ok(answer(alloc, answered)?),
-        Err(RequestError::Refused(refusal)) => refuse(alloc, refusal),
+    match serve_openly(routers, tx, context, ask) {
+        Ok(answered) => Ok(answer(context.alloc, answered)?),
+        Err(RequestError::Refused(refusal)) => refuse(context.alloc, refusal),
         Err(RequestError::Fault(fault)) => Err(fault),
     }
 }
@@ -119,7 +118,6 @@ pub(crate) fn answer_openly<T: RecordsTx>(
 /// Serves an ask that needs no caller.
 fn serve_openly<T: RecordsTx>(
     routers: &Routers,
-    alloc: Global,
     tx: &mut T,
     context: &Context<'_>,
     ask: &Ask<'_>,
@@ -137,6 +135,6 @@ fn serve_openly<T: RecordsTx>(
 {
     let path = ask.path.as_str();
     let found = find_route(routers, tx, ask.verb, path)?;
-    let command = read_command(alloc, ask, &found?)?;
-    operate(alloc, tx, context, &None, ask, command)
+    let command = read_command(context.alloc, ask, &found?)?;
+    operate(tx, context, &None, ask, command)
 }

@@ -31,14 +31,12 @@ use broker_rows::{Answered, Asker, Context, are_new};
 use broker_types::{Ask, Reason, Refusal, RequestError, TextBuf};
 use records::RecordsTx;
 use secret_operations::{act_on_cubbyholes, act_on_issued, act_on_secrets};
-use std::alloc::Global;
 use system_operations::{act_on_leases, act_on_mounts, act_on_policies, act_on_wrappings};
 use token_operations::act_on_tokens;
 
 /// Does what a command of an ask means, if the identifiers that it needs are new, and if it has the wrap TTL that it
 /// must have. The identifiers are printed here, once.
 pub(crate) fn operate<T: RecordsTx>(
-    alloc: Global,
     tx: &mut T,
     context: &Context<'_>,
     asker: &Option<Asker<'_>>,
@@ -64,9 +62,9 @@ pub(crate) fn operate<T: RecordsTx>(
         → OnAnswer result (KeepsUses (T.seen tx.old).rows (T.seen tx.new).rows) }
     ensures call { IsRequestCall (T.seen tx.old) (T.seen tx.new) result IsNotBadStart }
 {
-    let needed = needed_identifiers(alloc, context.words, ask, &command)?;
+    let needed = needed_identifiers(context.alloc, context.words, ask, &command)?;
     check(tx, ask, &needed, &command)?;
-    carry_out(alloc, tx, context, asker, ask, &needed, command)
+    carry_out(tx, context, asker, ask, &needed, command)
 }
 
 /// Whether a command of an ask may be carried out: the identifiers that it needs have to be new, and the ask has to
@@ -100,7 +98,6 @@ fn check<T: RecordsTx>(
 
 /// Carries out a command of an ask, and wraps its reply if a wrap TTL asks for it.
 fn carry_out<T: RecordsTx>(
-    alloc: Global,
     tx: &mut T,
     context: &Context<'_>,
     asker: &Option<Asker<'_>>,
@@ -129,22 +126,21 @@ fn carry_out<T: RecordsTx>(
 {
     operations_are_proper();
     if !is_wrapped(ask, &command) {
-        return act(alloc, tx, context, asker, needed, command);
+        return act(tx, context, asker, needed, command);
     }
     let own = &needed[2..];
-    let answered = act(alloc, tx, context, asker, own, command)?;
+    let answered = act(tx, context, asker, own, command)?;
     let wrapping = Wrapping {
         path: ask.path.as_str(),
         ttl: ask.wrap_ttl,
         token: needed[0].as_str(),
         accessor: needed[1].as_str(),
     };
-    Ok(wrap(alloc, tx, context, &wrapping, answered)?)
+    Ok(wrap(tx, context, &wrapping, answered)?)
 }
 
 /// Carries out a command, of the caller who asks or of an open ask. Its own identifiers are new, and have been printed.
 fn act<T: RecordsTx>(
-    alloc: Global,
     tx: &mut T,
     context: &Context<'_>,
     asker: &Option<Asker<'_>>,
@@ -170,14 +166,13 @@ fn act<T: RecordsTx>(
     ensures call { IsRequestCall (T.seen tx.old) (T.seen tx.new) result IsNotBadStart }
 {
     match asker {
-        None => act_openly(alloc, tx, context, own, command),
-        Some(asker) => act_for(alloc, tx, context, asker, own, command),
+        None => act_openly(tx, context, own, command),
+        Some(asker) => act_for(tx, context, asker, own, command),
     }
 }
 
 /// Carries out a command of an open ask. Without a caller all others are denied.
 fn act_openly<T: RecordsTx>(
-    alloc: Global,
     tx: &mut T,
     context: &Context<'_>,
     own: &[TextBuf],
@@ -194,14 +189,13 @@ fn act_openly<T: RecordsTx>(
     ensures call { IsRequestCall (T.seen tx.old) (T.seen tx.new) result IsNotBadStart }
 {
     match command {
-        Command::OnWrapping(command) => act_on_wrappings(alloc, tx, context, own, command),
+        Command::OnWrapping(command) => act_on_wrappings(tx, context, own, command),
         _ => Err(RequestError::Refused(PERMISSION_DENIED)),
     }
 }
 
 /// Carries out a command of the caller who asks.
 fn act_for<T: RecordsTx>(
-    alloc: Global,
     tx: &mut T,
     context: &Context<'_>,
     asker: &Asker<'_>,
@@ -228,16 +222,16 @@ fn act_for<T: RecordsTx>(
 {
     match command {
         Command::OnCubbyhole(path, command) => {
-            act_on_cubbyholes(alloc, tx, context, asker.caller.token, path, command)
+            act_on_cubbyholes(tx, context, asker.caller.token, path, command)
         }
-        Command::OnToken(command) => act_on_tokens(alloc, tx, context, asker, own, command),
-        Command::OnSecret(place, command) => act_on_secrets(alloc, tx, context, &place, command),
-        Command::OnPolicy(name, command) => act_on_policies(alloc, tx, context, name, command),
-        Command::OnMount(name, command) => act_on_mounts(alloc, tx, context, name, command),
-        Command::OnLease(prefix, command) => act_on_leases(alloc, tx, context, prefix, command),
+        Command::OnToken(command) => act_on_tokens(tx, context, asker, own, command),
+        Command::OnSecret(place, command) => act_on_secrets(tx, context, &place, command),
+        Command::OnPolicy(name, command) => act_on_policies(tx, context, name, command),
+        Command::OnMount(name, command) => act_on_mounts(tx, context, name, command),
+        Command::OnLease(prefix, command) => act_on_leases(tx, context, prefix, command),
         Command::OnIssued(place, command) => {
-            act_on_issued(alloc, tx, context, &asker.caller, own, &place, command)
+            act_on_issued(tx, context, &asker.caller, own, &place, command)
         }
-        Command::OnWrapping(command) => act_on_wrappings(alloc, tx, context, own, command),
+        Command::OnWrapping(command) => act_on_wrappings(tx, context, own, command),
     }
 }

@@ -29,13 +29,11 @@ use crate::order::routing::find_route;
 use broker_rows::{Answered, Asker, Caller, Context};
 use broker_types::{Answer, Ask, Fault, RequestError};
 use records::RecordsTx;
-use std::alloc::Global;
 
 /// Answers an ask of the caller, which has spent its use: the ask is served or refused, and a caller without uses left
 /// ends.
 pub(crate) fn answer_caller<T: RecordsTx>(
     aids: &mut Aids,
-    alloc: Global,
     tx: &mut T,
     context: &Context<'_>,
     caller: Caller<'_>,
@@ -59,9 +57,15 @@ pub(crate) fn answer_caller<T: RecordsTx>(
 {
     let token = caller.token;
     let is_last_use = caller.is_on_last_use();
-    match serve(aids, alloc, tx, context, caller, ask) {
-        Ok(answered) => finish(alloc, tx, token, is_last_use, Ok(answered)),
-        Err(RequestError::Refused(refusal)) => finish(alloc, tx, token, is_last_use, Err(refusal)),
+    match serve(aids, tx, context, caller, ask) {
+        Ok(answered) => finish(context.alloc, tx, token, is_last_use, Ok(answered)),
+        Err(RequestError::Refused(refusal)) => finish(
+            context.alloc,
+            tx,
+            token,
+            is_last_use,
+            Err(refusal),
+        ),
         Err(RequestError::Fault(fault)) => Err(fault),
     }
 }
@@ -69,7 +73,6 @@ pub(crate) fn answer_caller<T: RecordsTx>(
 /// Serves an ask of the caller, if it is permitted.
 fn serve<T: RecordsTx>(
     aids: &mut Aids,
-    alloc: Global,
     tx: &mut T,
     context: &Context<'_>,
     caller: Caller<'_>,
@@ -96,10 +99,10 @@ fn serve<T: RecordsTx>(
 {
     let path = ask.path.as_str();
     let found = find_route(&aids.routers, tx, ask.verb, path)?;
-    let Some(rules) = permitted(&mut aids.policies, alloc, tx, &caller, ask, &found)? else {
+    let Some(rules) = permitted(&mut aids.policies, context.alloc, tx, &caller, ask, &found)? else {
         return Err(RequestError::Refused(PERMISSION_DENIED));
     };
-    let command = read_command(alloc, ask, &found?)?;
+    let command = read_command(context.alloc, ask, &found?)?;
     let asker = Some(Asker { caller, rules });
-    operate(alloc, tx, context, &asker, ask, command)
+    operate(tx, context, &asker, ask, command)
 }

@@ -62,7 +62,6 @@ impl<'r> Model for Wrapping<'r> {
 /// documentation, "Response wrapping"). Nothing else is wrapped. The identifiers of the token and of its accessor are
 /// new. It fails with `Memory` if memory runs out, and with `Storage` if the transaction's storage failed.
 pub(crate) fn wrap<T: RecordsTx>(
-    alloc: Global,
     tx: &mut T,
     context: &Context<'_>,
     wrapping: &Wrapping<'_>,
@@ -81,8 +80,8 @@ pub(crate) fn wrap<T: RecordsTx>(
     ensures call { IsCall (T.seen tx.old) (T.seen tx.new) result IsMemoryOrStorage }
 {
     match answered {
-        Answered::Given(reply) => keep(alloc, tx, context, wrapping, &reply, None),
-        Answered::Made(reply, made) => keep(alloc, tx, context, wrapping, &reply, Some(made)),
+        Answered::Given(reply) => keep(tx, context, wrapping, &reply, None),
+        Answered::Made(reply, made) => keep(tx, context, wrapping, &reply, Some(made)),
         Answered::Nothing => Ok(Answered::Nothing),
         Answered::Kept(text) => Ok(Answered::Kept(text)),
         Answered::Missing(reply) => Ok(Answered::Missing(reply)),
@@ -92,7 +91,6 @@ pub(crate) fn wrap<T: RecordsTx>(
 /// Keeps a reply under a new wrapping token, and tells of this token. If the reply made a token, `made` is the accessor
 /// of that.
 fn keep<T: RecordsTx>(
-    alloc: Global,
     tx: &mut T,
     context: &Context<'_>,
     wrapping: &Wrapping<'_>,
@@ -111,12 +109,13 @@ fn keep<T: RecordsTx>(
         (waiting_from context.now.clock wrapping.now (reply_text reply.now))) }
     ensures call { IsCall (T.seen tx.old) (T.seen tx.new) result IsMemoryOrStorage }
 {
+    let alloc = context.alloc;
     wrapping_is_proper();
     let text = reply_text(alloc, reply)?;
     let response = waiting(context, wrapping, text.as_str());
     let wrapping_token = token_text(alloc, wrapping.token)?;
     put(alloc, tx, wrapping_token.as_str(), &response)?;
-    Ok(told(alloc, context, wrapping_token, &response, made)?)
+    Ok(told(context, wrapping_token, &response, made)?)
 }
 
 /// A text, as it waits from now on.
@@ -159,7 +158,6 @@ fn put<T: RecordsTx>(
 
 /// Answers with the wrapping token of a response that was kept now.
 fn told(
-    alloc: Global,
     context: &Context<'_>,
     token: TextBuf,
     response: &WaitingRecord<'_>,
@@ -169,6 +167,7 @@ fn told(
     ensures { IfOk result (λ a. answered_of a ≡ operation.reply (wrap_reply (names_of context.now.words).request
         (order.wrap_info token response.now made)) None) }
 {
+    let alloc = context.alloc;
     let wrap = WrapObject {
         accessor: TextBuf::copied(alloc, response.accessor)?,
         creation_path: TextBuf::copied(alloc, response.path)?,

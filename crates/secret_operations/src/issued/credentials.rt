@@ -26,14 +26,13 @@ ghost use Rattle.secret_operations.specs.Issuing.{IssuesLease};
 use api_json::{credential_object, lease_reply, valid_object};
 use broker_rows::{Answered, Caller, Context, use_up};
 use broker_types::{RequestError, TextBuf, id_text};
-use leases::{IssuedLease, Names, creds};
+use leases::{IssuedLease, LeaseRequest, Names, creds};
 use records::RecordsTx;
-use std::alloc::{AllocError, Global};
+use std::alloc::AllocError;
 
 /// Issues a credential of a role, with a lease of the caller's token. The identifiers of the request are new, and have
 /// been printed.
 pub(super) fn issue<T: RecordsTx>(
-    alloc: Global,
     tx: &mut T,
     context: &Context<'_>,
     caller: &Caller<'_>,
@@ -55,27 +54,27 @@ pub(super) fn issue<T: RecordsTx>(
         → OnAnswer result (ChangesOnly of_issued (T.seen tx.old).rows (T.seen tx.new).rows) }
     ensures call { IsRequestCall (T.seen tx.old) (T.seen tx.new) result IsNotBadStart }
 {
-    let named = own[0].as_str();
-    let credential = own[1].as_str();
-    let lease = put(alloc, tx, context, caller, mount, name, named, credential)?;
-    Ok(given(alloc, context, lease, credential)?)
+    let names = Names {
+        lease: own[0].as_str(),
+        credential: own[1].as_str(),
+    };
+    let lease = put(tx, context, caller, mount, name, names)?;
+    Ok(given(context, lease, names.credential)?)
 }
 
 /// Makes a lease of the caller's token for a credential of a role, and marks its identifiers as given out.
 fn put<T: RecordsTx>(
-    alloc: Global,
     tx: &mut T,
     context: &Context<'_>,
     caller: &Caller<'_>,
     mount: &str,
     name: &str,
-    named: &str,
-    credential: &str,
+    names: Names<'_>,
 ) -> Result<IssuedLease, RequestError>
-    requires named { IsIdentifier named.now }
-    requires credential { IsIdentifier credential.now }
-    ensures told { is_mount_name mount.now ≡ true → IssuesLease caller.now context.now mount.now name.now named.now
-        credential.now (T.seen tx.old) (T.seen tx.new) result }
+    requires named { IsIdentifier names.lease.now }
+    requires credential { IsIdentifier names.credential.now }
+    ensures told { is_mount_name mount.now ≡ true → IssuesLease caller.now context.now mount.now name.now
+        names.entry.lease.now names.entry.credential.now (T.seen tx.old) (T.seen tx.new) result }
     ensures readable { IsHonest (T.seen tx.new)
         → OnAnswer result (IsReadableRole (table (T.seen tx.old)) mount.now name.now) }
 
@@ -84,23 +83,20 @@ fn put<T: RecordsTx>(
         → OnAnswer result (ChangesOnly of_issued (T.seen tx.old).rows (T.seen tx.new).rows) }
     ensures call { IsRequestCall (T.seen tx.old) (T.seen tx.new) result IsNotBadStart }
 {
-    let holder = leases::Caller {
+    let alloc = context.alloc;
+    let asked = LeaseRequest {
         token: caller.token,
         is_last_use: caller.is_on_last_use(),
+        names,
     };
-    let names = Names {
-        lease: named,
-        credential,
-    };
-    let lease = creds(alloc, tx, context.clock, holder, mount, name, names)?;
-    use_up(alloc, tx, credential)?;
-    use_up(alloc, tx, named)?;
+    let lease = creds(alloc, tx, context.clock, mount, name, asked)?;
+    use_up(alloc, tx, names.credential)?;
+    use_up(alloc, tx, names.lease)?;
     Ok(lease)
 }
 
 /// Answers with a lease and its credential.
 fn given(
-    alloc: Global,
     context: &Context<'_>,
     lease: IssuedLease,
     credential: &str,
@@ -108,6 +104,7 @@ fn given(
     ensures { IfOk result (λ a. answered_of a ≡ operation.reply (lease_reply (names_of context.now.words).request
         lease.0 lease.1 (Some (credential_object credential.now))) None) }
 {
+    let alloc = context.alloc;
     let request = id_text(alloc, context.words.request())?;
     let object = credential_object(alloc, credential)?;
     let reply = lease_reply(
@@ -122,7 +119,6 @@ fn given(
 
 /// Says whether the lease of a credential still stands.
 pub(super) fn verify<T: RecordsTx>(
-    alloc: Global,
     tx: &mut T,
     context: &Context<'_>,
     credential: &str,
@@ -136,6 +132,6 @@ pub(super) fn verify<T: RecordsTx>(
     ensures call { IsRequestReading (T.seen tx.old) (T.seen tx.new) result IsNotBadStart }
 {
     let valid = leases::verify(tx, credential)?;
-    let object = valid_object(alloc, valid)?;
-    Ok(Answered::shown(alloc, context, object)?)
+    let object = valid_object(context.alloc, valid)?;
+    Ok(Answered::shown(context, object)?)
 }

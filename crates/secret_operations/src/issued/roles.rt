@@ -28,7 +28,6 @@ use std::alloc::Global;
 
 /// Shows a role as it was set.
 pub(super) fn show<T: RecordsTx>(
-    alloc: Global,
     tx: &mut T,
     context: &Context<'_>,
     mount: &str,
@@ -42,11 +41,11 @@ pub(super) fn show<T: RecordsTx>(
         → OnAnswer result (IsReadableRole (table (T.seen tx.old)) mount.now name.now) }
     ensures call { IsRequestReading (T.seen tx.old) (T.seen tx.new) result IsNotBadStart }
 {
-    let Some(found) = role(alloc, tx, mount, name)? else {
+    let Some(found) = role(context.alloc, tx, mount, name)? else {
         return Err(RequestError::Refused(Refusal::NotFound));
     };
-    let object = role_object(alloc, found.max_ttl, found.ttl)?;
-    Ok(Answered::shown(alloc, context, object)?)
+    let object = role_object(context.alloc, found.max_ttl, found.ttl)?;
+    Ok(Answered::shown(context, object)?)
 }
 
 /// Sets a role, in place of the one that is there.

@@ -28,7 +28,6 @@ use std::alloc::Global;
 
 /// Deletes the current version of a secret.
 pub(super) fn delete_current<T: RecordsTx>(
-    alloc: Global,
     tx: &mut T,
     context: &Context<'_>,
     mount: &str,
@@ -47,7 +46,7 @@ pub(super) fn delete_current<T: RecordsTx>(
         → OnAnswer result (ChangesOnly of_secrets (T.seen tx.old).rows (T.seen tx.new).rows) }
     ensures call { IsRequestCall (T.seen tx.old) (T.seen tx.new) result IsNotBadStart }
 {
-    kv2::delete(alloc, tx, context.clock, mount, path)?;
+    kv2::delete(context.alloc, tx, context.clock, mount, path)?;
     Ok(Answered::Nothing)
 }
 

@@ -25,11 +25,9 @@ use broker_rows::{Answered, Context};
 use broker_types::{Refusal, RequestError, TextBuf};
 use kv2::{SecretSettings, set_metadata};
 use records::RecordsTx;
-use std::alloc::Global;
 
 /// Shows a secret without its texts.
 pub(super) fn show<T: RecordsTx>(
-    alloc: Global,
     tx: &mut T,
     context: &Context<'_>,
     mount: &str,
@@ -43,17 +41,17 @@ pub(super) fn show<T: RecordsTx>(
         → OnAnswer result (IsReadableWhole (T.seen tx.old).rows (secret_name mount.now path.now)) }
     ensures call { IsRequestReading (T.seen tx.old) (T.seen tx.new) result IsNotBadStart }
 {
+    let alloc = context.alloc;
     let Some(found) = kv2::metadata(alloc, tx, mount, path)? else {
         return Err(RequestError::Refused(Refusal::NotFound));
     };
     let told = secret_told(alloc, found)?;
     let object = key_object(alloc, &told)?;
-    Ok(Answered::shown(alloc, context, object)?)
+    Ok(Answered::shown(context, object)?)
 }
 
 /// Sets those settings of a secret that are given. One that is not there is made, without a version.
 pub(super) fn set<T: RecordsTx>(
-    alloc: Global,
     tx: &mut T,
     context: &Context<'_>,
     mount: &str,
@@ -74,6 +72,7 @@ pub(super) fn set<T: RecordsTx>(
         → OnAnswer result (ChangesOnly of_secrets (T.seen tx.old).rows (T.seen tx.new).rows) }
     ensures call { IsRequestCall (T.seen tx.old) (T.seen tx.new) result IsNotBadStart }
 {
+    let alloc = context.alloc;
     set_metadata(alloc, tx, context.clock, mount, path, settings_given(asked))?;
     Ok(Answered::Nothing)
 }
@@ -101,7 +100,6 @@ fn metadata_given(asked: Option<Pairs>) -> Option<Vec<(TextBuf, TextBuf)>>
 
 /// Lists the secrets and folders of a folder.
 pub(super) fn list<T: RecordsTx>(
-    alloc: Global,
     tx: &mut T,
     context: &Context<'_>,
     mount: &str,
@@ -111,10 +109,10 @@ pub(super) fn list<T: RecordsTx>(
         (λ b. part.list b (names_of context.now.words) (at mount.now path.now)) result }
     ensures call { IsRequestReading (T.seen tx.old) (T.seen tx.new) result IsNotBadStart }
 {
-    let names = kv2::list(alloc, tx, mount, path)?;
+    let names = kv2::list(context.alloc, tx, mount, path)?;
     if names.is_empty() {
         return Err(RequestError::Refused(Refusal::NotFound));
     }
-    let object = keys_object(alloc, &names)?;
-    Ok(Answered::shown(alloc, context, object)?)
+    let object = keys_object(context.alloc, &names)?;
+    Ok(Answered::shown(context, object)?)
 }

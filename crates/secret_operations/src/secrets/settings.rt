@@ -24,7 +24,6 @@ use std::alloc::Global;
 
 /// Shows the settings of a mount.
 pub(super) fn show<T: RecordsTx>(
-    alloc: Global,
     tx: &mut T,
     context: &Context<'_>,
     mount: &str,
@@ -40,8 +39,8 @@ pub(super) fn show<T: RecordsTx>(
     let Some(found) = config(tx, mount)? else {
         return Err(RequestError::Refused(Refusal::NotFound));
     };
-    let object = settings_object(alloc, found.cas_required, found.max_versions)?;
-    Ok(Answered::shown(alloc, context, object)?)
+    let object = settings_object(context.alloc, found.cas_required, found.max_versions)?;
+    Ok(Answered::shown(context, object)?)
 }
 
 /// Sets those settings of a mount that are given.

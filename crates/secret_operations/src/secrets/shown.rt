@@ -16,7 +16,6 @@ use std::alloc::{AllocError, Global};
 /// What a read answers: 200 with the object of a version and its metadata, or 404 with the metadata of one that is
 /// deleted or destroyed.
 pub(super) fn version_answered(
-    alloc: Global,
     context: &Context<'_>,
     found: FoundVersion,
 ) -> Result<Answered, AllocError>
@@ -24,6 +23,7 @@ pub(super) fn version_answered(
     ensures { IfOk result (λ a. answered_of a
         ≡ part.version_answered (names_of context.now.words).request found) }
 {
+    let alloc = context.alloc;
     let metadata = version_shown(found.number, &found.version);
     let object = object_left(found.version);
     let is_left = object.is_some();

@@ -22,12 +22,11 @@ use crate::secrets::shown::version_answered;
 use api_json::{SecretWrite, VersionObject, version_object};
 use broker_rows::{Answered, Context};
 use broker_types::{Refusal, RequestError};
+use kv2::NewVersion;
 use records::RecordsTx;
-use std::alloc::Global;
 
 /// Reads a version of a secret; 0 is the current one.
 pub(super) fn read<T: RecordsTx>(
-    alloc: Global,
     tx: &mut T,
     context: &Context<'_>,
     mount: &str,
@@ -42,15 +41,14 @@ pub(super) fn read<T: RecordsTx>(
         → OnAnswer result (IsReadableSecret (T.seen tx.old).rows (at mount.now path.now) number) }
     ensures call { IsRequestReading (T.seen tx.old) (T.seen tx.new) result IsNotBadStart }
 {
-    let Some(found) = kv2::read(alloc, tx, mount, path, number)? else {
+    let Some(found) = kv2::read(context.alloc, tx, mount, path, number)? else {
         return Err(RequestError::Refused(Refusal::NotFound));
     };
-    Ok(version_answered(alloc, context, found)?)
+    Ok(version_answered(context, found)?)
 }
 
 /// Writes the next version of a secret.
 pub(super) fn write<T: RecordsTx>(
-    alloc: Global,
     tx: &mut T,
     context: &Context<'_>,
     mount: &str,
@@ -73,13 +71,17 @@ pub(super) fn write<T: RecordsTx>(
 {
     let now = context.clock;
     let text = asked.object.as_str();
-    let written = kv2::write(alloc, tx, now, mount, path, asked.cas, text)?;
+    let version = NewVersion {
+        cas: asked.cas,
+        object: text,
+    };
+    let written = kv2::write(context.alloc, tx, now, mount, path, version)?;
     let made = VersionObject {
         created: now,
         deleted: None,
         destroyed: false,
         version: written.number,
     };
-    let object = version_object(alloc, written.custom_metadata.as_slice(), &made)?;
-    Ok(Answered::shown(alloc, context, object)?)
+    let object = version_object(context.alloc, written.custom_metadata.as_slice(), &made)?;
+    Ok(Answered::shown(context, object)?)
 }

@@ -17,11 +17,12 @@ returns-clause-rows g c honest m k has_mount has_key =
     let seen = g.T.RecordsTx.seen in
     let old = table_of (seen c.args.tx.now).rows in
     let new = table_of (seen c.write_named.new.tx).rows in
-    let object = c.args.object.now in
+    let object = c.args.version.object.now in
     let at = c.as_str.ensures.value ∙ c.in_ok-name.ensures in
-    subst (λ q. Ends (IsWritten new) ⊤ c.write_named.result (rows.write old m k q c.args.now c.args.cas object)) at
+    subst (λ q. Ends (IsWritten new) ⊤ c.write_named.result (rows.write old m k q c.args.now c.args.version.cas object))
+    at
     (subst (λ n. Ends (IsWritten new) ⊤ c.write_named.result
-    (rows.write old m k c.as_str.result.now n c.args.cas object)) c.seconds-now.ensures.value
+    (rows.write old m k c.as_str.result.now n c.args.version.cas object)) c.seconds-now.ensures.value
     (c.write_named.ensures.rows honest m k has_mount (λ there. subst (λ q. HasKey old q k) (sym at) (has_key there))))
 
 pub returns-clause-told : goal.returns-clause-told
@@ -31,8 +32,8 @@ returns-clause-told g c honest forms b sound mounts told tell_mounts at is_path 
     let new = table_of (seen c.write_named.new.tx).rows in
     let mount = c.args.mount.now in
     let path = c.args.path.now in
-    let object = c.args.object.now in
-    let cas = c.args.cas in
+    let object = c.args.version.object.now in
+    let cas = c.args.version.cas in
     let name = secret_name mount path in
     let k = option_map key_entry (get b.secrets name) in
     let laws : KeyLaws = record {

@@ -5,7 +5,7 @@ use Rattle.records.specs.CallLaws.{honest_before}
 use Rattle.records.specs.KeyEntry.{KeyEntry}
 use Rattle.records.specs.Table.{Table, table, table_of}
 use Rattle.records.specs.Transaction.{Rows, IsHonest}
-use Rattle.kv2.specs.SecretRows.{HasKey, KeepsOtherNames, new_entry, next_entry, with_version}
+use Rattle.kv2.specs.SecretRows.{HasKey, KeepsOtherNames, new_entry, next_entry, with_current}
 use Rattle.kv2.specs.SecretRows as rows
 use Rattle.kv2.specs.Versions.{checked}
 use Rattle.kv2.proofs.Others.{written_keeps}
@@ -22,8 +22,8 @@ returns-clause-rows g c honest m k has_mount has_key =
     let new = table_of (seen c.put_version.new.tx).rows in
     let name = c.args.name.now in
     let now = c.args.now in
-    let cas = c.args.cas in
-    let object = c.args.object.now in
+    let cas = c.args.version.cas in
+    let object = c.args.version.object.now in
     let e = c.key_or_new-key.result in
     let limit = c.versions_kept-limit.result in
     let some = sym c.in-Some.is ∙ c.in_ok-settings.ensures.found first m has_mount in
@@ -31,14 +31,15 @@ returns-clause-rows g c honest m k has_mount has_key =
     let found = c.in_ok-found.ensures.found second k
     (subst (λ (r : Rows). HasKey (table_of r) name k) (sym same) (has_key there)) in
     subst (λ (z : KeyEntry). EndsOk (IsWritten new) (answer_of z) (rows.write old m k name now cas object))
-    (sym (c.next.view_is ∙ c.in_ok-next.ensures.answer))
+    (sym (c.next.view_is ∙ c.next_key-next.ensures.key))
     (subst (λ o. EndsOk (IsWritten new) (answer_of (next_entry now e)) (rows.write old o k name now cas object)) some
     (rows_written old new c.in-Some.settings k name object now limit cas e
     (c.key_or_new-key.ensures.key ∙ ap (λ o. unwrap_or o (new_entry now)) found)
     (c.in_ok-check.ensures.checked ∙ (λ i. checked (c.is_required-required.ensures i) (c.key.view_is i).current cas))
     c.versions_kept-limit.ensures
-    (c.in_ok-next.ensures.rows honest
-    ∙ (λ i. with_version (table_of ((c.in_ok-found.ensures.call.same second ∙ same) i)) name e limit now object))))
+    (c.in_ok-put_version.ensures.rows honest
+    ∙ (λ i. with_current (table_of ((c.in_ok-found.ensures.call.same second ∙ same) i)) name
+    (c.next_key-next.ensures.key i) limit object))))
 
 pub returns-clause-call : goal.returns-clause-call
 returns-clause-call g c =
@@ -54,10 +55,10 @@ returns-clause-call g c =
           let first : IsHonest (seen c.find_mount.new.tx) =
           honest_before _ _ _ c.find_key.ensures.call.goes_on second in
           let same = c.in_ok-settings.ensures.call.same first in
-          subst (λ (t : Table). KeepsOtherNames name old t) (sym (c.in_ok-next.ensures.rows honest
-          ∙ (λ i. with_version (table_of ((c.in_ok-found.ensures.call.same second ∙ same) i)) name e limit c.args.now
-          c.args.object.now)))
-          (written_keeps name old e limit c.args.now c.args.object.now);
+          subst (λ (t : Table). KeepsOtherNames name old t) (sym (c.in_ok-put_version.ensures.rows honest
+          ∙ (λ i. with_current (table_of ((c.in_ok-found.ensures.call.same second ∙ same) i)) name
+          (c.next_key-next.ensures.key i) limit c.args.version.object.now)))
+          (written_keeps name old e limit c.args.now c.args.version.object.now);
       faults = tt;
       goes_on = search rules;
     }

@@ -35,11 +35,11 @@ returns-clause-rows g c honest o at =
     let first : IsHonest (seen c.role.new.tx) = honest_before _ _ _ c.in_ok-issue.ensures.call.goes_on honest in
     let old = table (seen c.args.tx.now) in
     let new = table (seen c.issue.new.tx) in
-    let t = c.args.caller.token.now in
+    let t = c.args.asked.token.now in
     let mount = c.args.mount.now in
     let name = c.args.name.now in
-    let identifier = c.args.names.lease.now in
-    let credential = c.args.names.credential.now in
+    let identifier = c.args.asked.names.lease.now in
+    let credential = c.args.asked.names.credential.now in
     let r : Role = c.in-Some.found in
     let l : Lease = roles.new_lease c.args.now r credential in
     let id = roles.lease_id mount name identifier in
@@ -47,7 +47,7 @@ returns-clause-rows g c honest o at =
     let made : c.new_lease-lease.result ≡ l = c.new_lease-lease.ensures.value
     ∙ ap (λ n. roles.new_lease n r credential) c.seconds-now.ensures.value in
     let id_is = c.as_str.ensures.value ∙ c.in_ok-id.ensures in
-    let last : c.args.caller.is_last_use ≡ false = c.if-caller.false in
+    let last : c.args.asked.is_last_use ≡ false = c.if-asked.false in
     subst (λ (v : Bool). EndsOk (IsMade old new t) (c.new.result, c.lease.inside.ttl)
     (roles.issued o v c.args.now mount name identifier credential)) (sym last)
     (subst (λ (o : Option Role). EndsOk (IsMade old new t)
@@ -62,11 +62,11 @@ returns-clause-told g c honest forms b represents sound roles_told clock last he
     let seen = g.T.RecordsTx.seen in
     let first : IsHonest (seen c.role.new.tx) = honest_before _ _ _ c.in_ok-issue.ensures.call.goes_on honest in
     let new = table (seen c.issue.new.tx) in
-    let t = c.args.caller.token.now in
+    let t = c.args.asked.token.now in
     let mount = c.args.mount.now in
     let name = c.args.name.now in
-    let identifier = c.args.names.lease.now in
-    let credential = c.args.names.credential.now in
+    let identifier = c.args.asked.names.lease.now in
+    let credential = c.args.asked.names.credential.now in
     let r : Role = c.in-Some.found in
     let l : Lease = roles.new_lease c.args.now r credential in
     let some : Some r ≡ roles.role b mount name = sym c.in-Some.is
@@ -84,7 +84,7 @@ returns-clause-told g c honest forms b represents sound roles_told clock last he
     t)) clock
     (subst (λ (v : Bool). EndsOk (IsIssued new) (c.new.result, c.lease.inside.ttl)
     (roles.issued (roles.role b mount name) v c.args.now mount name identifier credential >>= then_issued b t))
-    (sym c.if-caller.false ∙ last)
+    (sym c.if-asked.false ∙ last)
     (subst (λ (o : Option Role). EndsOk (IsIssued new) (c.new.result, c.lease.inside.ttl)
     (roles.issued o false c.args.now mount name identifier credential >>= then_issued b t)) some (
       (λ i. ((c.new.ensures ∙ c.in_ok-id.ensures) i, ap (λ (l : Lease). l.ttl) (c.lease.view_is ∙ made) i)),

@@ -24,7 +24,7 @@ use Rattle.secret_operations.proofs.issued.credentials.put.Goals as goal
 pub creds-requires : goal.creds-requires
 creds-requires g c =
     let is = c.requires.credential in
-    let long : length c.args.credential.now ≡ 36 = ap length is.2 ∙ id-length is.0 in
+    let long : length c.args.names.credential.now ≡ 36 = ap length is.2 ∙ id-length is.0 in
     omega (arith, long)
 
 pub returns-in_err-lease-clause-told : goal.returns-in_err-lease-clause-told
@@ -32,8 +32,8 @@ returns-in_err-lease-clause-told g c is_mount =
     let seen = g.T.RecordsTx.seen in
     let mount = c.args.mount.now in
     let name = c.args.name.now in
-    let named = c.args.named.now in
-    let credential = c.args.credential.now in
+    let named = c.args.names.lease.now in
+    let credential = c.args.names.credential.now in
     let p = err_from_is_err_and c.from_residual.result c.from_residual.ensures.1 in
     subst (λ x. IssuesLease x c.args.context.now mount name named credential (seen c.args.tx.now)
     (seen c.creds.new.tx) c.from_residual.result)
@@ -62,8 +62,8 @@ returns-clause-told g c is_mount =
     let seen = g.T.RecordsTx.seen in
     let mount = c.args.mount.now in
     let name = c.args.name.now in
-    let named = c.args.named.now in
-    let credential = c.args.credential.now in
+    let named = c.args.names.lease.now in
+    let credential = c.args.names.credential.now in
     subst (λ x. IssuesLease x c.args.context.now mount name named credential (seen c.args.tx.now)
     (seen c.use_up-2.new.tx) (Ok c.in_ok-lease.lease))
     c.caller.view_is
@@ -106,7 +106,7 @@ returns-clause-rows g c honest =
     let once =
     honest_before (seen c.use_up.new.tx) (seen c.use_up-2.new.tx) _ c.in_ok-use_up-2.ensures.call.goes_on honest in
     let made = honest_before (seen c.creds.new.tx) (seen c.use_up.new.tx) _ c.in_ok-use_up.ensures.call.goes_on once in
-    only_issued c.args.named.now c.args.credential.now (seen c.args.tx.now).rows (seen c.creds.new.tx).rows
+    only_issued c.args.names.lease.now c.args.names.credential.now (seen c.args.tx.now).rows (seen c.creds.new.tx).rows
     (seen c.use_up-2.new.tx).rows (c.in_ok-lease.ensures.call.others made)
     (c.in_ok-use_up-2.ensures.rows honest
-    ∙ (λ i. with_row (c.in_ok-use_up.ensures.rows once i) kind.Used c.args.named.now used_row))
+    ∙ (λ i. with_row (c.in_ok-use_up.ensures.rows once i) kind.Used c.args.names.lease.now used_row))
