@@ -37,20 +37,23 @@ passes_reply Sends before set after reply none same p = record {
 -- ---- turns
 
 -- what is said where nothing was fed
-pub said_sending : (turn : Turn) → (turn ≡ WentOn) ⊎ (turn ≡ NeedsRoom) → Says turn []
-said_sending turn (inl is) = subst (λ (t : Turn). Says t []) (sym is) (inl refl)
-said_sending turn (inr is) = subst (λ (t : Turn). Says t []) (sym is) refl
+pub said_sending : (turn : Turn) (before after : List ℕ)
+    → ((turn ≡ WentOn) × (length after < length before)) ⊎ (turn ≡ NeedsRoom) → Says turn before after []
+said_sending turn before after (inl sent) =
+    subst (λ (t : Turn). Says t before after []) (sym sent.0) (inl (refl, sent.1))
+said_sending turn before after (inr is) = subst (λ (t : Turn). Says t before after []) (sym is) refl
 
 -- a call that served at most one event, as a turn
 pub turns_ok : {S : Type 0} {seen : S → Kept} {P Sends : List ℕ → Type 0} {X : List Event → Type 0} {F W : Type 0}
     {turn : Turn}
     {old new : Hub S} (before after : Link) (conn : ℕ) → conn ≡ number_of before → number_of after ≡ number_of before
     → (s : Serves seen conn P (Passes Sends (unsent before) (unsent after)) X F W (Ok turn) old new)
-    → length s.served.exchange.events ≤ 1 → Says turn s.served.exchange.replies
+    → length s.served.exchange.events ≤ 1 → Says turn (unsent before) (unsent after) s.served.exchange.replies
     → TurnsLink seen before after P Sends X F W (Ok turn) old new
 turns_ok {seen} {P} {Sends} {X} {turn} {old} {new} before after conn at same s one said =
     record {
-      took = subst (λ (k : ℕ). TakesTurn seen turn k P (Passes Sends (unsent before) (unsent after)) X old new) at
+      took = subst (λ (k : ℕ). TakesTurn seen turn k (unsent before) (unsent after) P
+          (Passes Sends (unsent before) (unsent after)) X old new) at
           (record { on = s.served; one = one; said = said });
       same = same;
       others = λ all represents. subst (λ (k : ℕ). LeavesOthers k all new) at (s.others all represents);
@@ -80,12 +83,14 @@ turns_err {seen} {P} {Sends} {X} {fault} {old} {new} before after conn at same s
 -- ---- what was read
 
 -- the piece is what was read
-turned_so : {S : Type 0} (seen : S → Kept) (conn : ℕ) (piece : List ℕ) (Q T : List ℕ → Type 0) (X : List Event → Type 0)
+turned_so : {S : Type 0} {before after : List ℕ} (seen : S → Kept) (conn : ℕ) (piece : List ℕ) (Q T : List ℕ → Type 0)
+    (X : List Event → Type 0)
     (old new : Hub S)
     (r : Result Turn ConnectionFault) → Q piece
-    → MatchResult r (λ turn. TakesTurn seen turn conn (λ read. read ≡ piece) T X old new)
+    → MatchResult r (λ turn. TakesTurn seen turn conn before after (λ read. read ≡ piece) T X old new)
     (λ fault. TurnStops seen conn (λ read. read ≡ piece) T X fault old new)
-    → MatchResult r (λ turn. TakesTurn seen turn conn Q T X old new) (λ fault. TurnStops seen conn Q T X fault old new)
+    → MatchResult r (λ turn. TakesTurn seen turn conn before after Q T X old new)
+    (λ fault. TurnStops seen conn Q T X fault old new)
 turned_so seen conn piece Q T X old new (Ok turn) q t = record {
   on = record {
     exchange = t.on.exchange;

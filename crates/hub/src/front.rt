@@ -47,21 +47,19 @@ impl Served {
 
     /// The reply to an answer, in the room that was reserved for its bytes, so nothing can run out once
     /// the broker has answered.
-    fn reply(
-        alloc: Global,
-        mut answer: Answer,
-        moment: Moment,
-        len: Option<usize>,
-        closes: bool,
-    ) -> Served
+    fn reply(alloc: Global, mut answer: Answer, moment: Moment, closes: bool) -> Served
         requires { HasRoom answer }
         ensures reply { IsReply (response_of answer) moment closes result.bytes.items }
-        ensures len { result.len ≡ len }
+        ensures len { result.len ≡ None }
         ensures closes { result.closes ≡ closes }
     {
         let mut bytes = mem::replace(&mut answer.room, Room::empty(alloc)).into_vec();
         match reply_bytes(&answer, moment, closes).append_to(&mut bytes) {
-            Ok(()) => Served { bytes, len, closes },
+            Ok(()) => Served {
+                bytes,
+                len: None,
+                closes,
+            },
             Err(_) => unreachable!(),
         }
     }
@@ -85,7 +83,9 @@ pub(crate) fn serve_front<S: Store>(
         Cut::Need => Ok(Served::nothing(alloc)),
         Cut::Refused { status } => serve_refusal(alloc, status, moment),
         Cut::Whole { len, head, body } => {
-            serve_request(alloc, store, &head, body, len, moment, words)
+            let mut served = serve_request(alloc, store, &head, body, moment, words)?;
+            served.len = Some(len);
+            Ok(served)
         }
     }
 }
@@ -99,17 +99,16 @@ fn serve_refusal(alloc: Global, status: Status, moment: Moment) -> Result<Served
     ensures memory { IfErr result (λ fault. fault ≡ Fault.Memory) }
 {
     let answer = front_refusal(alloc, status)?;
-    Ok(Served::reply(alloc, answer, moment, None, true))
+    Ok(Served::reply(alloc, answer, moment, true))
 }
 
-/// The reply to a whole request: the broker's answer to what it asks, or the refusal of one that asks
-/// nothing.
+/// The reply to a whole request, without its length: the broker's answer to what it asks, or the refusal of one
+/// that asks nothing.
 fn serve_request<'b, S: Store>(
     alloc: Global,
     store: &mut S,
     head: &Head<'b>,
     body: BodyBytes<'b>,
-    len: usize,
     moment: Moment,
     words: &Words,
 ) -> Result<Served, Fault>
@@ -122,7 +121,6 @@ fn serve_request<'b, S: Store>(
         served.bytes.items) }
     ensures clock { IsHonestStore (S.seen store.new)
         → OnOk result (OnOk (asked head.now body.entry) (HasClock (S.seen store.old).rows)) }
-    ensures len { IfOk result (λ served. served.len ≡ Some len) }
     ensures closes { IfOk result (λ served. served.closes
         ≡ request_closes head.now (asked head.now body.entry)) }
     ensures keeps { Keeps (S.seen store.old) (S.seen store.new) result }
@@ -130,12 +128,12 @@ fn serve_request<'b, S: Store>(
     match ask_of(alloc, head, body) {
         Ok(ask) => {
             let answer = store.one(moment, words, &ask)?;
-            Ok(Served::reply(alloc, answer, moment, Some(len), head.closes()))
+            Ok(Served::reply(alloc, answer, moment, head.closes()))
         }
         Err(AskError::Refused(refusal)) => {
             let answer = refusal.answer(alloc)?;
             let closes = head.closes() || refusal.close;
-            Ok(Served::reply(alloc, answer, moment, Some(len), closes))
+            Ok(Served::reply(alloc, answer, moment, closes))
         }
         Err(AskError::Fault(fault)) => Err(fault),
     }

@@ -1,4 +1,4 @@
-ghost use Rattle.std.specs.Prelude.{◌≡◌, ◌≢◌, ◌≤◌, ◌⊎◌, [], length, Ok, IfOk, IsTrue, MatchResult, OnOk};
+ghost use Rattle.std.specs.Prelude.{◌≡◌, ◌≢◌, ◌<◌, ◌≤◌, ◌⊎◌, [], length, Ok, IfOk, IsTrue, MatchResult, OnOk};
 ghost use Rattle.std.specs.Io.KnownBytes.{Appends, Consumes, IsAtEnd};
 ghost use Rattle.hub.specs.Links.{number_of, unsent};
 ghost use Rattle.hub.specs.Representing.{ConnectionsRepresent};
@@ -20,7 +20,7 @@ const PIECE: usize = 8_192;
 /// How a turn ended.
 #[derive(Clone, Copy, Debug, PartialEq, Eq)]
 pub enum Turn {
-    /// Something was read or sent. Another turn may do more at once.
+    /// Bytes that waited were sent, or an event was answered without a reply. Another turn may do more at once.
     WentOn,
     /// A request was answered. Its reply was sent, or a part of it waits.
     Answered,
@@ -89,8 +89,9 @@ fn send_rest<W: NowSink>(link: &mut Link, writer: &mut W) -> Result<Turn, Failed
     ensures sent { Passes (Appends (W.written writer.old) (W.written writer.new))
         (unsent link.old) (unsent link.new) [] }
     ensures same { number_of link.new ≡ number_of link.old }
-    ensures failed { MatchResult result (λ turn. (turn ≡ Turn.WentOn) ⊎ (turn ≡ Turn.NeedsRoom))
-        (λ _. IsTrue (W.has_failed writer.new)) }
+    ensures failed { MatchResult result
+        (λ turn. ((turn ≡ Turn.WentOn) × (length (unsent link.new) < length (unsent link.old)))
+        ⊎ (turn ≡ Turn.NeedsRoom)) (λ _. IsTrue (W.has_failed writer.new)) }
     ensures room { IfOk result (λ turn. turn ≡ Turn.NeedsRoom → unsent link.new ≡ unsent link.old) }
     ensures heard { OnOk result (W.has_failed writer.new ≡ W.has_failed writer.old) }
 {

@@ -114,20 +114,17 @@ impl Links {
         ensures below { (all : Connections) → ConnectionsRepresent hub.old all → LeavesBelow first all hub.new }
     {
         for _ in 0..self.ready.len() {
-            let Some(conn) = self.ready.pop_front() else {
-                return Ok(());
-            };
-            self.turn(hub, first, conn, clock, words, now)?;
+            self.turn(hub, first, clock, words, now)?;
         }
         Ok(())
     }
 
-    /// One turn of a connection: it goes back into the queue if it can go on, and is closed if it has ended.
+    /// One turn of the connection at the front of the queue: it goes to the back if it can go on, and is closed if it
+    /// has ended.
     fn turn<S: Store, C: Clock, D: WordSource>(
         &mut self,
         hub: &mut Hub<S>,
         first: u64,
-        conn: u64,
         clock: &mut C,
         words: &mut D,
         now: u64,
@@ -136,6 +133,9 @@ impl Links {
             (Supplies C.may_tell clock.old clock.new D.may_give words.old words.new) result hub.old hub.new }
         ensures below { (all : Connections) → ConnectionsRepresent hub.old all → LeavesBelow first all hub.new }
     {
+        let Some(conn) = self.ready.pop_front() else {
+            return Ok(());
+        };
         let Some(peer) = self.peers.get_mut(&conn) else {
             return Ok(());
         };

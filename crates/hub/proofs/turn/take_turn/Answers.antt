@@ -21,7 +21,8 @@ returns-in-Ok-clause-took g c =
     turns_ok link c.send_rest.new.link (number_of link) refl c.send_rest.ensures.same
     (serves_none g.S.Store.seen (number_of link) _ _ _ _ _ _ c.args.hub.now (Consumes-nil _) c.send_rest.ensures.sent
     (Supplies-nil g.C.Clock.may_tell c.args.clock.now g.D.WordSource.may_give c.args.words.now))
-    (omega arith) (said_sending c.in-Ok.turn c.in-Ok.ensures.failed)
+    (omega arith)
+    (said_sending c.in-Ok.turn (unsent link) (unsent c.send_rest.new.link) c.in-Ok.ensures.failed)
 
 pub returns-in-Ok-clause-room : goal.returns-in-Ok-clause-room
 returns-in-Ok-clause-room g c = λ is nothing.
