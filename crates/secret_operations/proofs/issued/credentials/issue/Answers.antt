@@ -19,9 +19,9 @@ returns-in_err-lease-clause-told g c is_mount honest b starts new =
     let names = names_of c.args.context.now.words in
     let token = c.args.caller.now.token in
     let p = err_from_is_err_and c.from_residual.result c.from_residual.ensures.1 in
-    let named = c.as_str-named.ensures ∙ c.index-own-0.is
+    let named = c.as_str.ensures ∙ c.index-own-0.is
     ∙ ap (λ (own : List Text). get_or own 0 c.index-own-0.result) c.requires.own.are in
-    let credential = c.as_str-credential.ensures ∙ c.index-own-1.is
+    let credential = c.as_str-2.ensures ∙ c.index-own-1.is
     ∙ ap (λ (own : List Text). get_or own 1 c.index-own-1.result) c.requires.own.are in
     let told = subst (λ (p : Text × Text). IssuesLease c.args.caller.now c.args.context.now mount name p.0 p.1
     (seen c.args.tx.now) (seen c.put.new.tx)
@@ -38,9 +38,9 @@ returns-clause-told g c is_mount honest b starts new =
     let names = names_of c.args.context.now.words in
     let token = c.args.caller.now.token in
     let lease = c.in_ok-lease.lease in
-    let named = c.as_str-named.ensures ∙ c.index-own-0.is
+    let named = c.as_str.ensures ∙ c.index-own-0.is
     ∙ ap (λ (own : List Text). get_or own 0 c.index-own-0.result) c.requires.own.are in
-    let credential = c.as_str-credential.ensures ∙ c.index-own-1.is
+    let credential = c.as_str-2.ensures ∙ c.index-own-1.is
     ∙ ap (λ (own : List Text). get_or own 1 c.index-own-1.result) c.requires.own.are in
     let told = subst (λ (p : Text × Text). IssuesLease c.args.caller.now c.args.context.now mount name p.0 p.1
     (seen c.args.tx.now) (seen c.put.new.tx)
