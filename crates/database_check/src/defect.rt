@@ -1,7 +1,10 @@
 //! What is wrong with a row, told without a secret.
 
+ghost use Rattle.std.specs.Prelude.{◌≡◌, IfOk, IfSome};
 ghost use Rattle.broker_types.specs.Fault.{IsMemoryOrStorage};
 ghost use Rattle.records.specs.Calls.{IsReading};
+ghost use Rattle.records.specs.Transaction.{IsHonest};
+ghost use Rattle.database_check.specs.Naming.{IsAccessorOfResponse, IsAccessorOfToken, IsNamed};
 
 use broker_types::{Fault, TextBuf};
 use records::{Kind, RecordsTx, read_token, read_waiting};
@@ -21,13 +24,15 @@ pub struct Defect {
 }
 
 impl Defect {
-    /// The row in trouble.
+    /// The row in trouble. One of a token or of a response is named by the accessor in it, and never by its key.
     pub(crate) fn at<T: RecordsTx>(
         alloc: Global,
         tx: &mut T,
         trouble: &Trouble,
     ) -> Result<Defect, Fault>
-        ensures { IsReading (T.seen tx.old) (T.seen tx.new) result IsMemoryOrStorage }
+        ensures named { IsHonest (T.seen tx.new) → IfOk result (λ defect. IfSome defect.name
+            (IsNamed (T.seen tx.old).rows trouble.now.kind trouble.now.key)) }
+        ensures call { IsReading (T.seen tx.old) (T.seen tx.new) result IsMemoryOrStorage }
     {
         let key = trouble.key.as_str();
         let number = tx.under_upto(trouble.kind, "", key)?.len();
@@ -41,41 +46,58 @@ impl Defect {
     }
 }
 
-/// What tells a row without a secret, and without what a terminal would obey.
+/// What names a row without a secret, and without what a terminal would obey.
 fn name_of<T: RecordsTx>(
     alloc: Global,
     tx: &mut T,
     kind: Kind,
     key: &str,
 ) -> Result<Option<TextBuf>, Fault>
-    ensures { IsReading (T.seen tx.old) (T.seen tx.new) result IsMemoryOrStorage }
+    ensures named { IsHonest (T.seen tx.new)
+        → IfOk result (λ name. IfSome name (IsNamed (T.seen tx.old).rows kind key.now)) }
+    ensures call { IsReading (T.seen tx.old) (T.seen tx.new) result IsMemoryOrStorage }
 {
     match kind {
-        Kind::Token | Kind::Waiting => accessor_at(alloc, tx, kind, key),
+        Kind::Token => accessor_of_token(alloc, tx, key),
+        Kind::Waiting => accessor_of_response(alloc, tx, key),
         Kind::KvKey | Kind::Mount | Kind::Policy | Kind::Role => Ok(visible(alloc, key)?),
         _ => Ok(None),
     }
 }
 
-/// The accessor in the row of a token or of a wrapping token, if it can be read.
-fn accessor_at<T: RecordsTx>(
+/// The accessor in the row of a token, if it can be read.
+fn accessor_of_token<T: RecordsTx>(
     alloc: Global,
     tx: &mut T,
-    kind: Kind,
     key: &str,
 ) -> Result<Option<TextBuf>, Fault>
-    ensures { IsReading (T.seen tx.old) (T.seen tx.new) result IsMemoryOrStorage }
+    ensures named { IsHonest (T.seen tx.new)
+        → IfOk result (λ name. IfSome name (IsAccessorOfToken (T.seen tx.old).rows key.now)) }
+    ensures call { IsReading (T.seen tx.old) (T.seen tx.new) result IsMemoryOrStorage }
 {
-    let Some(row) = tx.get(kind, key)? else {
+    let Some(row) = tx.get(Kind::Token, key)? else {
         return Ok(None);
     };
-    if kind == Kind::Token {
-        return match read_token(alloc, &row) {
-            Ok(token) => Ok(visible(alloc, token.accessor.as_str())?),
-            Err(Fault::Memory) => Err(Fault::Memory),
-            Err(_) => Ok(None),
-        };
+    match read_token(alloc, &row) {
+        Ok(token) => Ok(visible(alloc, token.accessor.as_str())?),
+        Err(Fault::Memory) => Err(Fault::Memory),
+        Err(_) => Ok(None),
     }
+}
+
+/// The accessor of the wrapping token in the row of a response, if it can be read.
+fn accessor_of_response<T: RecordsTx>(
+    alloc: Global,
+    tx: &mut T,
+    key: &str,
+) -> Result<Option<TextBuf>, Fault>
+    ensures named { IsHonest (T.seen tx.new)
+        → IfOk result (λ name. IfSome name (IsAccessorOfResponse (T.seen tx.old).rows key.now)) }
+    ensures call { IsReading (T.seen tx.old) (T.seen tx.new) result IsMemoryOrStorage }
+{
+    let Some(row) = tx.get(Kind::Waiting, key)? else {
+        return Ok(None);
+    };
     match read_waiting(&row) {
         Ok(waiting) => Ok(visible(alloc, waiting.accessor)?),
         Err(_) => Ok(None),
@@ -83,7 +105,9 @@ fn accessor_at<T: RecordsTx>(
 }
 
 /// The text, if it has visible ASCII characters alone.
-fn visible(alloc: Global, text: &str) -> Result<Option<TextBuf>, AllocError> {
+fn visible(alloc: Global, text: &str) -> Result<Option<TextBuf>, AllocError>
+    ensures { IfOk result (λ seen. IfSome seen (λ t. t ≡ text.now)) }
+{
     if text.as_bytes().iter().all(|byte| byte.is_ascii_graphic()) {
         Ok(Some(TextBuf::copied(alloc, text)?))
     } else {

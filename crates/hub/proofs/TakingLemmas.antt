@@ -83,7 +83,7 @@ turns_err {seen} {P} {Sends} {X} {fault} {old} {new} before after conn at same s
 -- ---- what was read
 
 -- the piece is what was read
-turned_so : {S : Type 0} {before after : List ℕ} (seen : S → Kept) (conn : ℕ) (piece : List ℕ) (Q T : List ℕ → Type 0)
+turned_so : {S : Type 0} (seen : S → Kept) (conn : ℕ) (before after piece : List ℕ) (Q T : List ℕ → Type 0)
     (X : List Event → Type 0)
     (old new : Hub S)
     (r : Result Turn ConnectionFault) → Q piece
@@ -91,7 +91,7 @@ turned_so : {S : Type 0} {before after : List ℕ} (seen : S → Kept) (conn : �
     (λ fault. TurnStops seen conn (λ read. read ≡ piece) T X fault old new)
     → MatchResult r (λ turn. TakesTurn seen turn conn before after Q T X old new)
     (λ fault. TurnStops seen conn Q T X fault old new)
-turned_so seen conn piece Q T X old new (Ok turn) q t = record {
+turned_so seen conn before after piece Q T X old new (Ok turn) q t = record {
   on = record {
     exchange = t.on.exchange;
     reads = subst Q (sym t.on.reads) q;
@@ -103,7 +103,7 @@ turned_so seen conn piece Q T X old new (Ok turn) q t = record {
   one = t.one;
   said = t.said;
 }
-turned_so seen conn piece Q T X old new (Err fault) q t = record {
+turned_so seen conn before after piece Q T X old new (Err fault) q t = record {
   stops = record {
     exchange = t.stops.exchange;
     last = t.stops.last;
@@ -127,7 +127,7 @@ pub turns_so : {S : Type 0} {seen : S → Kept} {before after : Link} {piece : L
     → TurnsLink seen before after Q Sends X F W r old new
 turns_so {seen} {before} {after} {piece} {Q} {Sends} {X} {r} {old} {new} q t =
     record {
-      took = turned_so seen (number_of before) piece Q
+      took = turned_so seen (number_of before) (unsent before) (unsent after) piece Q
           (Passes Sends (unsent before) (unsent after)) X old new r q t.took;
       same = t.same;
       others = t.others;

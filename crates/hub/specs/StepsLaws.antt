@@ -387,17 +387,17 @@ steps_stopping seen conn P T X fault old new later s =
     }
 
 -- a turn, as steps
-pub steps_turned : {S : Type 0} {before after : List ℕ} (seen : S → Kept) (conn : ℕ) (P T : List ℕ → Type 0)
+pub steps_turned : {S : Type 0} (seen : S → Kept) (conn : ℕ) (before after : List ℕ) (P T : List ℕ → Type 0)
     (X : List Event → Type 0)
     (old new : Hub S) (r : Result Turn ConnectionFault) → IsLater (hub_store seen old) (hub_store seen new)
     → MatchResult r (λ turn. TakesTurn seen turn conn before after P T X old new)
     (λ fault. TurnStops seen conn P T X fault old new)
     → (steps : List Step) × StepsBetween seen X steps old new
-steps_turned seen conn P T X old new (Ok turn) later t = (
+steps_turned seen conn before after P T X old new (Ok turn) later t = (
   answers_of t.on.exchange.events t.on.exchange.replies,
   steps_proceeding seen conn P T X old new later t.on,
 )
-steps_turned seen conn P T X old new (Err fault) later t = (
+steps_turned seen conn before after P T X old new (Err fault) later t = (
   answers_of t.stops.exchange.events t.stops.exchange.replies ++ stop_of conn t.stops.last,
   steps_stopping seen conn P T X fault old new later t.stops,
 )

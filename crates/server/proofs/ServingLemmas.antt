@@ -192,7 +192,7 @@ pub leaves_turn : {B S : Type 0} (seen : S → Kept) (before after : Link) (Read
     → IsUnskipped end r
     → TurnsLink seen before after Reads Sends Draws ReadFails WriteFails end old new → LeavesServed seen Draws r old new
 leaves_turn seen before after Reads Sends Draws ReadFails WriteFails end r old new is t =
-    let turned = steps_turned seen (number_of before) Reads
+    let turned = steps_turned seen (number_of before) (unsent before) (unsent after) Reads
     (Passes Sends (unsent before) (unsent after)) Draws old new end t.keeps.later t.took in
     record {
       steps = turned.0;

@@ -56,6 +56,20 @@ pub fn serve_file(rt: &HostRuntime, path: &str, settings: &Settings<'_>) -> Resu
     let _ = make_private(rt, path);
     tell_opening(rt, path, &log)?;
     let records = SqlRecords::open_from(rt, path, Unknown)?;
+    serve_opened(rt, records, settings, log)
+}
+
+/// Serves the broker that the records have, or starts one in records without a row. If files are checked, it serves
+/// only a sound broker, which has no damaged row, in a storage that returns what was written.
+fn serve_opened<S: Alter + Drop>(
+    rt: &HostRuntime,
+    records: SqlRecords<S>,
+    settings: &Settings<'_>,
+    log: Option<Rc<Log>>,
+) -> Result<(), ServeError>
+    ensures { ReturnsWhatWasWritten S.Store → IsTrue settings.now.checks
+        → IfErr result (λ error. IfFaulted error IsFaultOfNew) }
+{
     if settings.checks {
         return serve_checked(rt, records, settings, log);
     }
