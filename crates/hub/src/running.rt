@@ -38,8 +38,8 @@ pub fn run<S: Store>(
 
     // Whatever the events are, up to a fault, what they asked keeps the laws over a history: those of what is given
     // out, handed out and kept, of tokens and leases, and of secrets and mounts. They hold from any hub, as one over a
-    // store that was opened, where what was given out before counts as given out, and what waited before as kept; two
-    // of them say more from a new one.
+    // store that was opened, where what was given out before counts as given out, and what waited before as kept;
+    // three of them say more from a new one.
     ensures lawful { Lawful S.seen hub.old hub.new events.now result KeepsLaws }
 
     // Whatever the rows are, each event took its turn, with its reply, or the run stopped at the fault of

@@ -15,8 +15,9 @@ use std::marker::Model;
 /// How many rows are remembered at most.
 const PLACES: usize = 64;
 
-/// Rows that were read, or that there was none: at most 64, each with its key of at most 4,096 bytes, and of more the
-/// oldest goes first. Also a moment before which no row is due. No row that holds a secret is remembered.
+/// Rows that were read, or that there was none: at most 64, each with its key of at most 4,096 bytes; a further one
+/// takes the place of an earlier one. Also a moment before which no row is due. No row with a value that a client
+/// stored is remembered; those of tokens are, each under its token.
 #[derive(Drop)]
 pub struct RowMemory {
     alloc: Global,
@@ -88,7 +89,7 @@ impl RowMemory {
         }
         let at = self.turn % len;
         self.turn = at + 1;
-        let _oldest = std::mem::replace(&mut self.entries[at], entry);
+        let _replaced = std::mem::replace(&mut self.entries[at], entry);
     }
 
     /// Forgets the row at a kind and key, which is removed.

@@ -12,7 +12,7 @@ returns c rows agrees is =
     let IsFound = λ (e : RowKey × Option Row). get rows e.0 ≡ e.1 in
     record {
       entries = All-set IsFound c.self.inside.entries.items
-          (c.self.inside.turn % c.len-len.result) c.replace-oldest.new.dest
-          (subst IsFound (sym (c.replace-oldest.ensures.after ∙ c.in-Some.ensures)) (sym is)) inside.entries;
+          (c.self.inside.turn % c.len-len.result) c.replace-replaced.new.dest
+          (subst IsFound (sym (c.replace-replaced.ensures.after ∙ c.in-Some.ensures)) (sym is)) inside.entries;
       calm = inside.calm;
     }
