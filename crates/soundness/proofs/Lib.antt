@@ -16,6 +16,7 @@ mod TextWhole
 mod TokenFacts
 mod TokenTells
 mod TokensSound
+mod VersionLemmas
 mod VisitLemmas
 mod WalkLemmas
 mod Whole

@@ -1,17 +1,21 @@
 //! Rows of secrets and of their versions.
 
-ghost use Rattle.std.specs.Prelude.{◌≡◌, true, option_map, IfOk, IfErr, IfSome, string_bytes};
+ghost use Rattle.std.specs.Prelude.{◌≡◌, ℕ, true, option_map, IfOk, IfErr, IfSome, IfNone, string_bytes};
 ghost use Rattle.std.specs.Bool.{OnTrue};
 ghost use Rattle.std.specs.List.{list_all};
 ghost use Rattle.broker_types.specs.Fault.{IsMemoryOrStorage};
+ghost use Rattle.broker_types.specs.Text.{Text};
 ghost use Rattle.broker_types.specs.declared.fault.Fault.TheVariants as faults;
 ghost use Rattle.api_json.specs.Kept as kept;
+ghost use Rattle.records.specs.declared.kind.Kind.TheVariants as kind;
 ghost use Rattle.records.specs.Calls.{IsReading};
+ghost use Rattle.records.specs.Ranges.{IsKeyInRange};
 ghost use Rattle.records.specs.Reading.{IsSomeIn};
 ghost use Rattle.records.specs.RowForms.{key_entry_row, version_row};
 ghost use Rattle.records.specs.Rows as rows;
-ghost use Rattle.records.specs.Table.{table};
+ghost use Rattle.records.specs.Table.{Table, table};
 ghost use Rattle.records.specs.Transaction.{IsHonest};
+ghost use Rattle.soundness.specs.Broken.{BreaksAt, IsVersionKey, Shows};
 ghost use Rattle.soundness.specs.RowRules.{IsOf, IsKeyAt, IsVersionAt};
 ghost use Rattle.soundness.specs.Texts.{is_fit, are_fit};
 ghost use Rattle.soundness.specs.Visiting.{Finds};
@@ -50,7 +54,10 @@ fn are_fit(pairs: &[(TextBuf, TextBuf)]) -> bool
 }
 
 /// What a row that is not one of a key breaks.
-fn form(alloc: Global, row: &Row) -> Rule {
+fn form(alloc: Global, row: &Row) -> Rule
+    ensures { (IsOf key_entry_row IsKeyInRange row.now → ⊥)
+        → (rows : Table) (q : Text) → BreaksAt rows result kind.KvKey q row.now }
+{
     match read_old_key(alloc, row) {
         Ok(_) => Rule::OldFormat,
         Err(_) => Rule::Format,
@@ -60,6 +67,7 @@ fn form(alloc: Global, row: &Row) -> Rule {
 /// What the row of a key breaks. The only fault is running out of memory.
 pub(crate) fn key(alloc: Global, key: &str, row: &Row) -> Result<Option<Rule>, Fault>
     ensures sound { Finds result (IsOf key_entry_row (IsKeyAt key.now) row.now) }
+    ensures broken { (rows : Table) → Shows result (λ rule. BreaksAt rows rule kind.KvKey key.now row.now) }
     ensures memory { IfErr result (λ fault. fault ≡ faults.Memory) }
 {
     let Some(found) = key_in(alloc, row)? else {
@@ -92,7 +100,9 @@ fn version_key(alloc: Global, name: &str, number: u64) -> Result<String, AllocEr
 
 /// The name of the secret and the number of the version that a key is of. The only error is running out of memory.
 fn parts(alloc: Global, key: &str) -> Result<Option<(&str, u64)>, AllocError>
-    ensures { IfOk result (λ o. IfSome o (λ p. key.now ≡ rows.version_key p.0.now p.1)) }
+    ensures sound { IfOk result (λ o. IfSome o (λ p. IsVersionKey key.now p.0.now p.1)) }
+    ensures whole { IfOk result (λ o. IfNone o
+        ((name : Text) (number : ℕ) → IsVersionKey key.now name number → ⊥)) }
 {
     let Some((name, digits)) = key.split_once('\n') else {
         return Ok(None);
@@ -110,8 +120,10 @@ fn parts(alloc: Global, key: &str) -> Result<Option<(&str, u64)>, AllocError>
 
 /// Whether the secret of a version, if it has one, is the compact text of an object.
 fn is_secret(alloc: Global, secret: Option<&str>) -> Result<bool, AllocError>
-    ensures { IfOk result (λ v. OnTrue v
+    ensures sound { IfOk result (λ v. OnTrue v
         (IsSomeIn (λ t. kept.is_object t ≡ true) (option_map (λ s. s.now) secret.entry))) }
+    ensures whole { IfOk result (λ v.
+        IsSomeIn (λ t. kept.is_object t ≡ true) (option_map (λ s. s.now) secret.entry) → v ≡ true) }
 {
     match secret {
         Some(text) => is_object(alloc, text),
@@ -128,6 +140,8 @@ pub(crate) fn version<T: RecordsTx>(
 ) -> Result<Option<Rule>, Fault>
     ensures sound { IsHonest (T.seen tx.new)
         → Finds result (IsOf version_row (IsVersionAt (table (T.seen tx.old)) key.now) row.now) }
+    ensures broken { IsHonest (T.seen tx.new)
+        → Shows result (λ rule. BreaksAt (table (T.seen tx.old)) rule kind.KvVersion key.now row.now) }
     ensures call { IsReading (T.seen tx.old) (T.seen tx.new) result IsMemoryOrStorage }
 {
     let Ok(version) = read_version(row) else {
