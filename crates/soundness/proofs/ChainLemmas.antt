@@ -28,7 +28,7 @@ module _ (rows : Rows) (t : Text) where
   at = table_of rows
 
   -- whether an entry is a row of a token that has the owner
-  abbrev is_owned : RowKey × Row → Bool
+  abbrev pub is_owned : RowKey × Row → Bool
   is_owned e = is_of_kind kind.Token e.0 && same e.1.owner t
 
   -- the row at the key of such an entry has the owner

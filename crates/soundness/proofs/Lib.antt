@@ -10,6 +10,7 @@ mod OthersSound
 mod PageLemmas
 mod ReadBack
 mod ReadLemmas
+mod RootedLemmas
 mod SecretTells
 mod TextLemmas
 mod TextWhole

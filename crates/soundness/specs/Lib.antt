@@ -1,4 +1,5 @@
 pub mod Broken
+pub mod Chains
 pub mod Laws
 pub mod Notes
 pub mod RowRules

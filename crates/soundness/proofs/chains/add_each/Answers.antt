@@ -1,7 +1,9 @@
-use Rattle.std.proofs.Common.{sym, subst, ap, ◌∙◌}
+use Rattle.std.proofs.Common.{ℕ, sym, subst, ap, ◌∙◌, get_or, below_more}
 use Rattle.records.specs.declared.row.Row.{Row}
 use Rattle.records.specs.Kind.{RowKey}
+use Rattle.soundness.specs.Chains.{HasWordOf}
 use Rattle.soundness.specs.SoundRows.{Ends}
+use Rattle.soundness.proofs.RootedLemmas.{adds_further, same_at}
 use Rattle.soundness.proofs.chains.add_each.Goals as goal
 
 pub loop-token-preserved : goal.loop-token-preserved
@@ -17,4 +19,17 @@ loop-token-preserved c =
           c.in_ok-add.ensures.queue rows
           (subst (Ends rows) (sym key) (all c.loop-token.token-index c.token-item.result c.loop-token-test.true))
           (c.loop-token.invariant.queue rows all above);
+      added = λ k d upto.
+          below_more
+          (λ (k : ℕ). (d : RowKey × Row) → HasWordOf c.add.new.words (get_or c.args.tokens.now k d).0.1)
+          c.loop-token.token-index
+          (λ k low d w small is. c.in_ok-add.ensures.kept.words w (c.loop-token.invariant.added k d low w small is))
+          (λ d w small is.
+          c.in_ok-add.ensures.added w small
+          (key
+          ∙ ap (λ (e : RowKey × Row). e.0.1)
+          (same_at c.args.tokens.now c.loop-token.token-index c.token-item.result d c.loop-token-test.true)
+          ∙ is)) k upto d;
+      kept = adds_further c.args.words.now c.loop-token.words c.add.new.words c.args.queue.now.items
+          c.loop-token.queue.items c.add.new.queue.items c.loop-token.invariant.kept c.in_ok-add.ensures.kept;
     }

@@ -1,15 +1,18 @@
-use Rattle.std.proofs.Common.{rules, ◌<◌, length, sym, ◌∙◌, subst, refl, arith, inl}
-use Rattle.std.specs.Prelude.{All}
-use Rattle.std.proofs.lemmas.List.Elements.{All-push, All-nil}
+use Rattle.std.proofs.Common.{rules, ◌<◌, ◌++◌, ◌∷◌, [], length, get_or, sym, ◌∙◌, subst, refl, arith, inl}
+use Rattle.std.specs.Prelude.{All, Contains}
+use Rattle.std.proofs.lemmas.List.Elements.{All-push, All-nil, Contains-push}
+use Rattle.broker_types.specs.Text.{Text}
 use Rattle.records.specs.declared.kind.Kind.TheVariants as kind
 use Rattle.records.specs.declared.row.Row.{Row}
 use Rattle.records.specs.CallLaws.{honest_before}
 use Rattle.records.specs.Kind.{RowKey}
 use Rattle.records.specs.Table.{table_of}
 use Rattle.records.specs.Transaction.{IsHonest, rows_owned}
+use Rattle.soundness.specs.Chains.{HasWordOf}
 use Rattle.soundness.specs.SoundRows.{Ends}
 use Rattle.soundness.specs.Visiting.{IsAbove}
 use Rattle.soundness.proofs.ChainLemmas.{children_end, none_ends}
+use Rattle.soundness.proofs.RootedLemmas.{each_found, none_queued, one_more_done, same_at, still_queued}
 use Rattle.soundness.proofs.chains.rooted.Goals as goal
 
 pub loop-next-init : goal.loop-next-init
@@ -22,6 +25,11 @@ loop-next-init g c =
           (All-push (IsAbove rows) _ c.in_ok-copied.field-0
           (subst (All (IsAbove rows)) (sym c.new-queue.ensures.items) (All-nil (IsAbove rows)))
           (inl c.in_ok-copied.ensures));
+      root = subst (λ ts. Contains ts []) (sym c.in_ok-push.ensures.items)
+          (subst (Contains (c.new-queue.result.items ++ c.in_ok-copied.field-0 ∷ [])) c.in_ok-copied.ensures
+          (Contains-push c.new-queue.result.items c.in_ok-copied.field-0));
+      queued = none_queued c.new-words.result _ c.new-words.ensures.empty;
+      done = λ honest k d below. absurd (omega (arith, below));
       goes_on = search rules;
     }
 
@@ -33,6 +41,7 @@ loop-next-preserved g c =
     let next = c.index.result.now in
     let below : c.loop-next.next < length es = omega (arith, c.loop-next-test.true, c.len.ensures) in
     let asked = c.as_str.ensures ∙ c.index.ensures in
+    let owner : Text = get_or es c.loop-next.next next in
     let children : (honest : IsHonest (seen c.by_owner.new.self))
     → All (λ (e : RowKey × Row). Ends (table_of rows) e.0.1) c.deref.result.now = λ honest.
     let before = honest_before (seen c.loop-next.tx)
@@ -54,5 +63,23 @@ loop-next-preserved g c =
           let before = honest_before (seen c.loop-next.tx)
           (seen c.by_owner.new.self) _ c.in_ok-children.ensures.call.goes_on honest in
           c.in_ok-add_each.ensures.queue (table_of rows) (children honest) (c.loop-next.invariant.queue before);
+      root = still_queued c.loop-next.words c.add_each.new.words es c.add_each.new.queue.items
+          c.in_ok-add_each.ensures.kept [] c.loop-next.invariant.root;
+      queued = c.in_ok-add_each.ensures.kept.queued c.loop-next.invariant.queued;
+      done = λ honest.
+          let before = honest_before (seen c.loop-next.tx)
+          (seen c.by_owner.new.self) _ c.in_ok-children.ensures.call.goes_on honest in
+          let listed = c.deref.ensures.value ∙ c.in_ok-children.ensures.listed honest
+          ∙ (λ i. rows_owned (c.loop-next.invariant.same before i) kind.Token (asked i)) in
+          one_more_done rows c.loop-next.words c.add_each.new.words es c.add_each.new.queue.items c.loop-next.next owner
+          below (same_at es c.loop-next.next owner next below) c.in_ok-add_each.ensures.kept
+          (subst (All (λ (e : RowKey × Row). HasWordOf c.add_each.new.words e.0.1)) listed
+          c.in_ok-add_each.ensures.added) (c.loop-next.invariant.done before);
       goes_on = search rules;
     }
+
+pub returns-clause-whole : goal.returns-clause-whole
+returns-clause-whole g c honest =
+    each_found (table_of (g.T.RecordsTx.seen c.args.tx.now).rows) c.loop-next.words c.loop-next.queue.items
+    c.loop-next.next (omega (arith, c.loop-next-test.false, c.len.ensures)) c.loop-next.invariant.root
+    c.loop-next.invariant.queued (c.loop-next.invariant.done honest)

@@ -1,8 +1,10 @@
 use Rattle.std.proofs.Common.{◌≡◌, ◌-◌, ◌^◌, false}
-use Rattle.std.specs.Prelude.{All}
+use Rattle.std.specs.Prelude.{[], All, Contains}
 use Rattle.records.specs.Table.{table_of}
 use Rattle.records.specs.Transaction.{IsHonest, GoesOn}
+use Rattle.soundness.specs.Chains.{AreQueued}
 use Rattle.soundness.specs.Visiting.{EachEnds, IsAbove}
+use Rattle.soundness.proofs.RootedLemmas.{AreDone}
 use Rattle.soundness.proofs.chains.rooted.Given as goal
 
 -- the chain of each token so far ends
@@ -14,6 +16,9 @@ invariant-loop-next g l =
       same : IsHonest (seen l.tx) → (seen l.tx).rows ≡ (seen l.fn.tx).rows;
       words : IsHonest (seen l.tx) → EachEnds rows l.words;
       queue : IsHonest (seen l.tx) → All (IsAbove rows) l.queue.items;
+      root : Contains l.queue.items [];
+      queued : AreQueued l.words l.queue.items;
+      done : IsHonest (seen l.tx) → AreDone rows l.words l.queue.items l.next;
       goes_on : GoesOn (seen l.fn.tx) (seen l.tx) false;
     }
 

@@ -25,4 +25,4 @@ returns-clause-passed g c honest ends =
     (if_none c.in_ok-rule.field-0 c.in_default.is (c.in_ok-rule.ensures.sound one))
     (if_none c.in_ok-place.field-0 c.in_default-2.is (c.in_ok-place.ensures.had two))
     (if_none c.in_ok-origin.field-0 c.in_default-3.is (c.in_ok-origin.ensures.had honest))
-    c.chain.result (c.chain.ensures (table_of first) ends)
+    c.chain.result (c.chain.ensures.sound (table_of first) ends)
