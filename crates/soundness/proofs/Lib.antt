@@ -6,6 +6,7 @@ mod BrokerWhole
 mod ChainLemmas
 mod Gather
 mod IdentifiersSound
+mod NotingLemmas
 mod OthersSound
 mod PageLemmas
 mod ReadBack

@@ -1,16 +1,21 @@
 //! Rows noted by the words of their identifiers, each of which is in one row.
 
-ghost use Rattle.std.specs.Prelude.{◌≡◌, Some, IfOk, IfErr};
+ghost use Rattle.std.specs.Prelude.{◌≡◌, ℕ, Some, false, IfOk, IfErr};
 ghost use Rattle.std.specs.Bool.{OnTrue};
 ghost use Rattle.broker_types.specs.Fault.{IsMemoryOrStorage};
 ghost use Rattle.broker_types.specs.Places as leases;
+ghost use Rattle.broker_types.specs.Identifier.{id};
+ghost use Rattle.broker_types.specs.Sound.{IsIdentifier, IsLeaseId, IsTokenText};
 ghost use Rattle.broker_types.specs.Text.{Text};
 ghost use Rattle.broker_types.specs.TokenText.{token_text};
 ghost use Rattle.broker_types.specs.declared.fault.Fault.TheVariants as faults;
 ghost use Rattle.records.specs.declared.kind.Kind.TheVariants as kind;
 ghost use Rattle.records.specs.Calls.{IsReading};
+ghost use Rattle.records.specs.Kind.{RowKey};
 ghost use Rattle.records.specs.Table.{table};
 ghost use Rattle.records.specs.Transaction.{IsHonest};
+ghost use Rattle.soundness.specs.Broken.{BreaksAt, HasIdentifier, IsKeyOf, Shows};
+ghost use Rattle.soundness.specs.Notes.{AddsOnly, AreNotedOrigins, HasOrigin, IsNotNoted, StopsNoting};
 ghost use Rattle.soundness.specs.SoundRows.{IsHad, HasItsIdentifier};
 ghost use Rattle.soundness.specs.Visiting.{Finds, Grows, HasItsOrigin, noted};
 
@@ -33,6 +38,10 @@ fn note(
 ) -> Result<bool, Fault>
     ensures noted { IfOk result (λ is_new. OnTrue is_new
         ((noted places.new word ≡ Some (kind, key.now)) × Grows (noted places.old) (noted places.new))) }
+    ensures whole { IfOk result (λ is_new. is_new ≡ false
+        → (other : RowKey) × (noted places.old word ≡ Some other)) }
+    ensures adds { IfOk result (λ is_new.
+        AddsOnly (λ i. i ≡ id word) (kind, key.now) (noted places.old) (noted places.new)) }
     ensures memory { IfErr result (λ fault. fault ≡ faults.Memory) }
 {
     let key = TextBuf::copied(alloc, key)?;
@@ -52,6 +61,11 @@ fn had<T: RecordsTx>(
     ensures had { IsHonest (T.seen tx.new) → Finds result
         (IsHad (table (T.seen tx.old)) (noted places.new) (kind, key.now) identifier.now
         × Grows (noted places.old) (noted places.new)) }
+    ensures broken { IsHonest (T.seen tx.new) → Shows result
+        (StopsNoting (table (T.seen tx.old)) (noted places.old) (IsIdentifier identifier.now)
+        (λ i. identifier.now ≡ i)) }
+    ensures adds { Finds result
+        (AddsOnly (λ i. identifier.now ≡ i) (kind, key.now) (noted places.old) (noted places.new)) }
     ensures call { IsReading (T.seen tx.old) (T.seen tx.new) result IsMemoryOrStorage }
 {
     let Some(word) = word_of(identifier) else {
@@ -78,6 +92,11 @@ fn note_token<T: RecordsTx>(
         (((i : Text) × (key.now ≡ token_text i)
         × IsHad (table (T.seen tx.old)) (noted places.new) (kind, key.now) i)
         × Grows (noted places.old) (noted places.new)) }
+    ensures broken { IsHonest (T.seen tx.new) → Shows result
+        (StopsNoting (table (T.seen tx.old)) (noted places.old) (IsTokenText key.now)
+        (λ i. key.now ≡ token_text i)) }
+    ensures adds { Finds result
+        (AddsOnly (λ i. key.now ≡ token_text i) (kind, key.now) (noted places.old) (noted places.new)) }
     ensures call { IsReading (T.seen tx.old) (T.seen tx.new) result IsMemoryOrStorage }
 {
     match token_identifier(key) {
@@ -96,6 +115,11 @@ fn note_lease<T: RecordsTx>(
     ensures had { IsHonest (T.seen tx.new) → Finds result
         (IsHad (table (T.seen tx.old)) (noted places.new) (kind.Lease, key.now) (leases.lease_identifier key.now)
         × Grows (noted places.old) (noted places.new)) }
+    ensures broken { IsHonest (T.seen tx.new) → Shows result
+        (StopsNoting (table (T.seen tx.old)) (noted places.old) (IsLeaseId key.now)
+        (λ i. leases.lease_identifier key.now ≡ i)) }
+    ensures adds { Finds result (AddsOnly (λ i. leases.lease_identifier key.now ≡ i) (kind.Lease, key.now)
+        (noted places.old) (noted places.new)) }
     ensures call { IsReading (T.seen tx.old) (T.seen tx.new) result IsMemoryOrStorage }
 {
     match lease_identifier(key) {
@@ -115,6 +139,11 @@ pub(crate) fn note_identifier<T: RecordsTx>(
     ensures had { IsHonest (T.seen tx.new) → Finds result
         (HasItsIdentifier (table (T.seen tx.old)) (noted places.new) kind key.now
         × Grows (noted places.old) (noted places.new)) }
+    ensures broken { IsHonest (T.seen tx.new) → (owner : Text) → Shows result
+        (StopsNoting (table (T.seen tx.old)) (noted places.old) (IsKeyOf kind key.now owner)
+        (HasIdentifier kind key.now)) }
+    ensures adds { Finds result
+        (AddsOnly (HasIdentifier kind key.now) (kind, key.now) (noted places.old) (noted places.new)) }
     ensures call { IsReading (T.seen tx.old) (T.seen tx.new) result IsMemoryOrStorage }
 {
     match kind {
@@ -138,6 +167,11 @@ fn note_response<T: RecordsTx>(
     ensures had { IsHonest (T.seen tx.new) → Finds result
         (HasItsOrigin (table (T.seen tx.old)) (noted places.new) kind.Waiting key.now row.now
         × Grows (noted places.old) (noted places.new)) }
+    ensures broken { IsHonest (T.seen tx.new) → AreNotedOrigins (table (T.seen tx.old)) (noted places.old)
+        → IsNotNoted (noted places.old) (kind.Waiting, key.now)
+        → Shows result (λ rule. BreaksAt (table (T.seen tx.old)) rule kind.Waiting key.now row.now) }
+    ensures adds { Finds result (AddsOnly (HasOrigin kind.Waiting row.now) (kind.Waiting, key.now)
+        (noted places.old) (noted places.new)) }
     ensures call { IsReading (T.seen tx.old) (T.seen tx.new) result IsMemoryOrStorage }
 {
     let Ok(waiting) = read_waiting(row) else {
@@ -161,6 +195,11 @@ pub(crate) fn note_origin<T: RecordsTx>(
     ensures had { IsHonest (T.seen tx.new) → Finds result
         (HasItsOrigin (table (T.seen tx.old)) (noted places.new) kind key.now row.now
         × Grows (noted places.old) (noted places.new)) }
+    ensures broken { IsHonest (T.seen tx.new) → AreNotedOrigins (table (T.seen tx.old)) (noted places.old)
+        → IsNotNoted (noted places.old) (kind, key.now)
+        → Shows result (λ rule. BreaksAt (table (T.seen tx.old)) rule kind key.now row.now) }
+    ensures adds { Finds result
+        (AddsOnly (HasOrigin kind row.now) (kind, key.now) (noted places.old) (noted places.new)) }
     ensures call { IsReading (T.seen tx.old) (T.seen tx.new) result IsMemoryOrStorage }
 {
     match kind {
