@@ -1,6 +1,7 @@
 mod AnswerLemmas
 mod BrokenLemmas
 mod BrokenRows
+mod BrokenWalk
 mod BrokerRows
 mod BrokerWhole
 mod ChainLemmas
@@ -9,6 +10,7 @@ mod IdentifiersSound
 mod NotingLemmas
 mod OthersSound
 mod PageLemmas
+mod PageOrder
 mod ReadBack
 mod ReadLemmas
 mod RootedLemmas

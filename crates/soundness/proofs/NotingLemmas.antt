@@ -15,7 +15,8 @@ use Rattle.records.specs.declared.kind.Kind.{Kind}
 use Rattle.records.specs.declared.kind.Kind.TheVariants as kind
 use Rattle.records.specs.declared.row.Row.{Row}
 use Rattle.records.specs.Kind.{RowKey}
-use Rattle.records.specs.Table.{Table}
+use Rattle.records.specs.Table.{Table, table_of}
+use Rattle.records.specs.Transaction.{Rows}
 use Rattle.soundness.specs.declared.trouble.Rule.{Rule}
 use Rattle.soundness.specs.declared.trouble.Rule.TheVariants as rule
 use Rattle.soundness.specs.declared.trouble.Trouble.{Trouble}
@@ -194,3 +195,39 @@ module _ {B : Type 0} (result : Result (Option B) Fault) where
       by : (o : Option B) → IfSome o P → IfSome o Q
       by None p = tt
       by (Some b) p = f b p
+
+-- ---- a row that is visited
+
+module _ (first now : Rows) (same : now ≡ first) (k : Kind) (q : Text) (row : Row) (e : RowKey × Row)
+    (at : ((k, q), row) ≡ e) (n : Notes) (fresh : IsFresh n e.0) where
+  abbrev BreaksEntry : Rule → RowKey × Row → Type 0
+  BreaksEntry r f = BreaksAt (table_of first) r f.0.0 f.0.1 f.1
+
+  fresh_here : IsFresh n (k, q)
+  fresh_here = subst (λ (f : RowKey × Row). IsFresh n f.0) (sym at) fresh
+
+  -- the row breaks what stops the noting of its identifier
+  pub identifier_breaks : AreTrue (table_of first) n → (r : Rule)
+      → StopsNoting (table_of now) (noted n.identifiers) (IsKeyOf k q row.owner) (HasIdentifier k q) r
+      → BreaksAt (table_of first) r e.0.0 e.0.1 e.1
+  identifier_breaks are r stops =
+      subst (BreaksEntry r) at
+      (stops_broken (table_of first) (noted n.identifiers) k q row are.identifiers fresh_here.identifiers r
+      (subst
+      (λ (m : Rows). StopsNoting (table_of m) (noted n.identifiers) (IsKeyOf k q row.owner) (HasIdentifier k q) r)
+      same stops))
+
+  -- and what stops that of its origin
+  pub origin_breaks : AreTrue (table_of first) n → (r : Rule)
+      → (AreNotedOrigins (table_of now) (noted n.origins) → IsNotNoted (noted n.origins) (k, q)
+      → BreaksAt (table_of now) r k q row)
+      → BreaksAt (table_of first) r e.0.0 e.0.1 e.1
+  origin_breaks are r breaks =
+      subst (BreaksEntry r) at
+      (subst (λ (m : Rows). BreaksAt (table_of m) r k q row) same
+      (breaks (subst (λ (m : Rows). AreNotedOrigins (table_of m) (noted n.origins)) (sym same) are.origins)
+      fresh_here.origins))
+
+-- what an answer tells of a rule
+pub if_some : {B : Type 0} (P : B → Type 0) (o : Option B) (b : B) → o ≡ Some b → IfSome o P → P b
+if_some P o b is told = subst (λ x. IfSome x P) is told

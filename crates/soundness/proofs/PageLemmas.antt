@@ -42,7 +42,7 @@ above_none c q = one (nat_cmp c 0) refl
     one Equal is = not_below_none q
     one Greater is = refl
 
-just_above : (q k : Text) → is_ge (text_cmp q (k ++ 0 ∷ [])) ≡ not (is_le (text_cmp q k))
+pub just_above : (q k : Text) → is_ge (text_cmp q (k ++ 0 ∷ [])) ≡ not (is_le (text_cmp q k))
 just_above [] [] = refl
 just_above [] (d ∷ k) = refl
 just_above (c ∷ q) [] = above_none c q
@@ -53,7 +53,7 @@ just_above (c ∷ q) (d ∷ k) = elim (nat_cmp c d) as
       | Greater ↦ refl
     ]
 
-turned : (b : Bool) → not b ≡ false → b ≡ true
+pub turned : (b : Bool) → not b ≡ false → b ≡ true
 turned true h = refl
 turned false h = absurd (false≢true (sym h))
 
@@ -62,12 +62,12 @@ tied Less h = absurd (false≢true h)
 tied Equal h = refl
 tied Greater h = absurd (false≢true h)
 
-T_true : (b : Bool) → T b → b ≡ true
+pub T_true : (b : Bool) → T b → b ≡ true
 T_true true t = refl
 T_true false t = absurd t
 
 -- keys of one kind are in the order of their texts
-one_kind : (k : Kind) (q t : Text) → key_cmp (k, q) (k, t) ≡ text_cmp q t
+pub one_kind : (k : Kind) (q t : Text) → key_cmp (k, q) (k, t) ≡ text_cmp q t
 one_kind k q t =
     ap (λ o. ordering_then o (text_cmp q t)) (tied _ ((eq_by_cmp_equiv nat_cmp_total).refl (kind_number k)))
 
@@ -80,13 +80,13 @@ last_in e (f ∷ fs) = Contains-append_right (e ∷ []) (f ∷ fs) _ (last_in f 
 
 module _ (rows : Rows) (k : Kind) (from : Text) (count : ℕ) (page : List (RowKey × Row))
     (is : page ≡ take count (rows_from rows k [] from)) where
-  abbrev listed : List (RowKey × Row)
+  abbrev pub listed : List (RowKey × Row)
   listed = rows_from rows k [] from
 
-  abbrev is_under : RowKey × Row → Bool
+  abbrev pub is_under : RowKey × Row → Bool
   is_under e = is_of_kind k e.0 && starts_with nat_eq e.0.1 []
 
-  abbrev is_from : RowKey × Row → Bool
+  abbrev pub is_from : RowKey × Row → Bool
   is_from e = is_ge (text_cmp e.0.1 from)
 
   -- a row from the key on is listed
@@ -97,10 +97,10 @@ module _ (rows : Rows) (k : Kind) (from : Text) (count : ℕ) (page : List (RowK
       (passing_whole rows is_under (k, q) row here
       (λ i. eqb_self (kind_number k) i && begins_with [] q q refl i)) at
 
-  split : page ++ drop count listed ≡ listed
+  pub split : page ++ drop count listed ≡ listed
   split = ap (λ es. es ++ drop count listed) is ∙ take-append-drop count listed
 
-  listed_sorted : T (is_sorted key_cmp listed)
+  pub listed_sorted : T (is_sorted key_cmp listed)
   listed_sorted =
       is_sorted-where_key key_cmp (λ x. is_ge (text_cmp x.1 from)) (rows_under rows k [])
       (is_sorted-where_key key_cmp (λ x. is_of_kind k x && starts_with nat_eq x.1 []) (entries rows)

@@ -3,6 +3,8 @@
 ghost use Rattle.broker_types.specs.Fault.{IsMemoryOrStorage};
 ghost use Rattle.records.specs.Calls.{IsReading};
 ghost use Rattle.records.specs.Transaction.{IsHonest};
+ghost use Rattle.records.specs.Table.{table};
+ghost use Rattle.soundness.specs.Broken.{Breaks, Shows};
 ghost use Rattle.soundness.specs.Laws.{AreOfABroker};
 ghost use Rattle.soundness.specs.Visiting.{Finds};
 
@@ -20,6 +22,7 @@ use std::collections::BTreeMap;
 /// those of one, as between two requests. It fails only if memory runs out or the storage fails.
 pub fn check<T: RecordsTx>(alloc: Global, tx: &mut T) -> Result<Option<Trouble>, Fault>
     ensures sound { IsHonest (T.seen tx.new) → Finds result (AreOfABroker (T.seen tx.old).rows) }
+    ensures broken { IsHonest (T.seen tx.new) → Shows result (Breaks (table (T.seen tx.old))) }
     ensures call { IsReading (T.seen tx.old) (T.seen tx.new) result IsMemoryOrStorage }
 {
     if !has_row(tx, Kind::Clock, "")? {

@@ -1,3 +1,5 @@
+ghost use Rattle.std.specs.Prelude.{◌≡◌, IfOk};
+
 use broker_types::TextBuf;
 use records::Kind;
 use std::alloc::{AllocError, Global};
@@ -55,7 +57,9 @@ impl Trouble {
         kind: Kind,
         key: &str,
         rule: Rule,
-    ) -> Result<Trouble, AllocError> {
+    ) -> Result<Trouble, AllocError>
+        ensures { IfOk result (λ t. (t.kind ≡ kind) × (t.key ≡ key.now) × (t.rule ≡ rule)) }
+    {
         let key = TextBuf::copied(alloc, key)?;
         Ok(Trouble { kind, key, rule })
     }

@@ -1,15 +1,16 @@
 //! Rows visited one after another: each is tested, and its identifiers are noted.
 
-ghost use Rattle.std.specs.Prelude.{◌≡◌, ◌-◌, ◌++◌, ◌∷◌, [], length, slice_get, All, Some, IfOk, string_bytes};
+ghost use Rattle.std.specs.Prelude.{◌≡◌, ◌≢◌, ◌-◌, ◌++◌, ◌∷◌, [], length, slice_get, All, Some, IfOk, string_bytes};
 ghost use Rattle.broker_types.specs.Fault.{IsMemoryOrStorage};
 ghost use Rattle.records.specs.Calls.{IsReading};
 ghost use Rattle.records.specs.declared.row.Row.{Row};
 ghost use Rattle.records.specs.Kind.{RowKey};
 ghost use Rattle.records.specs.Table.{table};
 ghost use Rattle.records.specs.Transaction.{IsHonest};
+ghost use Rattle.soundness.specs.Broken.{Breaks, BreaksAt, Shows};
 ghost use Rattle.soundness.specs.RowRules.{IsSoundAt};
 ghost use Rattle.soundness.specs.Visiting.{Finds, EachEnds, IsPassed, ArePassed, noted};
-ghost use Rattle.soundness.specs.Notes.{GoesOnFrom};
+ghost use Rattle.soundness.specs.Notes.{AreApart, AreTrue, CanBeVisited, GoesOnFrom, IsEntry, IsFresh, IsFreshKind, Spares};
 ghost use Rattle.records.specs.declared.kind.Kind.{Kind};
 
 use crate::chains::chain;
@@ -47,6 +48,8 @@ fn test<T: RecordsTx>(
 ) -> Result<Option<Rule>, Fault>
     ensures sound { IsHonest (T.seen tx.new)
         → Finds result (IsSoundAt (table (T.seen tx.old)) kind key.now row.now) }
+    ensures broken { IsHonest (T.seen tx.new)
+        → Shows result (λ rule. BreaksAt (table (T.seen tx.old)) rule kind key.now row.now) }
     ensures call { IsReading (T.seen tx.old) (T.seen tx.new) result IsMemoryOrStorage }
 {
     match kind {
@@ -76,6 +79,11 @@ fn visit<T: RecordsTx>(
     ensures passed { IsHonest (T.seen tx.new) → EachEnds (table (T.seen tx.old)) notes.old.rooted
         → Finds result (GoesOnFrom notes.old notes.new
         × IsPassed (table (T.seen tx.old)) (noted notes.new.identifiers) (noted notes.new.origins) entry.now) }
+    ensures broken { IsHonest (T.seen tx.new) → AreTrue (table (T.seen tx.old)) notes.old
+        → IsFresh notes.old entry.now.0 → Shows result
+        (λ rule. BreaksAt (table (T.seen tx.old)) rule entry.now.0.0 entry.now.0.1 entry.now.1) }
+    ensures kept { IsHonest (T.seen tx.new) → IsEntry (table (T.seen tx.old)) entry.now
+        → Finds result (Spares (table (T.seen tx.old)) (λ key. key ≢ entry.now.0) notes.old notes.new) }
     ensures call { IsReading (T.seen tx.old) (T.seen tx.new) result IsMemoryOrStorage }
 {
     let key = entry.key.as_str();
@@ -101,6 +109,12 @@ fn visit_each<T: RecordsTx>(
     ensures passed { IsHonest (T.seen tx.new) → EachEnds (table (T.seen tx.old)) notes.old.rooted
         → Finds result (GoesOnFrom notes.old notes.new
         × All (IsPassed (table (T.seen tx.old)) (noted notes.new.identifiers) (noted notes.new.origins)) entries.now) }
+    ensures broken { IsHonest (T.seen tx.new) → AreTrue (table (T.seen tx.old)) notes.old
+        → CanBeVisited (table (T.seen tx.old)) notes.old entries.now
+        → Shows result (Breaks (table (T.seen tx.old))) }
+    ensures kept { IsHonest (T.seen tx.new) → All (IsEntry (table (T.seen tx.old))) entries.now
+        → Finds result (Spares (table (T.seen tx.old)) (λ key. All (λ e. key ≢ e.0) entries.now)
+        notes.old notes.new) }
     ensures call { IsReading (T.seen tx.old) (T.seen tx.new) result IsMemoryOrStorage }
 {
     for entry in entries {
@@ -139,6 +153,10 @@ fn visit_kind<T: RecordsTx>(
     ensures passed { IsHonest (T.seen tx.new) → EachEnds (table (T.seen tx.old)) notes.old.rooted
         → Finds result (GoesOnFrom notes.old notes.new
         × ArePassed (table (T.seen tx.old)) (noted notes.new.identifiers) (noted notes.new.origins) kind) }
+    ensures broken { IsHonest (T.seen tx.new) → AreTrue (table (T.seen tx.old)) notes.old
+        → IsFreshKind notes.old kind → Shows result (Breaks (table (T.seen tx.old))) }
+    ensures kept { IsHonest (T.seen tx.new)
+        → Finds result (Spares (table (T.seen tx.old)) (λ key. key.0 ≢ kind) notes.old notes.new) }
     ensures call { IsReading (T.seen tx.old) (T.seen tx.new) result IsMemoryOrStorage }
 {
     let mut from = String::new(alloc);
@@ -182,6 +200,9 @@ fn visit_kinds<T: RecordsTx>(
     ensures passed { IsHonest (T.seen tx.new) → EachEnds (table (T.seen tx.old)) notes.old.rooted
         → Finds result (GoesOnFrom notes.old notes.new
         × All (ArePassed (table (T.seen tx.old)) (noted notes.new.identifiers) (noted notes.new.origins)) kinds.now) }
+    ensures broken { IsHonest (T.seen tx.new) → AreTrue (table (T.seen tx.old)) notes.old
+        → AreApart (λ k. k) kinds.now → All (IsFreshKind notes.old) kinds.now
+        → Shows result (Breaks (table (T.seen tx.old))) }
     ensures call { IsReading (T.seen tx.old) (T.seen tx.new) result IsMemoryOrStorage }
 {
     for kind in kinds {
@@ -201,6 +222,8 @@ pub(crate) fn visit_all<T: RecordsTx>(
     ensures passed { IsHonest (T.seen tx.new) → EachEnds (table (T.seen tx.old)) notes.old.rooted
         → Finds result ((kind : Kind)
         → ArePassed (table (T.seen tx.old)) (noted notes.new.identifiers) (noted notes.new.origins) kind) }
+    ensures broken { IsHonest (T.seen tx.new) → AreTrue (table (T.seen tx.old)) notes.old
+        → ((k : Kind) → IsFreshKind notes.old k) → Shows result (Breaks (table (T.seen tx.old))) }
     ensures call { IsReading (T.seen tx.old) (T.seen tx.new) result IsMemoryOrStorage }
 {
     visit_kinds(alloc, tx, notes, &KINDS)

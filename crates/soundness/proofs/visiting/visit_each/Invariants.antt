@@ -1,8 +1,10 @@
-use Rattle.std.proofs.Common.{◌≡◌, false, take}
+use Rattle.std.proofs.Common.{◌≡◌, ◌≢◌, ◌≤◌, ◌<◌, ℕ, false, take, length, get_or}
 use Rattle.std.specs.Prelude.{All}
+use Rattle.records.specs.declared.row.Row.{Row}
+use Rattle.records.specs.Kind.{RowKey}
 use Rattle.records.specs.Table.{table_of}
 use Rattle.records.specs.Transaction.{IsHonest, GoesOn}
-use Rattle.soundness.specs.Notes.{GoesOnFrom}
+use Rattle.soundness.specs.Notes.{CanBeVisited, GoesOnFrom, IsEntry, IsFresh, Spares}
 use Rattle.soundness.specs.Visiting.{EachEnds, IsPassed, noted}
 use Rattle.soundness.proofs.visiting.visit_each.Given as goal
 
@@ -16,5 +18,10 @@ invariant-loop-entry g l =
       passed : IsHonest (seen l.tx) → EachEnds rows l.initial.notes.rooted
           → GoesOnFrom l.initial.notes l.notes
           × All (IsPassed rows (noted l.notes.identifiers) (noted l.notes.origins)) (take l.entry-index l.entries);
+      kept : IsHonest (seen l.tx) → All (IsEntry rows) l.entries
+          → Spares rows (λ key. All (λ e. key ≢ e.0) l.entries) l.initial.notes l.notes;
+      fresh : IsHonest (seen l.tx) → CanBeVisited rows l.initial.notes l.entries
+          → (k : ℕ) (d : RowKey × Row) → l.entry-index ≤ k → k < length l.entries
+          → IsFresh l.notes (get_or l.entries k d).0;
       goes_on : GoesOn (seen l.initial.tx) (seen l.tx) false;
     }

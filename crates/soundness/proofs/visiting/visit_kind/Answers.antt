@@ -1,4 +1,4 @@
-use Rattle.std.proofs.Common.{◌≡◌, ◌<◌, ◌-◌, [], List, length, slice_get, Some, refl, sym, ap, ◌∙◌, subst, false, rules}
+use Rattle.std.proofs.Common.{◌≡◌, ◌≢◌, ◌<◌, ◌-◌, [], List, length, slice_get, Some, refl, sym, ap, ◌∙◌, subst, false, rules}
 use Rattle.std.specs.Prelude.{All, take, string_bytes}
 use Rattle.broker_types.specs.Text.{Text}
 use Rattle.records.specs.declared.row.Row.{Row}
@@ -6,7 +6,10 @@ use Rattle.records.specs.CallLaws.{honest_before, goes_further}
 use Rattle.records.specs.Kind.{RowKey}
 use Rattle.records.specs.Table.{table_of}
 use Rattle.records.specs.Transaction.{rows_from}
+use Rattle.soundness.proofs.BrokenWalk.{IsFreshFrom, page_breaks, page_frees, page_keeps}
+use Rattle.soundness.proofs.NotingLemmas.{spares_none}
 use Rattle.soundness.proofs.PageLemmas.{none_below, pages_end, pages_go_on}
+use Rattle.soundness.proofs.PageOrder.{last_row}
 use Rattle.soundness.proofs.WalkLemmas.{Passed, PassedBelow, notes_stay, page_more}
 use Rattle.soundness.proofs.visiting.visit_kind.Goals as goal
 
@@ -21,6 +24,8 @@ loop-init g c =
         subst (λ (t : Text). PassedBelow rows notes c.args.kind t) (sym c.new-from.ensures.bytes)
             (none_below rows _ _ c.args.kind),
       );
+      kept = λ honest. spares_none (table_of rows) (λ key. key.0 ≢ c.args.kind) notes;
+      fresh = λ honest fresh q at. fresh q;
       goes_on = search rules;
     }
 
@@ -83,9 +88,78 @@ loop-preserved g c =
             subst (λ (t : Text). PassedBelow first c.visit_each.new.notes c.args.kind t)
                 (sym (c.in_ok-from.ensures on.0 last)) on.2,
           );
+      kept = λ honest.
+          let listed = honest_before (seen c.under_from.new.self)
+          (seen c.visit_each.new.tx) false c.in_ok-trouble.ensures.call.goes_on honest in
+          let early = honest_before (seen c.loop.tx)
+          (seen c.under_from.new.self) false c.in_ok-page.ensures.call.goes_on listed in
+          let same = c.loop.invariant.same early in
+          let is : page ≡ take 16 (rows_from first c.args.kind [] from) =
+          c.in_ok-page.ensures.listed listed
+          ∙ (λ i. take 16 (rows_from (same i) c.args.kind [] (c.as_str.ensures.value i))) in
+          page_keeps first (seen c.under_from.new.self).rows (c.in_ok-page.ensures.call.same listed ∙ same)
+          c.args.notes.now c.loop.notes c.visit_each.new.notes c.args.kind from 16 page c.deref.result.now is
+          c.deref.ensures.value c.in_ok-trouble.field-0 c.in_default.is (c.in_ok-trouble.ensures.kept honest)
+          (c.loop.invariant.kept early);
+      fresh = λ honest fresh.
+          let listed = honest_before (seen c.under_from.new.self)
+          (seen c.visit_each.new.tx) false c.in_ok-trouble.ensures.call.goes_on honest in
+          let early = honest_before (seen c.loop.tx)
+          (seen c.under_from.new.self) false c.in_ok-page.ensures.call.goes_on listed in
+          let same = c.loop.invariant.same early in
+          let is : page ≡ take 16 (rows_from first c.args.kind [] from) =
+          c.in_ok-page.ensures.listed listed
+          ∙ (λ i. take 16 (rows_from (same i) c.args.kind [] (c.as_str.ensures.value i))) in
+          let some : 0 < length page = search rules in
+          let e = last_row page some in
+          let last : slice_get c.deref-in-loop.result.now (length c.deref-in-loop.result.now - 1) ≡ Some e.0 =
+          ap (λ (es : List (RowKey × Row)). slice_get es (length es - 1)) c.deref-in-loop.ensures.value ∙ e.1 in
+          subst (IsFreshFrom c.visit_each.new.notes c.args.kind) (sym (c.in_ok-from.ensures e.0 last))
+          (page_frees first (seen c.under_from.new.self).rows (c.in_ok-page.ensures.call.same listed ∙ same)
+          c.args.notes.now c.loop.notes c.visit_each.new.notes c.args.kind from 16 page c.deref.result.now is
+          c.deref.ensures.value c.in_ok-trouble.field-0 c.in_default.is (c.in_ok-trouble.ensures.kept honest)
+          e.0 e.1 (c.loop.invariant.fresh early fresh));
       goes_on =
           goes_further (seen c.args.tx.now) (seen c.under_from.new.self) (seen c.visit_each.new.tx) false
           (goes_further (seen c.args.tx.now) (seen c.loop.tx)
           (seen c.under_from.new.self) false c.loop.invariant.goes_on c.in_ok-page.ensures.call.goes_on)
           c.in_ok-trouble.ensures.call.goes_on;
     }
+
+pub returns-in-Some-clause-broken : goal.returns-in-Some-clause-broken
+returns-in-Some-clause-broken g c honest are fresh =
+    let seen = g.T.RecordsTx.seen in
+    let first = (seen c.args.tx.now).rows in
+    let page = c.in_ok-page.page.items in
+    let from = string_bytes c.loop.from in
+    let listed = honest_before (seen c.under_from.new.self)
+    (seen c.visit_each.new.tx) false c.in_ok-trouble.ensures.call.goes_on honest in
+    let early = honest_before (seen c.loop.tx)
+    (seen c.under_from.new.self) false c.in_ok-page.ensures.call.goes_on listed in
+    let same = c.loop.invariant.same early in
+    let is : page ≡ take 16 (rows_from first c.args.kind [] from) =
+    c.in_ok-page.ensures.listed listed
+    ∙ (λ i. take 16 (rows_from (same i) c.args.kind [] (c.as_str.ensures.value i))) in
+    page_breaks first (seen c.under_from.new.self).rows (c.in_ok-page.ensures.call.same listed ∙ same)
+    c.args.notes.now c.loop.notes c.visit_each.new.notes c.args.kind from 16 page c.deref.result.now is
+    c.deref.ensures.value ((c.loop.invariant.kept early).stay_true are) (c.loop.invariant.fresh early fresh)
+    c.in_ok-trouble.field-0 c.in-Some.trouble c.in-Some.is (c.in_ok-trouble.ensures.broken honest)
+
+pub returns-then-len-clause-kept : goal.returns-then-len-clause-kept
+returns-then-len-clause-kept g c honest =
+    let seen = g.T.RecordsTx.seen in
+    let first = (seen c.args.tx.now).rows in
+    let page = c.in_ok-page.page.items in
+    let from = string_bytes c.loop.from in
+    let listed = honest_before (seen c.under_from.new.self)
+    (seen c.visit_each.new.tx) false c.in_ok-trouble.ensures.call.goes_on honest in
+    let early = honest_before (seen c.loop.tx)
+    (seen c.under_from.new.self) false c.in_ok-page.ensures.call.goes_on listed in
+    let same = c.loop.invariant.same early in
+    let is : page ≡ take 16 (rows_from first c.args.kind [] from) =
+    c.in_ok-page.ensures.listed listed
+    ∙ (λ i. take 16 (rows_from (same i) c.args.kind [] (c.as_str.ensures.value i))) in
+    page_keeps first (seen c.under_from.new.self).rows (c.in_ok-page.ensures.call.same listed ∙ same)
+    c.args.notes.now c.loop.notes c.visit_each.new.notes c.args.kind from 16 page c.deref.result.now is
+    c.deref.ensures.value c.in_ok-trouble.field-0 c.in_default.is (c.in_ok-trouble.ensures.kept honest)
+    (c.loop.invariant.kept early)

@@ -1,9 +1,10 @@
-use Rattle.std.proofs.Common.{◌≡◌, false}
+use Rattle.std.proofs.Common.{◌≡◌, ◌≢◌, false}
 use Rattle.std.specs.Prelude.{string_bytes}
 use Rattle.records.specs.Table.{table_of}
 use Rattle.records.specs.Transaction.{IsHonest, GoesOn}
-use Rattle.soundness.specs.Notes.{GoesOnFrom}
+use Rattle.soundness.specs.Notes.{GoesOnFrom, IsFreshKind, Spares}
 use Rattle.soundness.specs.Visiting.{EachEnds, noted}
+use Rattle.soundness.proofs.BrokenWalk.{IsFreshFrom}
 use Rattle.soundness.proofs.PageLemmas.{ArePassedBelow}
 use Rattle.soundness.proofs.visiting.visit_kind.Given as goal
 
@@ -17,5 +18,8 @@ invariant-loop g l =
       passed : IsHonest (seen l.tx) → EachEnds (table_of rows) l.initial.notes.rooted
           → GoesOnFrom l.initial.notes l.notes
           × ArePassedBelow rows (noted l.notes.identifiers) (noted l.notes.origins) l.kind (string_bytes l.from);
+      kept : IsHonest (seen l.tx) → Spares (table_of rows) (λ key. key.0 ≢ l.kind) l.initial.notes l.notes;
+      fresh : IsHonest (seen l.tx) → IsFreshKind l.initial.notes l.kind
+          → IsFreshFrom l.notes l.kind (string_bytes l.from);
       goes_on : GoesOn (seen l.initial.tx) (seen l.tx) false;
     }

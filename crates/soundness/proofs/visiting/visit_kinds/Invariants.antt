@@ -1,8 +1,9 @@
-use Rattle.std.proofs.Common.{◌≡◌, false, take}
+use Rattle.std.proofs.Common.{◌≡◌, ◌≤◌, ◌<◌, ℕ, false, take, length, get_or}
 use Rattle.std.specs.Prelude.{All}
+use Rattle.records.specs.declared.kind.Kind.{Kind}
 use Rattle.records.specs.Table.{table_of}
 use Rattle.records.specs.Transaction.{IsHonest, GoesOn}
-use Rattle.soundness.specs.Notes.{GoesOnFrom}
+use Rattle.soundness.specs.Notes.{AreApart, AreTrue, GoesOnFrom, IsFreshKind}
 use Rattle.soundness.specs.Visiting.{EachEnds, ArePassed, noted}
 use Rattle.soundness.proofs.visiting.visit_kinds.Given as goal
 
@@ -16,5 +17,8 @@ invariant-loop-kind g l =
       passed : IsHonest (seen l.tx) → EachEnds rows l.initial.notes.rooted
           → GoesOnFrom l.initial.notes l.notes
           × All (ArePassed rows (noted l.notes.identifiers) (noted l.notes.origins)) (take l.kind-index l.kinds);
+      are : IsHonest (seen l.tx) → AreTrue rows l.initial.notes → AreTrue rows l.notes;
+      fresh : IsHonest (seen l.tx) → AreApart (λ k. k) l.kinds → All (IsFreshKind l.initial.notes) l.kinds
+          → (k : ℕ) (d : Kind) → l.kind-index ≤ k → k < length l.kinds → IsFreshKind l.notes (get_or l.kinds k d);
       goes_on : GoesOn (seen l.initial.tx) (seen l.tx) false;
     }
