@@ -1,7 +1,6 @@
 -- A walk over rows, each of which is visited once, so that none is noted before it is visited.
-use Rattle.std.specs.Prelude.{◌≡◌, ◌≢◌, ◌<◌, ◌≤◌, ◌+◌, ◌&&◌, ◌++◌, ◌∷◌, ◌==◌, [], ℕ, zero, suc, List, All, Contains}
+use Rattle.std.specs.Prelude.{◌≡◌, ◌≢◌, ◌<◌, ◌≤◌, ◌+◌, ◌&&◌, ◌++◌, ◌∷◌, ◌==◌, [], ℕ, zero, suc, List, All}
 use Rattle.std.specs.Prelude.{Bool, true, length, take, Option, Some, None, IfNone, IfSome}
-use Rattle.std.specs.FinMap.{is_sorted}
 use Rattle.std.specs.Ordering.{is_ge}
 use Rattle.std.proofs.Common.{refl, sym, ◌∙◌, ap, subst, get_or, arith}
 use Rattle.std.proofs.lemmas.Bool.{and_parts, eqb-true, false≢true}
@@ -44,7 +43,8 @@ module _ (rows : Rows) (k : Kind) (from : Text) (count : ℕ) (page : List (RowK
   pub page_can : (n : Notes) → IsFreshFrom n k from → CanBeVisited (table_of rows) n page
   page_can n fresh =
       record {
-        are_rows = λ i d below. (in_page rows k from count page is (get_or page i d) (Contains-get_or page i d below)).0;
+        are_rows = λ i d below.
+            (in_page rows k from count page is (get_or page i d) (Contains-get_or page i d below)).0;
         apart = sorted_apart page _ (page_sorted rows k from count page is);
         fresh = λ i d below.
             let e = get_or page i d in

@@ -1,5 +1,5 @@
 -- The rows of a sound broker keep the rules: those for identifiers, origins and chains of parents too.
-use Rattle.std.specs.Prelude.{◌≡◌, ◌≢◌, ◌∷◌, ℕ, zero, suc, [], List, Bool, true, false, cond, Option, Some, None}
+use Rattle.std.specs.Prelude.{◌≡◌, ◌∷◌, ℕ, zero, suc, [], List, Bool, true, false, cond, Option, Some, None}
 use Rattle.std.specs.Prelude.{option_map, unwrap_or, Contains}
 use Rattle.std.specs.FinMap.{entries}
 use Rattle.std.specs.List.{find}

@@ -12,7 +12,6 @@ use Rattle.broker_types.specs.Places.{lease_identifier}
 use Rattle.broker_types.specs.Sound.{IsIdentifier, IsLeaseId}
 use Rattle.broker_types.specs.declared.fault.Fault.{Fault}
 use Rattle.records.specs.declared.kind.Kind.{Kind}
-use Rattle.records.specs.declared.kind.Kind.TheVariants as kind
 use Rattle.records.specs.declared.row.Row.{Row}
 use Rattle.records.specs.Kind.{RowKey}
 use Rattle.records.specs.Table.{Table, table_of}
@@ -195,6 +194,13 @@ module _ {B : Type 0} (result : Result (Option B) Fault) where
       by : (o : Option B) → IfSome o P → IfSome o Q
       by None p = tt
       by (Some b) p = f b p
+
+-- what is added under an identifier of a kind, once the kind is told
+pub adds_of_kind : {B : Type 0} (result : Result (Option B) Fault) (k l : Kind) (q : Text) (old new : Places) → k ≡ l
+    → Finds result (AddsOnly (HasIdentifier l q) (k, q) old new)
+    → Finds result (AddsOnly (HasIdentifier k q) (k, q) old new)
+adds_of_kind result k l q old new is =
+    subst (λ (m : Kind). Finds result (AddsOnly (HasIdentifier m q) (k, q) old new)) (sym is)
 
 -- ---- a row that is visited
 

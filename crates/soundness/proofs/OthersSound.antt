@@ -6,7 +6,7 @@ use Rattle.std.proofs.Common.{refl, sym, ◌∙◌, ap, subst}
 use Rattle.std.proofs.Math.Nat.{le_trans}
 use Rattle.std.proofs.lemmas.Bool.{leb-true}
 use Rattle.std.proofs.lemmas.Option.{none-some, same_Some}
-use Rattle.broker_types.specs.Text.{Text, same}
+use Rattle.broker_types.specs.Text.{Text}
 use Rattle.broker_types.specs.IdentifierLaws.{id-same}
 use Rattle.broker_types.specs.Limits.{greatest_version}
 use Rattle.broker_types.specs.Map.{get}

@@ -1,11 +1,11 @@
 -- The order of the rows on a page: each is there once, and none is above the last.
-use Rattle.std.specs.Prelude.{◌≡◌, ◌≢◌, ◌<◌, ◌-◌, ◌&&◌, ◌++◌, ◌∷◌, [], ℕ, zero, suc, List, All, Contains, Bool, true}
+use Rattle.std.specs.Prelude.{◌≡◌, ◌≢◌, ◌<◌, ◌-◌, ◌++◌, ◌∷◌, [], ℕ, zero, suc, List, Contains, Bool, true}
 use Rattle.std.specs.Prelude.{false, not, cond, T, length, take, drop, slice_get, Option, Some, None}
 use Rattle.std.specs.declared.cmp.Ordering.{Ordering}
 use Rattle.std.specs.declared.cmp.Ordering.TheVariants.{Less, Equal, Greater}
-use Rattle.std.specs.Cmp.{IsTotalOrder, tied_itself}
+use Rattle.std.specs.Cmp.{tied_itself}
 use Rattle.std.specs.Cmp.Lexicographic.{nat_list_cmp_total}
-use Rattle.std.specs.FinMap.{get, entries, find, is_sorted}
+use Rattle.std.specs.FinMap.{get, find, is_sorted}
 use Rattle.std.specs.FinMap.Entries.{below_all}
 use Rattle.std.specs.Ordering.{is_ge, is_gt, is_le, is_lt, ordering_reverse}
 use Rattle.std.proofs.Common.{refl, sym, ◌∙◌, ap, subst, get_or, arith}
@@ -127,7 +127,8 @@ module _ (rows : Rows) (k : Kind) (from : Text) (count : ℕ) (page : List (RowK
       let all : List (RowKey × Row) = listed rows k from count page is in
       let under = rows_under rows k [] in
       let in_all : Contains all e =
-      subst (λ es. Contains es e) (split rows k from count page is) (Contains-append_left page (drop count all) e has) in
+      subst (λ es. Contains es e) (split rows k from count page is)
+      (Contains-append_left page (drop count all) e has) in
       let one = All-contains
       (λ f. Contains under f × (is_from rows k from count page is f ≡ true)) all e
       (kept_cases (is_from rows k from count page is) under) in_all in

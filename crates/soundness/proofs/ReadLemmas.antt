@@ -1,5 +1,5 @@
 -- Rows that a reader does not read are in no format of their kind, and what tests answer.
-use Rattle.std.specs.Prelude.{◌≡◌, ◌≢◌, Bool, true, false, Option, Some, None, is_some, Result, Ok, Err, MatchResult, ⊤}
+use Rattle.std.specs.Prelude.{◌≡◌, Bool, true, false, Option, Some, None, is_some, Result, Ok, Err, MatchResult, ⊤}
 use Rattle.std.specs.Prelude.{ℕ, ◌<◌, ◌≤◌, is_none, is_err}
 use Rattle.std.proofs.Common.{refl, sym, ◌∙◌, ap, subst, arith}
 use Rattle.std.proofs.lemmas.Bool.{false≢true}

@@ -9,8 +9,8 @@ use Rattle.std.specs.Ordering.{nat_cmp, is_eq}
 use Rattle.std.proofs.Common.{refl, sym, ◌∙◌, ap, subst, inl, inr, get_or, arith, append_assoc, below_more}
 use Rattle.std.proofs.Math.ListN.{get_or-append}
 use Rattle.std.proofs.lemmas.Bool.{false≢true}
-use Rattle.std.proofs.lemmas.List.{append-nil, length-append}
-use Rattle.std.proofs.lemmas.List.Elements.{All-contains, Contains-append_left, Contains-append_right, Contains-push}
+use Rattle.std.proofs.lemmas.List.{append-nil}
+use Rattle.std.proofs.lemmas.List.Elements.{All-contains, Contains-append_left, Contains-push}
 use Rattle.std.proofs.lemmas.Map.Views.{tells_apart}
 use Rattle.broker_types.specs.Text.{Text}
 use Rattle.broker_types.specs.Identifier.{id}
@@ -20,7 +20,7 @@ use Rattle.broker_types.specs.TokenText.{token_text}
 use Rattle.records.specs.declared.kind.Kind.TheVariants as kind
 use Rattle.records.specs.declared.row.Row.{Row}
 use Rattle.records.specs.EntryLaws.{passing_whole}
-use Rattle.records.specs.Kind.{RowKey, kind_number, is_of_kind}
+use Rattle.records.specs.Kind.{RowKey, kind_number}
 use Rattle.records.specs.SplitLaws.{eqb_self}
 use Rattle.records.specs.Table.{Table, table_of}
 use Rattle.records.specs.Transaction.{Rows, rows_owned}

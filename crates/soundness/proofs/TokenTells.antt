@@ -1,5 +1,5 @@
 -- The rows of tokens, and of what goes with them, are those of the broker that is read off them.
-use Rattle.std.specs.Prelude.{◌≡◌, ◌≢◌, ◌+◌, ◌++◌, ◌∷◌, length, take, drop, true, false, Option, Some, None, option_map}
+use Rattle.std.specs.Prelude.{◌≡◌, ◌+◌, ◌++◌, ◌∷◌, length, take, drop, true, false, Option, Some, None, option_map}
 use Rattle.std.specs.Prelude.{option_and_then, if◌then◌else◌, not, is_none}
 use Rattle.std.proofs.Common.{refl, sym, ◌∙◌, ap, inl, inr}
 use Rattle.std.proofs.lemmas.Bool.{false≢true}

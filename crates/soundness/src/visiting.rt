@@ -10,7 +10,8 @@ ghost use Rattle.records.specs.Transaction.{IsHonest};
 ghost use Rattle.soundness.specs.Broken.{Breaks, BreaksAt, Shows};
 ghost use Rattle.soundness.specs.RowRules.{IsSoundAt};
 ghost use Rattle.soundness.specs.Visiting.{Finds, EachEnds, IsPassed, ArePassed, noted};
-ghost use Rattle.soundness.specs.Notes.{AreApart, AreTrue, CanBeVisited, GoesOnFrom, IsEntry, IsFresh, IsFreshKind, Spares};
+ghost use Rattle.soundness.specs.Notes.{AreApart, AreTrue, CanBeVisited, GoesOnFrom, IsEntry, IsFresh, IsFreshKind};
+ghost use Rattle.soundness.specs.Notes.{Spares};
 ghost use Rattle.records.specs.declared.kind.Kind.{Kind};
 
 use crate::chains::chain;

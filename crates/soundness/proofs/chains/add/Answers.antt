@@ -11,8 +11,8 @@ use Rattle.soundness.proofs.chains.add.Goals as goal
 
 pub returns-in_ok-push-clause-words : goal.returns-in_ok-push-clause-words
 returns-in_ok-push-clause-words c = λ rows ends each.
-    each_ends_more rows _ _ c.in-Some.word c.args.token.now c.in_ok-insert.ensures.updates.0 c.in-Some.ensures.sound.1 ends
-    each
+    each_ends_more rows _ _ c.in-Some.word c.args.token.now c.in_ok-insert.ensures.updates.0 c.in-Some.ensures.sound.1
+    ends each
 
 pub returns-in_ok-push-clause-queue : goal.returns-in_ok-push-clause-queue
 returns-in_ok-push-clause-queue c = λ rows ends all.

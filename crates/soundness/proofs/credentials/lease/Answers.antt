@@ -5,7 +5,6 @@ use Rattle.records.specs.CallLaws.{honest_before}
 use Rattle.records.specs.Table.{table_of}
 use Rattle.soundness.proofs.AnswerLemmas.{from_true}
 use Rattle.soundness.proofs.TextLemmas.{id_of}
-use Rattle.std.specs.Prelude.{false}
 use Rattle.std.proofs.lemmas.Option.{MatchOption-at_none}
 use Rattle.soundness.proofs.ReadLemmas.{lease_unread, fails, absent, above}
 use Rattle.records.specs.declared.kind.Kind.TheVariants as kind

@@ -1,36 +1,21 @@
-use Rattle.std.proofs.Common.{◌≡◌, subst, sym}
-use Rattle.broker_types.specs.Text.{Text}
-use Rattle.broker_types.specs.TokenText.{token_text}
+use Rattle.std.proofs.Common.{subst, sym}
 use Rattle.records.specs.declared.kind.Kind.{Kind}
 use Rattle.records.specs.declared.kind.Kind.TheVariants as kind
 use Rattle.soundness.specs.Broken.{HasIdentifier}
 use Rattle.soundness.specs.Notes.{AddsOnly}
 use Rattle.soundness.specs.Visiting.{Finds, noted}
+use Rattle.soundness.proofs.NotingLemmas.{adds_of_kind}
 use Rattle.soundness.proofs.noting.note_identifier.Goals as goal
 
 pub returns-in-Token-clause-adds : goal.returns-in-Token-clause-adds
 returns-in-Token-clause-adds g c =
-    subst
-    (λ (k : Kind). Finds c.note_token.result
-    (AddsOnly (HasIdentifier k c.args.key.now) (k, c.args.key.now) (noted c.args.places.now)
-    (noted c.note_token.new.places)))
-    (sym c.in-Token.is)
-    (subst
-    (λ (k : Kind). Finds c.note_token.result
-    (AddsOnly (λ i. c.args.key.now ≡ token_text i) (k, c.args.key.now) (noted c.args.places.now) (noted c.note_token.new.places)))
-    c.in-Token.is c.note_token.ensures.adds)
+    adds_of_kind c.note_token.result c.args.kind kind.Token c.args.key.now (noted c.args.places.now)
+    (noted c.note_token.new.places) c.in-Token.is c.note_token.ensures.adds
 
 pub returns-in-Waiting-clause-adds : goal.returns-in-Waiting-clause-adds
 returns-in-Waiting-clause-adds g c =
-    subst
-    (λ (k : Kind). Finds c.note_token-in-Waiting.result
-    (AddsOnly (HasIdentifier k c.args.key.now) (k, c.args.key.now) (noted c.args.places.now)
-    (noted c.note_token-in-Waiting.new.places)))
-    (sym c.in-Waiting.is)
-    (subst
-    (λ (k : Kind). Finds c.note_token-in-Waiting.result
-    (AddsOnly (λ i. c.args.key.now ≡ token_text i) (k, c.args.key.now) (noted c.args.places.now) (noted c.note_token-in-Waiting.new.places)))
-    c.in-Waiting.is c.note_token-in-Waiting.ensures.adds)
+    adds_of_kind c.note_token-in-Waiting.result c.args.kind kind.Waiting c.args.key.now (noted c.args.places.now)
+    (noted c.note_token-in-Waiting.new.places) c.in-Waiting.is c.note_token-in-Waiting.ensures.adds
 
 pub returns-in-Lease-clause-adds : goal.returns-in-Lease-clause-adds
 returns-in-Lease-clause-adds g c =
@@ -38,29 +23,14 @@ returns-in-Lease-clause-adds g c =
     (λ (k : Kind). Finds c.note_lease.result
     (AddsOnly (HasIdentifier k c.args.key.now) (k, c.args.key.now) (noted c.args.places.now)
     (noted c.note_lease.new.places)))
-    (sym c.in-Lease.is)
-    c.note_lease.ensures.adds
+    (sym c.in-Lease.is) c.note_lease.ensures.adds
 
 pub returns-in-Accessor-clause-adds : goal.returns-in-Accessor-clause-adds
 returns-in-Accessor-clause-adds g c =
-    subst
-    (λ (k : Kind). Finds c.had.result
-    (AddsOnly (HasIdentifier k c.args.key.now) (k, c.args.key.now) (noted c.args.places.now)
-    (noted c.had.new.places)))
-    (sym c.in-Accessor.is)
-    (subst
-    (λ (k : Kind). Finds c.had.result
-    (AddsOnly (λ i. c.args.key.now ≡ i) (k, c.args.key.now) (noted c.args.places.now) (noted c.had.new.places)))
-    c.in-Accessor.is c.had.ensures.adds)
+    adds_of_kind c.had.result c.args.kind kind.Accessor c.args.key.now (noted c.args.places.now)
+    (noted c.had.new.places) c.in-Accessor.is c.had.ensures.adds
 
 pub returns-in-Credential-clause-adds : goal.returns-in-Credential-clause-adds
 returns-in-Credential-clause-adds g c =
-    subst
-    (λ (k : Kind). Finds c.had-in-Credential.result
-    (AddsOnly (HasIdentifier k c.args.key.now) (k, c.args.key.now) (noted c.args.places.now)
-    (noted c.had-in-Credential.new.places)))
-    (sym c.in-Credential.is)
-    (subst
-    (λ (k : Kind). Finds c.had-in-Credential.result
-    (AddsOnly (λ i. c.args.key.now ≡ i) (k, c.args.key.now) (noted c.args.places.now) (noted c.had-in-Credential.new.places)))
-    c.in-Credential.is c.had-in-Credential.ensures.adds)
+    adds_of_kind c.had-in-Credential.result c.args.kind kind.Credential c.args.key.now (noted c.args.places.now)
+    (noted c.had-in-Credential.new.places) c.in-Credential.is c.had-in-Credential.ensures.adds

@@ -1,4 +1,4 @@
-use Rattle.std.proofs.Common.{◌≡◌, sym, ◌∙◌, ap, arith}
+use Rattle.std.proofs.Common.{◌≡◌, sym, ◌∙◌, arith}
 use Rattle.std.proofs.lemmas.Bool.{false≢true}
 use Rattle.std.proofs.lemmas.Slice.Eq.{bytes_eq-Decides}
 use Rattle.records.specs.Rows.{version_key}
@@ -8,7 +8,8 @@ use Rattle.soundness.proofs.VersionLemmas.{no_version, version_halves, half_lack
 use Rattle.soundness.proofs.secrets.parts.Goals as goal
 
 pub returns-in_default-clause-whole : goal.returns-in_default-clause-whole
-returns-in_default-clause-whole c = no_version c.args.key.now c.split_once.result c.split_once.ensures.cases c.in_default.is
+returns-in_default-clause-whole c =
+    no_version c.args.key.now c.split_once.result c.split_once.ensures.cases c.in_default.is
 
 pub returns-in_default-parse-clause-whole : goal.returns-in_default-parse-clause-whole
 returns-in_default-parse-clause-whole c = λ name number k.

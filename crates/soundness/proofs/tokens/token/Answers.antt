@@ -8,7 +8,6 @@ use Rattle.records.specs.RowForms.{entry_row}
 use Rattle.records.specs.Table.{table_of}
 use Rattle.records.specs.TokenEntry.{TokenEntry}
 use Rattle.soundness.proofs.AnswerLemmas.{from_true, all_from}
-use Rattle.std.specs.Prelude.{false}
 use Rattle.std.proofs.lemmas.Bool.{false≢true}
 use Rattle.soundness.proofs.BrokenLemmas.{list_all_from}
 use Rattle.soundness.proofs.ReadLemmas.{fails}

@@ -1,4 +1,5 @@
-use Rattle.std.proofs.Common.{◌≡◌, ◌≢◌, ◌<◌, ◌-◌, [], List, length, slice_get, Some, refl, sym, ap, ◌∙◌, subst, false, rules}
+use Rattle.std.proofs.Common.{◌≡◌, ◌≢◌, ◌<◌, ◌-◌, [], List, length, slice_get, Some, refl, sym, ap, ◌∙◌, subst, false}
+use Rattle.std.proofs.Common.{rules}
 use Rattle.std.specs.Prelude.{All, take, string_bytes}
 use Rattle.broker_types.specs.Text.{Text}
 use Rattle.records.specs.declared.row.Row.{Row}
