@@ -14,6 +14,11 @@ abbrev pub IfSound : Finding → Type 0 → Type 0
 IfSound (Sound counts) P = P
 IfSound (Unsound defect) P = ⊤
 
+-- if they were found not to be, P
+abbrev pub IfUnsound : Finding → Type 0 → Type 0
+IfUnsound (Sound counts) P = ⊤
+IfUnsound (Unsound defect) P = P
+
 -- an opening makes rows of them that are those of a sound broker
 abbrev pub OpenAsABroker : Rows → Type 0
 OpenAsABroker old = (rows : Rows) × AreUpgraded (table_of old) (table_of rows) × AreOfABroker rows
@@ -21,3 +26,7 @@ OpenAsABroker old = (rows : Rows) × AreUpgraded (table_of old) (table_of rows) 
 -- two files, a database and its log, keep rows of which an opening makes those of a sound broker
 abbrev pub KeepABroker : Image → Type 0
 KeepABroker image = (rows : Rows) × IsKeptIn image rows × OpenAsABroker rows
+
+-- or rows of which it does not
+abbrev pub KeepNoBroker : Image → Type 0
+KeepNoBroker image = (rows : Rows) × IsKeptIn image rows × (OpenAsABroker rows → ⊥)

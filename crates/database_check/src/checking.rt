@@ -1,6 +1,6 @@
 //! A database that is checked, row by row.
 
-ghost use Rattle.std.specs.Prelude.{◌≡◌, ◌⊎◌, ◌≤◌, IsTrue, IfNone, IfOk, IfErr, OnOk};
+ghost use Rattle.std.specs.Prelude.{◌≡◌, ◌⊎◌, ◌≤◌, IsTrue, IfNone, IfOk, IfErr, IfSome, OnOk};
 ghost use Rattle.sqlite.specs.Files.{over_files};
 ghost use Rattle.sqlite.specs.WalFiles.{image_at};
 ghost use Rattle.broker_types.specs.Fault.{IsMemoryOrStorage};
@@ -9,14 +9,14 @@ ghost use Rattle.broker_rows.specs.ClockRow.{HasNoClock};
 ghost use Rattle.broker_sql.specs.SqlKept.{kept_records};
 ghost use Rattle.records.specs.Calls.{IsCall};
 ghost use Rattle.records.specs.Transaction.{IsHonest};
-ghost use Rattle.database_check.specs.Findings.{IfSound, KeepABroker, OpenAsABroker};
+ghost use Rattle.database_check.specs.Findings.{IfSound, IfUnsound, KeepABroker, KeepNoBroker, OpenAsABroker};
 
 use crate::counts::Counts;
 use crate::defect::Defect;
 use broker_types::Fault;
 use records::{Kind, RecordsTx, upgrade_keys};
 use records_sql::SqlRecords;
-use soundness::check;
+use soundness::{broken_rows_are_of_no_broker, check};
 use sqlite::{Alter, FileFrom, FileStore, Start, Unknown};
 use std::alloc::Global;
 use std::rt::HostRuntime;
@@ -41,11 +41,13 @@ impl fmt::Display for Finding {
 }
 
 /// Whether the rows that were committed are those of a sound broker, as between two requests, once those of keys in
-/// format 1 are rewritten as an opening does, or else the first row that keeps them from being so. The rows stay as
-/// they are. It fails only if memory runs out or the storage fails.
+/// format 1 are rewritten as an opening does, or else the first row that keeps them from being so: exactly then they
+/// are not. The rows stay as they are. It fails only if memory runs out or the storage fails.
 pub fn check_records<S: Alter>(alloc: Global, records: &mut SqlRecords<S>) -> Result<Finding, Fault>
     ensures sound { IsHonestStore (kept_records S.Store records.new) → IfOk result (λ finding.
         IfSound finding (OpenAsABroker (kept_records S.Store records.old).rows)) }
+    ensures unsound { IsHonestStore (kept_records S.Store records.new) → IfOk result (λ finding.
+        IfUnsound finding (OpenAsABroker (kept_records S.Store records.old).rows → ⊥)) }
     ensures same { IsHonestStore (kept_records S.Store records.new) → IsTrue (kept_records S.Store records.new).is_open
         → (kept_records S.Store records.new).rows ≡ (kept_records S.Store records.old).rows }
     ensures mismatches { (kept_records S.Store records.old).mismatches
@@ -61,6 +63,8 @@ pub fn check_records<S: Alter>(alloc: Global, records: &mut SqlRecords<S>) -> Re
 fn find<T: RecordsTx>(alloc: Global, tx: &mut T) -> Result<Finding, Fault>
     ensures sound { IsHonest (T.seen tx.new) → IfOk result (λ finding.
         IfSound finding (OpenAsABroker (T.seen tx.old).rows)) }
+    ensures unsound { IsHonest (T.seen tx.new) → IfOk result (λ finding.
+        IfUnsound finding (OpenAsABroker (T.seen tx.old).rows → ⊥)) }
     ensures call { IsCall (T.seen tx.old) (T.seen tx.new) result IsMemoryOrStorage }
 {
     match find_defect(alloc, tx)? {
@@ -73,9 +77,12 @@ fn find<T: RecordsTx>(alloc: Global, tx: &mut T) -> Result<Finding, Fault>
 fn find_defect<T: RecordsTx>(alloc: Global, tx: &mut T) -> Result<Option<Defect>, Fault>
     ensures sound { IsHonest (T.seen tx.new) → IfOk result (λ defect.
         IfNone defect (OpenAsABroker (T.seen tx.old).rows)) }
+    ensures unsound { IsHonest (T.seen tx.new) → IfOk result (λ defect.
+        IfSome defect (λ _. OpenAsABroker (T.seen tx.old).rows → ⊥)) }
     ensures call { IsCall (T.seen tx.old) (T.seen tx.new) result IsMemoryOrStorage }
 {
     upgrade_keys(alloc, tx)?;
+    broken_rows_are_of_no_broker();
     match check(alloc, tx)? {
         None => Ok(None),
         Some(trouble) => Ok(Some(Defect::at(alloc, tx, &trouble)?)),
@@ -91,6 +98,8 @@ pub fn defect_of<S: Alter>(
 ) -> Result<Option<Defect>, Fault>
     ensures sound { IsHonestStore (kept_records S.Store records.new) → IfOk result (λ defect. IfNone defect
         (HasNoClock (kept_records S.Store records.old).rows ⊎ OpenAsABroker (kept_records S.Store records.old).rows)) }
+    ensures unsound { IsHonestStore (kept_records S.Store records.new) → IfOk result (λ defect. IfSome defect
+        (λ _. OpenAsABroker (kept_records S.Store records.old).rows → ⊥)) }
     ensures same { IsHonestStore (kept_records S.Store records.new)
         → OnOk result ((kept_records S.Store records.new).rows ≡ (kept_records S.Store records.old).rows) }
     ensures mismatches { (kept_records S.Store records.old).mismatches
@@ -110,6 +119,8 @@ pub fn defect_of<S: Alter>(
 fn find_if_started<T: RecordsTx>(alloc: Global, tx: &mut T) -> Result<Option<Defect>, Fault>
     ensures sound { IsHonest (T.seen tx.new) → IfOk result (λ defect.
         IfNone defect (HasNoClock (T.seen tx.old).rows ⊎ OpenAsABroker (T.seen tx.old).rows)) }
+    ensures unsound { IsHonest (T.seen tx.new) → IfOk result (λ defect.
+        IfSome defect (λ _. OpenAsABroker (T.seen tx.old).rows → ⊥)) }
     ensures call { IsCall (T.seen tx.old) (T.seen tx.new) result IsMemoryOrStorage }
 {
     if tx.get(Kind::Clock, "")?.is_none() {
@@ -129,6 +140,8 @@ pub fn check_from<S: Start>(
 ) -> Result<(Finding, SqlRecords<FileStore<FileFrom<S>>>), Fault>
     ensures sound { IfOk result (λ checked. IsHonestStore (kept_records over_files checked.1)
         → IfSound checked.0 (KeepABroker (image_at S.Start))) }
+    ensures unsound { IfOk result (λ checked. IsHonestStore (kept_records over_files checked.1)
+        → IfUnsound checked.0 (KeepNoBroker (image_at S.Start))) }
     ensures faults { IfErr result IsMemoryOrStorage }
 {
     // To open it would make the file, or the table in an empty one.

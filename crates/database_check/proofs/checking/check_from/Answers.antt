@@ -2,7 +2,7 @@ use Rattle.std.proofs.Common.{◌≤◌, arith}
 use Rattle.sqlite.specs.Files.{over_files}
 use Rattle.broker.specs.Kept.{IsHonestStore}
 use Rattle.broker_sql.specs.SqlKept.{kept_records}
-use Rattle.database_check.proofs.FindingLemmas.{if_sound}
+use Rattle.database_check.proofs.FindingLemmas.{if_sound, if_unsound}
 use Rattle.database_check.proofs.checking.check_from.Goals as goal
 
 pub returns-clause-sound : goal.returns-clause-sound
@@ -13,3 +13,12 @@ returns-clause-sound g c honest =
     let before : IsHonestStore opened = omega (arith, less, honest) in
     if_sound c.in_ok-finding.finding (λ opens. (opened.rows, c.in_ok-records.ensures.found before, opens))
     (c.in_ok-finding.ensures.sound honest)
+
+pub returns-clause-unsound : goal.returns-clause-unsound
+returns-clause-unsound g c honest =
+    let opened = kept_records over_files c.in_ok-records.records in
+    let less : opened.mismatches ≤ (kept_records over_files c.check_records.new.records).mismatches =
+    c.in_ok-finding.ensures.mismatches in
+    let before : IsHonestStore opened = omega (arith, less, honest) in
+    if_unsound c.in_ok-finding.finding (λ none. (opened.rows, c.in_ok-records.ensures.found before, none))
+    (c.in_ok-finding.ensures.unsound honest)

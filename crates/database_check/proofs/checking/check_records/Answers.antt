@@ -4,7 +4,7 @@ use Rattle.sqlite.specs.Held.{state}
 use Rattle.records.specs.CallLaws.{honest_before}
 use Rattle.records.specs.Transaction.{Rows}
 use Rattle.records_sql.specs.Table.{rows_of, mismatches, seen_of}
-use Rattle.database_check.specs.Findings.{IfSound, OpenAsABroker}
+use Rattle.database_check.specs.Findings.{IfSound, IfUnsound, OpenAsABroker}
 use Rattle.database_check.proofs.checking.check_records.Goals as goal
 
 pub returns-clause-sound : goal.returns-clause-sound
@@ -19,3 +19,16 @@ returns-clause-sound g c honest =
     honest_last in
     subst (λ (rows : Rows). IfOk c.find.result (λ finding. IfSound finding (OpenAsABroker rows)))
     (c.in_ok-tx.ensures.begun honest_first) (c.find.ensures.sound honest_last)
+
+pub returns-clause-unsound : goal.returns-clause-unsound
+returns-clause-unsound g c honest =
+    let last = c.find.new.tx.records in
+    let same : c.drop-tx.new.self.0 ≡ c.records-2-1.given.0 = search rules in
+    let honest_end = subst (λ h. mismatches (state g.S.Store h.conn) ≡ 0) (sym same) honest in
+    let honest_last = le-zero
+    (subst (λ n. mismatches (state g.S.Store last.now.conn) ≤ n) honest_end c.drop-tx.ensures.stays.mismatches) in
+    let first = seen_of (state g.S.Store c.in_ok-tx.tx.records.now.conn) _ _ in
+    let honest_first = honest_before first (seen_of (state g.S.Store last.now.conn) _ _) _ c.find.ensures.call.goes_on
+    honest_last in
+    subst (λ (rows : Rows). IfOk c.find.result (λ finding. IfUnsound finding (OpenAsABroker rows → ⊥)))
+    (c.in_ok-tx.ensures.begun honest_first) (c.find.ensures.unsound honest_last)

@@ -1,6 +1,9 @@
 use Rattle.records.specs.CallLaws.{honest_before}
 use Rattle.records.specs.Transaction.{IsHonest}
-use Rattle.database_check.proofs.FindingLemmas.{none_found}
+use Rattle.records.specs.Table.{table_of}
+use Rattle.soundness.specs.Broken.{Breaks}
+use Rattle.database_check.proofs.FindingLemmas.{none_found, some_found}
+use Rattle.database_check.proofs.FindingLemmas.{opens_as_none}
 use Rattle.database_check.proofs.checking.find_defect.Goals as goal
 
 pub returns-in-None-clause-sound : goal.returns-in-None-clause-sound
@@ -12,3 +15,16 @@ returns-in-None-clause-sound g c honest =
       c.in_ok-upgrade_keys.ensures.rows upgraded,
       none_found c.in_ok-check.field-0 c.in-None.is (c.in_ok-check.ensures.sound honest),
     )
+
+pub returns-in_ok-at-in-Some-clause-unsound : goal.returns-in_ok-at-in-Some-clause-unsound
+returns-in_ok-at-in-Some-clause-unsound g c honest =
+    let seen = g.T.RecordsTx.seen in
+    let rows = (seen c.upgrade_keys.new.tx).rows in
+    let checked : IsHonest (seen c.check.new.tx) =
+    honest_before (seen c.check.new.tx) (seen c.at.new.tx) _ c.in_ok-at-in-Some.ensures.call.goes_on honest in
+    let upgraded : IsHonest (seen c.upgrade_keys.new.tx) =
+    honest_before (seen c.upgrade_keys.new.tx) (seen c.check.new.tx) _ c.in_ok-check.ensures.call.goes_on checked in
+    opens_as_none (seen c.args.tx.now).rows rows (c.in_ok-upgrade_keys.ensures.rows upgraded)
+    (c.broken_rows_are_of_no_broker.ensures rows c.in-Some.trouble
+    (some_found (Breaks (table_of rows)) c.in_ok-check.field-0 c.in-Some.trouble c.in-Some.is
+    (c.in_ok-check.ensures.broken checked)))

@@ -1,5 +1,5 @@
 use Rattle.std.proofs.Common.{inr, subst}
-use Rattle.std.specs.Prelude.{IfOk, IfNone, ◌⊎◌}
+use Rattle.std.specs.Prelude.{IfOk, IfNone, IfSome, ◌⊎◌}
 use Rattle.std.proofs.lemmas.Result.{IfOk-weaker}
 use Rattle.records.specs.CallLaws.{honest_before}
 use Rattle.records.specs.Transaction.{IsHonest, Rows}
@@ -16,3 +16,11 @@ returns-clause-sound g c honest =
     subst (λ (rows : Rows). IfOk c.find_defect.result (λ defect. IfNone defect (HasNoClock rows ⊎ OpenAsABroker rows)))
     (c.in_ok-get.ensures.call.same asked)
     (IfOk-weaker c.find_defect.result _ _ (λ defect. if_none defect inr) (c.find_defect.ensures.sound honest))
+
+pub returns-clause-unsound : goal.returns-clause-unsound
+returns-clause-unsound g c honest =
+    let seen = g.T.RecordsTx.seen in
+    let asked : IsHonest (seen c.get.new.self) =
+    honest_before (seen c.get.new.self) (seen c.find_defect.new.tx) _ c.find_defect.ensures.call.goes_on honest in
+    subst (λ (rows : Rows). IfOk c.find_defect.result (λ defect. IfSome defect (λ _. OpenAsABroker rows → ⊥)))
+    (c.in_ok-get.ensures.call.same asked) (c.find_defect.ensures.unsound honest)

@@ -6,6 +6,10 @@ pub returns-in_default-clause-served : goal.returns-in_default-clause-served
 returns-in_default-clause-served g c = leaves_none g.S.Store.seen _ tt c.args.hub.now
     (Supplies-nil g.C.Clock.may_tell c.args.clock.now g.D.WordSource.may_give c.args.words.now)
 
+pub returns-in_default-get_mut-clause-served : goal.returns-in_default-get_mut-clause-served
+returns-in_default-get_mut-clause-served g c = leaves_none g.S.Store.seen _ tt c.args.hub.now
+    (Supplies-nil g.C.Clock.may_tell c.args.clock.now g.D.WordSource.may_give c.args.words.now)
+
 pub returns-in-Ok-Gone-clause-served : goal.returns-in-Ok-Gone-clause-served
 returns-in-Ok-Gone-clause-served g c =
     let served = c.turn-turned.ensures.served in
