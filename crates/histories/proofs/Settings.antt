@@ -726,6 +726,7 @@ module _ (a : Asking) (is : a.outcome ≡ step a.broker a.moment a.words a.ask) 
 
 pub settings_follow : OperationsDoAsTold → AllSettingsFollow
 settings_follow told b history h = record {
+  clock = λ i a at. record { roles = refl; policies = refl; mounts = refl };
   roles = λ i a q at. role_is told a (asked_at b history i a h at).outcome q;
   policies = λ i a q at. policy_is told a (asked_at b history i a h at).outcome q;
   mounts = λ i a q at. mount_is told a (asked_at b history i a h at).outcome q;

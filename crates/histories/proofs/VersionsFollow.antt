@@ -544,6 +544,7 @@ given_at told b (Some y ∷ later) (suc j) x q n object (is, h) at holds =
 
 pub versions_follow : OperationsDoAsTold → AllVersionsFollow
 versions_follow told b history h = record {
+  clock = λ i a at. refl;
   written = λ i a q asked at w. did_write told a (asked_at b history i a h at).outcome q asked w;
   set = λ i a q asked at w. did_set a (asked_at b history i a h at).outcome q asked w;
   stand = λ i a q k m at was there.

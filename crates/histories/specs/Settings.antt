@@ -118,9 +118,19 @@ MountBecomes a name old new =
     ⊎ (((asked : MountSettings) × Sets a name asked old new)
     ⊎ ((new ≡ None) × OnMount a name of_mount.Disable)))
 
+-- ---- the clock
+
+-- the broker at the clock of the request has the roles, the policies and the mounts that it had before
+pub record ClockKeepsSettings (a : Asking) : Type 0 where
+  pub roles : (clocked a).roles ≡ a.broker.roles
+  pub policies : (clocked a).policies ≡ a.broker.policies
+  pub mounts : (clocked a).mounts ≡ a.broker.mounts
+
 -- ---- the law
 
 pub record SettingsFollow (history : History) : Type 0 where
+  -- The clock alone changes none of them.
+  pub clock : (i : ℕ) (a : Asking) → AskedAt history i a → ClockKeepsSettings a
   -- Each role, policy and mount changes by requests for it alone.
   pub roles : (i : ℕ) (a : Asking) (q : Text) → AskedAt history i a
       → RoleBecomes a q (get (clocked a).roles q) (get a.outcome.next.roles q)

@@ -263,6 +263,8 @@ pub record WroteBefore (history : History) (j : ℕ) (q : Text) (n : ℕ) (objec
 -- ---- the law
 
 pub record VersionsFollow (b : Broker) (history : History) : Type 0 where
+  -- The clock alone changes no secret.
+  pub clock : (i : ℕ) (a : Asking) → AskedAt history i a → (clocked a).secrets ≡ a.broker.secrets
   -- Each 200 to a write wrote.
   pub written : (i : ℕ) (a : Asking) (q : Text) (asked : SecretWrite) → AskedAt history i a → Writes a q asked
       → DidWrite a q asked
