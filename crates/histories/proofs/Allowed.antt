@@ -1,5 +1,5 @@
 -- What is allowed is done: some commands always, some where what they ask for is there.
-use Rattle.std.specs.Prelude.{◌≡◌, ◌≢◌, ◌⊎◌, ◌<◌, ◌==◌, ◌||◌, ◌&&◌, ℕ, [], ◌∷◌, Bool, true, false, not, nat_lt}
+use Rattle.std.specs.Prelude.{◌≡◌, ◌≢◌, ◌⊎◌, ◌<◌, ◌==◌, ◌||◌, ℕ, [], Bool, true, false, nat_lt}
 use Rattle.std.specs.Prelude.{is_some, if◌then◌else◌, Option, Some, None, Result, Ok, option_and_then, option_map, ⊤}
 use Rattle.std.specs.FinMap as fin
 use Rattle.std.proofs.Common.{refl, sym, ◌∙◌, ap, subst, inl, inr}
@@ -9,7 +9,7 @@ use Rattle.broker_types.specs.Limits.{greatest_version}
 use Rattle.broker_types.specs.Map.{Map, entries, get}
 use Rattle.broker_types.specs.MapLaws.{get-change}
 use Rattle.broker_types.specs.Answer.{Response}
-use Rattle.broker_types.specs.Broker.{Broker, Mount}
+use Rattle.broker_types.specs.Broker.{Broker, Mount, Waiting}
 use Rattle.broker_types.specs.Names.{Names, names_of}
 use Rattle.broker_types.specs.Operation.{missing, nothing, plainly, reply, Done}
 use Rattle.broker_types.specs.OptionLaws.{found_or_not}
@@ -36,12 +36,10 @@ use Rattle.api_json.specs.declared.token_bodies.TokenRenewal.{TokenRenewal}
 use Rattle.broker_model.specs.Act.{act}
 use Rattle.broker_model.specs.Command.{Command, command_of, on_cubbyhole, on_issued, on_lease, on_mount, on_policy}
 use Rattle.broker_model.specs.Command.{on_secret, on_token, on_wrapping}
-use Rattle.broker_model.specs.Order.{Outcome, Wrapped, finish, needed, response_to, unwrapped, wrap_200, wrapped, wraps}
-use Rattle.broker_model.specs.Permission.{permits}
-use Rattle.broker_model.specs.Request.{Request}
-use Rattle.broker_model.specs.Responses.{no_content}
-use Rattle.broker_model.specs.Serving.{operated}
-use Rattle.broker_model.specs.Step.{request_of, step, traits}
+use Rattle.broker_model.specs.Order.{response_to}
+use Rattle.broker_model.specs.Responses.{no_content, ok}
+use Rattle.broker_model.specs.Serving.{is_open}
+use Rattle.broker_model.specs.Step.{step, traits}
 use Rattle.broker_model.specs.declared.commands.CubbyholeCommand.{CubbyholeCommand}
 use Rattle.broker_model.specs.declared.commands.CubbyholeCommand.TheVariants as of_cubbyhole
 use Rattle.broker_model.specs.declared.commands.IssuedCommand.{IssuedCommand}
@@ -52,61 +50,19 @@ use Rattle.broker_model.specs.declared.commands.SecretCommand.{SecretCommand}
 use Rattle.broker_model.specs.declared.commands.SecretCommand.TheVariants as of_secret
 use Rattle.broker_model.specs.declared.commands.TokenCommand.{TokenCommand}
 use Rattle.broker_model.specs.declared.commands.TokenCommand.TheVariants as of_token
+use Rattle.broker_model.specs.declared.commands.WrappingCommand.TheVariants as of_responses
 use Rattle.broker_model.specs.parts.Place.{Place}
 use Rattle.broker_model.specs.parts.SecretReplies.{object_left, version_answered, version_reply, written_reply}
 use Rattle.broker_model.specs.parts.TokenReplies.{auth_reply, token_reply}
 use Rattle.broker_model.specs.parts.Tokens.{new_end}
+use Rattle.broker_model.specs.parts.Wrappings.{act_on_wrappings, found_under, handed_out}
 use Rattle.histories.specs.Allowed.{AllDoAllowed, HasVersion, MayWrite, is_done}
 use Rattle.histories.specs.Callers.{IsAllowed}
 use Rattle.histories.specs.History.{Asking, clocked, spent_by}
 use Rattle.histories.specs.Refused.{PoliciesDecide}
+use Rattle.histories.proofs.Carried.{answers, carried_for, carried_openly, never_wrapped, without_ttl}
 use Rattle.histories.proofs.ReadsEnded.{current_is, number_is}
 use Rattle.histories.proofs.Requests.{asked_at}
-
-module _ (decide : PoliciesDecide) (a : Asking) (is : a.outcome ≡ step a.broker a.moment a.words a.ask)
-    (k : IsAllowed a) (plain : a.ask.wrap_ttl ≡ 0) (command : Command)
-    (means : command_of (clocked a).mounts a.ask ≡ Ok command) where
-  abbrev start : Broker
-  start = spent_by a k.caller
-
-  abbrev names : Names
-  names = names_of a.words
-
-  abbrev q : Request Command
-  q = request_of a.ask
-
-  -- what its command leads to is the outcome
-  carried : a.outcome ≡ finish start (Some k.caller) (operated start (Some k.caller) names a.ask command)
-  carried =
-      is ∙ decide.granted a.broker a.moment a.words a.ask k.caller k.own k.calls k.granted
-      ∙ ap (λ (r : Result Command Refusal). finish start (Some k.caller)
-      (r >>= operated start (Some k.caller) names a.ask)) means
-
-  no_wrap : wraps permits traits act q command ≡ false
-  no_wrap = ap (λ n. nat_lt 0 n && (traits command).may_wrap) plain
-
-  module _ (own : (traits command).own names ≡ []) (free : (traits command).must_wrap ≡ false) where
-    no_names : needed permits traits act q names command ≡ []
-    no_names =
-        ap (λ v. if v then names.wrapping_token ∷ names.wrapping_accessor ∷ (traits command).own names
-        else (traits command).own names) no_wrap ∙ own
-
-    -- where the command is carried out, what it answers is the answer
-    answers : (d : Done) → act start (Some k.caller) names command ≡ Ok d
-        → a.outcome.response ≡ response_to d.answered
-    answers d acted =
-        let tried : Result Done Refusal → Result Wrapped Refusal =
-        λ r. r >>= (λ d. Ok (wrapped permits traits act start q names command d)) in
-        let asked : Bool → Result Wrapped Refusal =
-        λ v. unless (not v || nat_lt 0 q.wrap_ttl) (refusal.BadRequest reason.WrappingRequired)
-        >>= (λ w. tried (act start (Some k.caller) names command)) in
-        ap (λ (o : Outcome). o.response) (carried
-        ∙ ap (λ ns. finish start (Some k.caller) (unless (are_new start.used ns) refusal.IdentifierUsed
-        >>= (λ u. asked (traits command).must_wrap))) no_names
-        ∙ ap (λ v. finish start (Some k.caller) (asked v)) free
-        ∙ ap (λ r. finish start (Some k.caller) (tried r)) acted
-        ∙ ap (λ v. finish start (Some k.caller) (Ok
-        (if v then wrap_200 start q.path q.wrap_ttl names d d.answered else unwrapped d))) no_wrap)
 
 -- ---- commands that are never refused
 
@@ -312,27 +268,35 @@ module _ (decide : PoliciesDecide) (a : Asking) (is : a.outcome ≡ step a.broke
   abbrev here : Broker
   here = spent_by a k.caller
 
+  -- what a command answers is the answer
+  answer : (command : Command) → command_of (clocked a).mounts a.ask ≡ Ok command
+      → are_new here.used ((traits command).own (names_of a.words)) ≡ true → (traits command).must_wrap ≡ false
+      → (d : Done) → act here (Some k.caller) (names_of a.words) command ≡ Ok d
+      → a.outcome.response ≡ response_to d.answered
+  answer command means new free d acted =
+      answers a here (Some k.caller) command (carried_for a is command means decide k) (without_ttl a command none)
+      new free d acted
+
   was_done : (command : Command) → command_of (clocked a).mounts a.ask ≡ Ok command → is_done command ≡ true
       → a.outcome.response ≡ no_content
   was_done command means it =
       let d = all_done here k.caller (names_of a.words) command it in
-      answers decide a is k none command means d.2 d.3 d.0 d.1 ∙ ap response_to d.4
+      answer command means (ap (are_new here.used) d.2) d.3 d.0 d.1 ∙ ap response_to d.4
 
   -- a reply is a 200
   replied : (command : Command) → command_of (clocked a).mounts a.ask ≡ Ok command
-      → (traits command).own (names_of a.words) ≡ [] → (traits command).must_wrap ≡ false → (d : Done) (r : Reply)
-      → act here (Some k.caller) (names_of a.words) command ≡ Ok d → d.answered ≡ reply r None
-      → a.outcome.response.status ≡ status.Success
-  replied command means own free d r acted answered =
-      ap (λ (x : Response). x.status) (answers decide a is k none command means own free d acted
-      ∙ ap response_to answered)
+      → are_new here.used ((traits command).own (names_of a.words)) ≡ true → (traits command).must_wrap ≡ false
+      → (d : Done) (r : Reply) (made : Option Text) → act here (Some k.caller) (names_of a.words) command ≡ Ok d
+      → d.answered ≡ reply r made → a.outcome.response.status ≡ status.Success
+  replied command means new free d r made acted answered =
+      ap (λ (x : Response). x.status) (answer command means new free d acted ∙ ap response_to answered)
 
   read : (p : Place) (n : ℕ) → command_of (clocked a).mounts a.ask ≡ Ok (on_secret p (of_secret.Read n))
       → HasVersion a p n → a.outcome.response.status ≡ status.Success
   read p n means h =
       let d = read_done here k.caller (names_of a.words) p n h.key h.there h.version (has_version a p n h)
       h.not_deleted h.not_destroyed in
-      replied (on_secret p (of_secret.Read n)) means refl refl d.0 _ d.1 d.2
+      replied (on_secret p (of_secret.Read n)) means refl refl d.0 _ None d.1 d.2
 
   write : (p : Place) (asked : SecretWrite)
       → command_of (clocked a).mounts a.ask ≡ Ok (on_secret p (of_secret.Write asked)) → MayWrite a p asked
@@ -343,7 +307,7 @@ module _ (decide : PoliciesDecide) (a : Asking) (is : a.outcome ≡ step a.broke
       (key_or_new here.clock (get here.secrets (secret_name p.mount p.path))) in
       let answer : Written → Done = λ w.
       plainly (reply (written_reply names.request here.clock w.custom_metadata w.number) None) w.next in
-      replied (on_secret p (of_secret.Write asked)) means refl refl (answer left) _
+      replied (on_secret p (of_secret.Write asked)) means refl refl (answer left) _ None
       (ap (λ (r : Result Written Refusal). r >>= (λ w. Ok (answer w))) (writes_it a here refl refl p asked m)) refl
 
   -- a token of the clock is there after the use, with its end
@@ -367,7 +331,7 @@ module _ (decide : PoliciesDecide) (a : Asking) (is : a.outcome ≡ step a.broke
     | inr x ↦
         let y = after_use t x.0 x.1 in
         let d = looked_up_done here k.caller (names_of a.words) t y.0 y.1 in
-        replied (on_token (of_token.LookUp t)) means refl refl d.0 d.1 d.2 d.3
+        replied (on_token (of_token.LookUp t)) means refl refl d.0 d.1 None d.2 d.3
   ]
 
   renew : (asked : TokenRenewal) (x : Token)
@@ -377,7 +341,7 @@ module _ (decide : PoliciesDecide) (a : Asking) (is : a.outcome ≡ step a.broke
       let y = after_use asked.token x there in
       let d = renewed_done here k.caller (names_of a.words) asked.token y.0 y.1 asked.increment
       (ap (λ (o : Option ℕ). is_some o) y.2 ∙ has_some x.ends some) in
-      replied (on_token (of_token.Renew asked)) means refl refl d.0 d.1 d.2 d.3
+      replied (on_token (of_token.Renew asked)) means refl refl d.0 d.1 None d.2 d.3
     where
       has_some : (o : Option ℕ) → o ≢ None → is_some o ≡ true
       has_some None end = absurd (end refl)
@@ -390,13 +354,39 @@ module _ (decide : PoliciesDecide) (a : Asking) (is : a.outcome ≡ step a.broke
     | inr text ↦
         let names = names_of a.words in
         let answer : Text → Done = λ kept. plainly (reply (plain_reply names.request kept) None) here in
-        replied (on_cubbyhole path of_cubbyhole.Read) means refl refl (answer text.0) _
+        replied (on_cubbyhole path of_cubbyhole.Read) means refl refl (answer text.0) _ None
         (ap (λ (o : Option Text). some_or refusal.NotFound o >>= (λ kept. Ok (answer kept)))
         (ap (option_and_then (λ (x : Token). get x.cubbyhole path)) k.calls.there ∙ text.1)) refl
   ]
 
+-- ---- a response that waits
+
+-- whoever asks, it is handed out
+handed : (b : Broker) (names : Names) (t : Text) (w : Waiting) → get b.waiting t ≡ Some w
+    → act_on_wrappings b names (of_responses.Unwrap (Some t)) ≡ Ok (handed_out b (found_under t w))
+handed b names t w waits =
+    ap (λ (o : Option Waiting). some_or (refusal.BadRequest reason.InvalidWrappingToken) (option_map (found_under t) o)
+    >>= (λ f. Ok (handed_out b f))) waits
+
+unwrap : PoliciesDecide → (a : Asking) → a.outcome ≡ step a.broker a.moment a.words a.ask → (t : Text) (w : Waiting)
+    → (is_open a.ask ≡ true) ⊎ IsAllowed a
+    → command_of (clocked a).mounts a.ask ≡ Ok (on_wrapping (of_responses.Unwrap (Some t)))
+    → get (clocked a).waiting t ≡ Some w → a.outcome.response ≡ ok w.reply
+unwrap decide a is t w may means waits =
+    let k = on_wrapping (of_responses.Unwrap (Some t)) in
+    elim may [
+      | inl open_ ↦ answers a (clocked a) None k (carried_openly a is k means open_) (never_wrapped a k refl) refl refl _
+          (handed (clocked a) (names_of a.words) t w waits)
+      | inr k_ ↦
+          let here = spent_by a k_.caller in
+          answers a here (Some k_.caller) k (carried_for a is k means decide k_) (never_wrapped a k refl) refl refl _
+          (handed here (names_of a.words) t w waits)
+    ]
+
 pub does_allowed : PoliciesDecide → AllDoAllowed
 does_allowed decide b history h = record {
+  unwraps = λ i a t w at may means waits.
+      unwrap decide a (asked_at b history i a h at).outcome t w may means waits;
   done = λ i a command at k none means it.
       was_done decide a (asked_at b history i a h at).outcome k none command means it;
   reads = λ i a p n at k none means there. read decide a (asked_at b history i a h at).outcome k none p n means there;

@@ -1,5 +1,6 @@
 pub mod Allowed
 pub mod Callers
+pub mod Carried
 pub mod Clients
 pub mod Cover
 pub mod Created

@@ -5,14 +5,16 @@ use Rattle.std.specs.Prelude.{◌≡◌, ◌≢◌, ◌⊎◌, ◌<◌, ℕ, Boo
 use Rattle.std.specs.FinMap as fin
 use Rattle.broker_types.specs.Text.{Text}
 use Rattle.broker_types.specs.Map.{get}
-use Rattle.broker_types.specs.Broker.{Broker, Mount}
+use Rattle.broker_types.specs.Broker.{Broker, Mount, Waiting}
 use Rattle.broker_types.specs.Secret.{Key, Version}
 use Rattle.broker_types.specs.Token.{Token}
 use Rattle.broker_types.specs.declared.status.Status.TheVariants as status
 use Rattle.api_json.specs.declared.secret_bodies.SecretWrite.{SecretWrite}
 use Rattle.api_json.specs.declared.token_bodies.TokenRenewal.{TokenRenewal}
 use Rattle.broker_model.specs.Command.{Command, command_of, on_cubbyhole, on_issued, on_lease, on_secret, on_token}
-use Rattle.broker_model.specs.Responses.{no_content}
+use Rattle.broker_model.specs.Command.{on_wrapping}
+use Rattle.broker_model.specs.Responses.{no_content, ok}
+use Rattle.broker_model.specs.Serving.{is_open}
 use Rattle.broker_model.specs.declared.commands.CubbyholeCommand.{CubbyholeCommand}
 use Rattle.broker_model.specs.declared.commands.CubbyholeCommand.TheVariants as cubbyhole
 use Rattle.broker_model.specs.declared.commands.IssuedCommand.{IssuedCommand}
@@ -23,6 +25,7 @@ use Rattle.broker_model.specs.declared.commands.SecretCommand.{SecretCommand}
 use Rattle.broker_model.specs.declared.commands.SecretCommand.TheVariants as secret
 use Rattle.broker_model.specs.declared.commands.TokenCommand.{TokenCommand}
 use Rattle.broker_model.specs.declared.commands.TokenCommand.TheVariants as token
+use Rattle.broker_model.specs.declared.commands.WrappingCommand.TheVariants as response
 use Rattle.broker_model.specs.parts.Place.{Place}
 use Rattle.histories.specs.Callers.{IsAllowed}
 use Rattle.histories.specs.History.{AreAsked, Asking, AskedAt, History, clocked}
@@ -104,6 +107,11 @@ pub record DoesAllowed (history : History) : Type 0 where
   -- These commands are carried out. So a revocation that is allowed is not refused.
   pub done : (i : ℕ) (a : Asking) (command : Command) → AskedAt history i a → IsAllowed a → a.ask.wrap_ttl ≡ 0
       → command_of (clocked a).mounts a.ask ≡ Ok command → is_done command ≡ true → a.outcome.response ≡ no_content
+  -- An unwrap of a response that waits hands it out, with a wrap TTL too, if it is allowed or needs no caller.
+  pub unwraps : (i : ℕ) (a : Asking) (t : Text) (w : Waiting) → AskedAt history i a
+      → (is_open a.ask ≡ true) ⊎ IsAllowed a
+      → command_of (clocked a).mounts a.ask ≡ Ok (on_wrapping (response.Unwrap (Some t)))
+      → get (clocked a).waiting t ≡ Some w → a.outcome.response ≡ ok w.reply
   -- A read of a version that is there is a 200.
   pub reads : (i : ℕ) (a : Asking) (p : Place) (n : ℕ) → AskedAt history i a → IsAllowed a → a.ask.wrap_ttl ≡ 0
       → command_of (clocked a).mounts a.ask ≡ Ok (on_secret p (secret.Read n)) → HasVersion a p n

@@ -1,0 +1,99 @@
+-- What a command leads to that is not refused before its operation: what the operation answers is the answer.
+use Rattle.std.specs.Prelude.{◌≡◌, ◌||◌, ◌&&◌, ◌∷◌, Bool, true, false, not, nat_lt, if◌then◌else◌}
+use Rattle.std.specs.Prelude.{Option, Some, None, Result, Ok}
+use Rattle.std.proofs.Common.{refl, ◌∙◌, ap, inl}
+use Rattle.broker_types.specs.Text.{Text}
+use Rattle.broker_types.specs.Broker.{Broker}
+use Rattle.broker_types.specs.Names.{Names, names_of}
+use Rattle.broker_types.specs.Operation.{Done}
+use Rattle.broker_types.specs.Refuse.{◌>>=◌, unless}
+use Rattle.broker_types.specs.Used.{are_new}
+use Rattle.broker_types.specs.declared.refusal.Reason.TheVariants as reason
+use Rattle.broker_types.specs.declared.refusal.Refusal.{Refusal}
+use Rattle.broker_types.specs.declared.refusal.Refusal.TheVariants as refusal
+use Rattle.broker_model.specs.Act.{act}
+use Rattle.broker_model.specs.Command.{Command, command_of}
+use Rattle.broker_model.specs.Order.{Outcome, Wrapped, finish, needed, permission_denied, response_to, unwrapped}
+use Rattle.broker_model.specs.Order.{wrap_200, wrapped}
+use Rattle.broker_model.specs.Permission.{permits}
+use Rattle.broker_model.specs.Request.{Request}
+use Rattle.broker_model.specs.Serving.{is_open, is_wrapped, operated}
+use Rattle.broker_model.specs.Step.{request_of, step, traits}
+use Rattle.histories.specs.Callers.{IsAllowed}
+use Rattle.histories.specs.History.{Asking, clocked, spent_by}
+use Rattle.histories.specs.Refused.{PoliciesDecide}
+use Rattle.histories.proofs.OrderCases.{with_caller}
+
+module _ (a : Asking) (is : a.outcome ≡ step a.broker a.moment a.words a.ask) (command : Command)
+    (means : command_of (clocked a).mounts a.ask ≡ Ok command) where
+  -- what the command of an allowed ask leads to is the outcome
+  pub carried_for : PoliciesDecide → (k : IsAllowed a)
+      → a.outcome
+      ≡ finish (spent_by a k.caller) (Some k.caller)
+      (operated (spent_by a k.caller) (Some k.caller) (names_of a.words) a.ask command)
+  carried_for decide k =
+      let start = spent_by a k.caller in
+      is ∙ decide.granted a.broker a.moment a.words a.ask k.caller k.own k.calls k.granted
+      ∙ ap (λ (r : Result Command Refusal). finish start (Some k.caller)
+      (r >>= operated start (Some k.caller) (names_of a.words) a.ask)) means
+
+  -- and so it is with an open ask
+  pub carried_openly : is_open a.ask ≡ true
+      → a.outcome ≡ finish (clocked a) None (operated (clocked a) None (names_of a.words) a.ask command)
+  unfolding step
+  carried_openly open_ =
+      let now = clocked a in
+      let go : Result Command Refusal → Result Wrapped Refusal =
+      λ r. r >>= operated now None (names_of a.words) a.ask in
+      let let_pass : Bool → Outcome = λ v. finish now None
+      (unless (v || permits now None a.ask.verb a.ask.path) permission_denied
+      >>= (λ u. go (command_of now.mounts a.ask))) in
+      is ∙ with_caller permits traits act a.broker a.moment (request_of a.ask) (names_of a.words) None (inl (open_, refl))
+      ∙ ap let_pass open_
+      ∙ ap (λ r. finish now None (go r)) means
+
+-- ---- what is answered
+
+module _ (a : Asking) (start : Broker) (who : Option Text) (command : Command)
+    (carried : a.outcome ≡ finish start who (operated start who (names_of a.words) a.ask command))
+    (no_wrap : is_wrapped a.ask command ≡ false)
+    (new : are_new start.used ((traits command).own (names_of a.words)) ≡ true)
+    (free : (traits command).must_wrap ≡ false) where
+  abbrev names : Names
+  names = names_of a.words
+
+  abbrev q : Request Command
+  q = request_of a.ask
+
+  its_own : are_new start.used (needed permits traits act q names command) ≡ true
+  its_own =
+      ap (λ v. are_new start.used (if v then names.wrapping_token ∷ names.wrapping_accessor ∷ (traits command).own names
+      else (traits command).own names)) no_wrap ∙ new
+
+  -- where the command is carried out, what it answers is the answer
+  pub answers : (d : Done) → act start who names command ≡ Ok d → a.outcome.response ≡ response_to d.answered
+  answers d acted =
+      let tried : Result Done Refusal → Result Wrapped Refusal =
+      λ r. r >>= (λ d. Ok (wrapped permits traits act start q names command d)) in
+      let asked : Bool → Result Wrapped Refusal =
+      λ v. unless (not v || nat_lt 0 q.wrap_ttl) (refusal.BadRequest reason.WrappingRequired)
+      >>= (λ w. tried (act start who names command)) in
+      ap (λ (o : Outcome). o.response) (carried
+      ∙ ap (λ v. finish start who (unless v refusal.IdentifierUsed >>= (λ u. asked (traits command).must_wrap))) its_own
+      ∙ ap (λ v. finish start who (asked v)) free
+      ∙ ap (λ r. finish start who (tried r)) acted
+      ∙ ap (λ v. finish start who (Ok
+      (if v then wrap_200 start q.path q.wrap_ttl names d d.answered else unwrapped d))) no_wrap)
+
+-- without a wrap TTL nothing is wrapped
+pub without_ttl : (a : Asking) (command : Command) → a.ask.wrap_ttl ≡ 0 → is_wrapped a.ask command ≡ false
+without_ttl a command none = ap (λ n. nat_lt 0 n && (traits command).may_wrap) none
+
+-- nor what never is
+pub never_wrapped : (a : Asking) (command : Command) → (traits command).may_wrap ≡ false
+    → is_wrapped a.ask command ≡ false
+never_wrapped a command never = ap (λ v. nat_lt 0 a.ask.wrap_ttl && v) never ∙ by (nat_lt 0 a.ask.wrap_ttl)
+  where
+    by : (v : Bool) → (v && false) ≡ false
+    by true = refl
+    by false = refl
