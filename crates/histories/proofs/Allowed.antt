@@ -1,17 +1,19 @@
 -- What is allowed is done: some commands always, some where what they ask for is there.
 use Rattle.std.specs.Prelude.{◌≡◌, ◌≢◌, ◌⊎◌, ◌<◌, ◌==◌, ◌||◌, ℕ, [], Bool, true, false, nat_lt}
 use Rattle.std.specs.Prelude.{is_some, if◌then◌else◌, Option, Some, None, Result, Ok, option_and_then, option_map, ⊤}
+use Rattle.std.specs.Prelude.{codes}
 use Rattle.std.specs.FinMap as fin
 use Rattle.std.proofs.Common.{refl, sym, ◌∙◌, ap, subst, inl, inr}
 use Rattle.std.proofs.lemmas.Bool.{eq-eqb, eqb-true, false≢true, lt-ltb}
 use Rattle.broker_types.specs.Text.{Text, same}
 use Rattle.broker_types.specs.Limits.{greatest_version}
-use Rattle.broker_types.specs.Map.{Map, entries, get}
+use Rattle.broker_types.specs.Map.{Map, entries, get, without}
 use Rattle.broker_types.specs.MapLaws.{get-change}
 use Rattle.broker_types.specs.Answer.{Response}
 use Rattle.broker_types.specs.Broker.{Broker, Mount, Waiting}
 use Rattle.broker_types.specs.Names.{Names, names_of}
 use Rattle.broker_types.specs.Operation.{missing, nothing, plainly, reply, Done}
+use Rattle.broker_types.specs.Places.{OnePlaceEach}
 use Rattle.broker_types.specs.OptionLaws.{found_or_not}
 use Rattle.broker_types.specs.Refuse.{◌>>=◌, some_or, unless}
 use Rattle.broker_types.specs.Secret.{Key, Version}
@@ -26,6 +28,7 @@ use Rattle.broker_types.specs.declared.refusal.Refusal.TheVariants as refusal
 use Rattle.broker_types.specs.declared.reply.Reply.{Reply}
 use Rattle.broker_types.specs.declared.status.Status.TheVariants as status
 use Rattle.records.specs.TokenEntry.{token_entry}
+use Rattle.token_tree.specs.Laws.{AccessorsNameTheirTokens}
 use Rattle.token_tree.specs.Tokens as tree
 use Rattle.kv2.specs.Secrets as secrets
 use Rattle.kv2.specs.Secrets.{Written, secret_name, write_over, written}
@@ -46,6 +49,7 @@ use Rattle.broker_model.specs.declared.commands.IssuedCommand.{IssuedCommand}
 use Rattle.broker_model.specs.declared.commands.IssuedCommand.TheVariants as of_issued
 use Rattle.broker_model.specs.declared.commands.LeaseCommand.{LeaseCommand}
 use Rattle.broker_model.specs.declared.commands.LeaseCommand.TheVariants as of_lease
+use Rattle.broker_model.specs.declared.commands.MountCommand.TheVariants as of_mount
 use Rattle.broker_model.specs.declared.commands.SecretCommand.{SecretCommand}
 use Rattle.broker_model.specs.declared.commands.SecretCommand.TheVariants as of_secret
 use Rattle.broker_model.specs.declared.commands.TokenCommand.{TokenCommand}
@@ -54,13 +58,16 @@ use Rattle.broker_model.specs.declared.commands.WrappingCommand.TheVariants as o
 use Rattle.broker_model.specs.parts.Place.{Place}
 use Rattle.broker_model.specs.parts.SecretReplies.{object_left, version_answered, version_reply, written_reply}
 use Rattle.broker_model.specs.parts.TokenReplies.{auth_reply, token_reply}
-use Rattle.broker_model.specs.parts.Tokens.{new_end}
+use Rattle.broker_model.specs.parts.Mounts.{without_kept}
+use Rattle.broker_model.specs.parts.Tokens.{holder, new_end, revoke}
 use Rattle.broker_model.specs.parts.Wrappings.{act_on_wrappings, found_under, handed_out}
-use Rattle.histories.specs.Allowed.{AllDoAllowed, HasVersion, MayWrite, is_done}
+use Rattle.histories.specs.Allowed.{AllDoAllowed, HasAccessor, HasVersion, MayWrite, is_done}
 use Rattle.histories.specs.Callers.{IsAllowed}
 use Rattle.histories.specs.History.{Asking, clocked, spent_by}
 use Rattle.histories.specs.Refused.{PoliciesDecide}
 use Rattle.histories.proofs.Carried.{answers, carried_for, carried_openly, never_wrapped, without_ttl}
+use Rattle.histories.proofs.Found.{goes, held_by_token, held_by_waiting}
+use Rattle.histories.proofs.Placed.{one_place_still}
 use Rattle.histories.proofs.ReadsEnded.{current_is, number_is}
 use Rattle.histories.proofs.Requests.{asked_at}
 
@@ -310,19 +317,21 @@ module _ (decide : PoliciesDecide) (a : Asking) (is : a.outcome ≡ step a.broke
       replied (on_secret p (of_secret.Write asked)) means refl refl (answer left) _ None
       (ap (λ (r : Result Written Refusal). r >>= (λ w. Ok (answer w))) (writes_it a here refl refl p asked m)) refl
 
-  -- a token of the clock is there after the use, with its end
+  -- a token of the clock is there after the use, with its end and its accessor
   after_use : (t : Text) (x : Token) → get (clocked a).tokens t ≡ Some x
-      → (y : Token) × (get here.tokens t ≡ Some y) × (y.ends ≡ x.ends)
+      → (y : Token) × (get here.tokens t ≡ Some y) × (y.ends ≡ x.ends) × (y.accessor ≡ x.accessor)
   after_use t x there = (
     if same t k.caller then one_less x else x,
     get-change (clocked a).tokens k.caller one_less t
         ∙ ap (option_map (λ z. if same t k.caller then one_less z else z)) there,
-    by (same t k.caller) x,
+    (by (same t k.caller) x).0,
+    (by (same t k.caller) x).1,
   )
     where
-      by : (v : Bool) (x : Token) → (if v then one_less x else x).ends ≡ x.ends
-      by true x = refl
-      by false x = refl
+      by : (v : Bool) (x : Token)
+          → ((if v then one_less x else x).ends ≡ x.ends) × ((if v then one_less x else x).accessor ≡ x.accessor)
+      by true x = (refl, refl)
+      by false x = (refl, refl)
 
   look_up : (t : Text) → command_of (clocked a).mounts a.ask ≡ Ok (on_token (of_token.LookUp t))
       → get (clocked a).tokens t ≢ None → a.outcome.response.status ≡ status.Success
@@ -346,6 +355,33 @@ module _ (decide : PoliciesDecide) (a : Asking) (is : a.outcome ≡ step a.broke
       has_some : (o : Option ℕ) → o ≢ None → is_some o ≡ true
       has_some None end = absurd (end refl)
       has_some (Some n) end = refl
+
+  -- a revocation of what is found
+  revoke_found : (accessor : Text) → command_of (clocked a).mounts a.ask ≡ Ok (on_token (of_token.RevokeAccessor accessor))
+      → (t : Text) → holder here accessor ≡ Ok t → a.outcome.response ≡ no_content
+  revoke_found accessor means t held =
+      answer (on_token (of_token.RevokeAccessor accessor)) means refl refl (revoke here t)
+      (ap (λ (r : Result Text Refusal). r >>= (λ t. Ok (revoke here t))) held)
+
+  revoke_accessor : AccessorsNameTheirTokens → OnePlaceEach a.broker → (accessor : Text)
+      → command_of (clocked a).mounts a.ask ≡ Ok (on_token (of_token.RevokeAccessor accessor)) → HasAccessor a accessor
+      → a.outcome.response ≡ no_content
+  revoke_accessor accessors one accessor means (inl (t, x, there, has)) =
+      let y = after_use t x there in
+      revoke_found accessor means t (held_by_token here accessor t
+      (ap (tree.find_accessor here) (sym (y.3 ∙ has)) ∙ accessors here t y.0 (one_place_still a.broker a.moment k.caller one) y.1))
+  revoke_accessor accessors one accessor means (inr (t, w, there, has)) =
+      let u = held_by_waiting here accessor t w there has in
+      revoke_found accessor means u.0 u.1
+
+  disable : (name : Text) → command_of (clocked a).mounts a.ask ≡ Ok (on_mount name of_mount.Disable)
+      → name ≢ codes "sys" → name ≢ codes "auth" → name ≢ codes "cubbyhole" → a.outcome.response ≡ no_content
+  disable name means sys auth own =
+      answer (on_mount name of_mount.Disable) means refl refl _
+      (ap (λ (r : Result ⊤ Refusal). r >>= (λ free. Ok (without here.mounts name))
+      >>= (λ next. Ok (plainly nothing
+      (if is_some (get here.mounts name) then without_kept (record here { mounts = next }) name else here))))
+      (goes name sys auth own))
 
   read_own : (path : Text) → command_of (clocked a).mounts a.ask ≡ Ok (on_cubbyhole path of_cubbyhole.Read)
       → get k.own.cubbyhole path ≢ None → a.outcome.response.status ≡ status.Success
@@ -383,8 +419,13 @@ unwrap decide a is t w may means waits =
           (handed here (names_of a.words) t w waits)
     ]
 
-pub does_allowed : PoliciesDecide → AllDoAllowed
-does_allowed decide b history h = record {
+pub does_allowed : PoliciesDecide → AccessorsNameTheirTokens → AllDoAllowed
+does_allowed decide accessors b history h = record {
+  revokes_accessor = λ i a accessor at k none means has.
+      let asked = asked_at b history i a h at in
+      revoke_accessor decide a asked.outcome k none accessors asked.sound.identifiers.one_place accessor means has;
+  disables = λ i a mount at k none means sys auth own.
+      disable decide a (asked_at b history i a h at).outcome k none mount means sys auth own;
   unwraps = λ i a t w at may means waits.
       unwrap decide a (asked_at b history i a h at).outcome t w may means waits;
   done = λ i a command at k none means it.

@@ -1,19 +1,21 @@
 -- Where the identifiers of a broker come from that follows another one.
-use Rattle.std.specs.Prelude.{◌≡◌, ◌⊎◌, not, nat_lt, ℕ, max, List, Bool, true, false, if◌then◌else◌}
+use Rattle.std.specs.Prelude.{◌≡◌, ◌⊎◌, not, nat_lt, ℕ, max, List, [], Bool, true, false, if◌then◌else◌}
 use Rattle.std.specs.Prelude.{Option, Some, None, option_map, option_and_then}
 use Rattle.std.specs.List.{list_any}
 use Rattle.std.specs.Option.{option_map_or}
 use Rattle.std.proofs.Common.{refl, sym, ◌∙◌, ap, subst, inl, inr}
+use Rattle.std.proofs.lemmas.Bool.{false≢true}
 use Rattle.broker_types.specs.Text.{Text, same}
 use Rattle.broker_types.specs.Map.{Map, get, keep, map_values, without}
 use Rattle.broker_types.specs.MapLaws.{valued_is, without_is}
 use Rattle.broker_types.specs.Broker.{Broker, Waiting, at_moment, revoke, revoke_orphan, waiting_ends}
 use Rattle.broker_types.specs.Lineage.{is_under, orphaned_by, with_live_leases}
 use Rattle.broker_types.specs.OptionLaws.{mapped}
-use Rattle.broker_types.specs.Places.{Place, identifier_at, lease_identifier, lease_of, token_identifier}
+use Rattle.broker_types.specs.Places.{OnePlaceEach, Place, identifier_at, lease_identifier, lease_of}
+use Rattle.broker_types.specs.Places.{token_identifier}
 use Rattle.broker_types.specs.Places as place
 use Rattle.broker_types.specs.SearchLaws.{kept_get}
-use Rattle.broker_types.specs.Spending.{drop_waiting, end_spent, is_spent, one_less}
+use Rattle.broker_types.specs.Spending.{drop_waiting, end_spent, is_spent, one_less, spend}
 use Rattle.broker_types.specs.Token.{Token, Tokens, Lease}
 use Rattle.broker_types.specs.TreeLaws.{alive_is}
 use Rattle.broker_model.specs.EffectLaws.{chained}
@@ -216,3 +218,15 @@ module _ (b : Broker) (given : List Text) where
         | true ↦ revoke_placed c
         | false ↦ placed_self b given
       ]
+
+-- each identifier is in its place at a moment, with a use that the caller has spent
+pub one_place_still : (b : Broker) (moment : ℕ) (c : Text) → OnePlaceEach b
+    → OnePlaceEach (spend (at_moment b moment) c)
+one_place_still b moment c one p q i at other = one p q i (was p at) (was q other)
+  where
+    was : (p : Place) → identifier_at (spend (at_moment b moment) c) p ≡ Some i → identifier_at b p ≡ Some i
+    was p e = elim (placed_trans b (at_moment b moment) (spend (at_moment b moment) c) [] (moment_placed b [] moment)
+        (spent_placed (at_moment b moment) [] (Some c)) p i e) [
+          | inl here ↦ here
+          | inr given ↦ absurd (false≢true given)
+        ]

@@ -15,8 +15,7 @@ use Rattle.broker_types.specs.Broker.{Broker}
 use Rattle.broker_types.specs.Names.{Names, names_of}
 use Rattle.broker_types.specs.Operation.{reply, Done}
 use Rattle.broker_types.specs.OptionLaws.{found_or_not, mapped}
-use Rattle.broker_types.specs.Places as places
-use Rattle.broker_types.specs.Places.{OnePlaceEach, identifier_at, lease_of}
+use Rattle.broker_types.specs.Places.{OnePlaceEach, lease_of}
 use Rattle.broker_types.specs.PutLaws.{put_filled, put_keeps, put_there}
 use Rattle.broker_types.specs.Refuse.{some_or, unless}
 use Rattle.broker_types.specs.RefuseLaws.{no_ok, ok_step}
@@ -64,7 +63,7 @@ use Rattle.histories.specs.Revocation.{IsClient}
 use Rattle.histories.specs.Versions.{named as named_secret}
 use Rattle.histories.proofs.Clients.{from_clock}
 use Rattle.histories.proofs.OrderCases.{some_ok}
-use Rattle.histories.proofs.Placed.{moment_placed, placed_trans, spent_placed}
+use Rattle.histories.proofs.Placed.{one_place_still}
 use Rattle.histories.proofs.Renewals.{tells_renewed, tells_renewed_lease}
 use Rattle.histories.proofs.Requests.{asked_at, tells_body}
 use Rattle.histories.proofs.Served.{served}
@@ -377,17 +376,6 @@ module _ (told : OperationsDoAsTold) (a : Asking) (is : a.outcome ≡ step a.bro
           subst (λ u. get (put (put (clocked a).policies policies.default []) policies.root []) u ≢ None) (sym root)
           (put_there (put (clocked a).policies policies.default []) policies.root [])
 
-  -- a use that is spent leaves each identifier in its place
-  one_place : (c : Text) → OnePlaceEach a.broker → OnePlaceEach (spent_by a c)
-  one_place c one p q i at other = one p q i (was p at) (was q other)
-    where
-      was : (p : places.Place) → identifier_at (spent_by a c) p ≡ Some i → identifier_at a.broker p ≡ Some i
-      was p e = elim (placed_trans a.broker (clocked a) (spent_by a c) [] (moment_placed a.broker [] a.moment)
-          (spent_placed (clocked a) [] (Some c)) p i e) [
-            | inl here ↦ here
-            | inr given ↦ absurd (false≢true given)
-          ]
-
   pub accessors_listed : AccessorsNameTheirTokens → NamedTokensHaveTheirAccessors → OnePlaceEach a.broker
       → Succeeds a (on_token of_token.ListAccessors) → Lists a (IsAccessorOf a)
   accessors_listed name theirs one h =
@@ -410,7 +398,7 @@ module _ (told : OperationsDoAsTold) (a : Asking) (is : a.outcome ≡ step a.bro
             none-some _ (sym none
             ∙ ap (tree.find_accessor b) (sym (same_accessor (same passes.0 s.caller) passes.1 ∙ passes.3))
             ∙ name b passes.0 (if same passes.0 s.caller then one_less passes.1 else passes.1)
-            (one_place s.caller one) y);
+            (one_place_still a.broker a.moment s.caller one) y);
         shows = tells k s _ _ s.acted refl;
       }
     where

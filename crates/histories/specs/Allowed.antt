@@ -1,7 +1,7 @@
 -- The law that what is allowed is done, as a statement: of requests without a wrap TTL, some are refused only where
 -- policies refuse them, and some only where what they ask for is not there (Vault's documentation, "Tokens"; "Lease,
 -- renew, and revoke"; "KV secrets engine - version 2 (API)"; "Cubbyhole secrets engine (API)").
-use Rattle.std.specs.Prelude.{◌≡◌, ◌≢◌, ◌⊎◌, ◌<◌, ℕ, Bool, true, false, Some, None, Ok}
+use Rattle.std.specs.Prelude.{◌≡◌, ◌≢◌, ◌⊎◌, ◌<◌, ℕ, Bool, true, false, Some, None, Ok, codes}
 use Rattle.std.specs.FinMap as fin
 use Rattle.broker_types.specs.Text.{Text}
 use Rattle.broker_types.specs.Map.{get}
@@ -12,7 +12,7 @@ use Rattle.broker_types.specs.declared.status.Status.TheVariants as status
 use Rattle.api_json.specs.declared.secret_bodies.SecretWrite.{SecretWrite}
 use Rattle.api_json.specs.declared.token_bodies.TokenRenewal.{TokenRenewal}
 use Rattle.broker_model.specs.Command.{Command, command_of, on_cubbyhole, on_issued, on_lease, on_secret, on_token}
-use Rattle.broker_model.specs.Command.{on_wrapping}
+use Rattle.broker_model.specs.Command.{on_mount, on_wrapping}
 use Rattle.broker_model.specs.Responses.{no_content, ok}
 use Rattle.broker_model.specs.Serving.{is_open}
 use Rattle.broker_model.specs.declared.commands.CubbyholeCommand.{CubbyholeCommand}
@@ -21,6 +21,7 @@ use Rattle.broker_model.specs.declared.commands.IssuedCommand.{IssuedCommand}
 use Rattle.broker_model.specs.declared.commands.IssuedCommand.TheVariants as issued
 use Rattle.broker_model.specs.declared.commands.LeaseCommand.{LeaseCommand}
 use Rattle.broker_model.specs.declared.commands.LeaseCommand.TheVariants as lease
+use Rattle.broker_model.specs.declared.commands.MountCommand.TheVariants as mount
 use Rattle.broker_model.specs.declared.commands.SecretCommand.{SecretCommand}
 use Rattle.broker_model.specs.declared.commands.SecretCommand.TheVariants as secret
 use Rattle.broker_model.specs.declared.commands.TokenCommand.{TokenCommand}
@@ -101,12 +102,25 @@ pub record MayWrite (a : Asking) (p : Place) (asked : SecretWrite) : Type 0 wher
       × ((key : Key) → get (clocked a).secrets (named p) ≡ Some key → key.cas_required ≡ false))
   pub low : current < 999999999999999999
 
+-- a token, or the wrapping token of a response that waits, has the accessor
+abbrev pub HasAccessor : Asking → Text → Type 0
+HasAccessor a accessor =
+    ((t : Text) × (x : Token) × (get (clocked a).tokens t ≡ Some x) × (x.accessor ≡ accessor))
+    ⊎ ((t : Text) × (w : Waiting) × (get (clocked a).waiting t ≡ Some w) × (w.accessor ≡ accessor))
+
 -- ---- the law
 
 pub record DoesAllowed (history : History) : Type 0 where
   -- These commands are carried out. So a revocation that is allowed is not refused.
   pub done : (i : ℕ) (a : Asking) (command : Command) → AskedAt history i a → IsAllowed a → a.ask.wrap_ttl ≡ 0
       → command_of (clocked a).mounts a.ask ≡ Ok command → is_done command ≡ true → a.outcome.response ≡ no_content
+  -- So is a revocation by an accessor that is there, and the disabling of a mount, but for three names.
+  pub revokes_accessor : (i : ℕ) (a : Asking) (accessor : Text) → AskedAt history i a → IsAllowed a
+      → a.ask.wrap_ttl ≡ 0 → command_of (clocked a).mounts a.ask ≡ Ok (on_token (token.RevokeAccessor accessor))
+      → HasAccessor a accessor → a.outcome.response ≡ no_content
+  pub disables : (i : ℕ) (a : Asking) (name : Text) → AskedAt history i a → IsAllowed a → a.ask.wrap_ttl ≡ 0
+      → command_of (clocked a).mounts a.ask ≡ Ok (on_mount name mount.Disable) → name ≢ codes "sys"
+      → name ≢ codes "auth" → name ≢ codes "cubbyhole" → a.outcome.response ≡ no_content
   -- An unwrap of a response that waits hands it out, with a wrap TTL too, if it is allowed or needs no caller.
   pub unwraps : (i : ℕ) (a : Asking) (t : Text) (w : Waiting) → AskedAt history i a
       → (is_open a.ask ≡ true) ⊎ IsAllowed a

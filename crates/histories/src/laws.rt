@@ -213,6 +213,7 @@ pub fn allowed_requests_are_carried_out()
     ensures { AllDoAllowed }
 {
     policies_decide();
+    accessors_name_their_tokens();
 }
 
 /// A law: only `root` lets do everything; a verb asks for its capability, and a write for `create` exactly where it

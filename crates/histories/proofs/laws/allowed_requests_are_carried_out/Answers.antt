@@ -2,4 +2,4 @@ use Rattle.histories.proofs.Allowed.{does_allowed}
 use Rattle.histories.proofs.laws.allowed_requests_are_carried_out.Goals as goal
 
 pub returns : goal.returns
-returns c = does_allowed c.policies_decide.ensures
+returns c = does_allowed c.policies_decide.ensures c.accessors_name_their_tokens.ensures.named
