@@ -1,7 +1,7 @@
 -- What is allowed is done: some commands always, some where what they ask for is there.
 use Rattle.std.specs.Prelude.{◌≡◌, ◌≢◌, ◌⊎◌, ◌<◌, ◌==◌, ◌||◌, ℕ, [], Bool, true, false, nat_lt}
 use Rattle.std.specs.Prelude.{is_some, if◌then◌else◌, Option, Some, None, Result, Ok, option_and_then, option_map, ⊤}
-use Rattle.std.specs.Prelude.{codes}
+use Rattle.std.specs.Prelude.{codes, ◌-◌}
 use Rattle.std.specs.FinMap as fin
 use Rattle.std.proofs.Common.{refl, sym, ◌∙◌, ap, subst, inl, inr}
 use Rattle.std.proofs.lemmas.Bool.{eq-eqb, eqb-true, false≢true, lt-ltb}
@@ -13,12 +13,12 @@ use Rattle.broker_types.specs.Answer.{Response}
 use Rattle.broker_types.specs.Broker.{Broker, Mount, Waiting}
 use Rattle.broker_types.specs.Names.{Names, names_of}
 use Rattle.broker_types.specs.Operation.{missing, nothing, plainly, reply, Done}
-use Rattle.broker_types.specs.Places.{OnePlaceEach}
+use Rattle.broker_types.specs.Places.{OnePlaceEach, lease_of}
 use Rattle.broker_types.specs.OptionLaws.{found_or_not}
 use Rattle.broker_types.specs.Refuse.{◌>>=◌, some_or, unless}
 use Rattle.broker_types.specs.Secret.{Key, Version}
 use Rattle.broker_types.specs.Spending.{one_less}
-use Rattle.broker_types.specs.Token.{Token}
+use Rattle.broker_types.specs.Token.{Lease, Token}
 use Rattle.broker_types.specs.Used.{are_new}
 use Rattle.broker_types.specs.declared.refusal.Denial.TheVariants as denial
 use Rattle.broker_types.specs.declared.refusal.Field.TheVariants as field
@@ -30,13 +30,18 @@ use Rattle.broker_types.specs.declared.status.Status.TheVariants as status
 use Rattle.records.specs.TokenEntry.{token_entry}
 use Rattle.token_tree.specs.Laws.{AccessorsNameTheirTokens}
 use Rattle.token_tree.specs.Tokens as tree
+use Rattle.leases.specs.Leases as leases
+use Rattle.leases.specs.Leases.{Renewed, renewed_end, times_of, with_renewed}
 use Rattle.kv2.specs.Secrets as secrets
 use Rattle.kv2.specs.Secrets.{Written, secret_name, write_over, written}
 use Rattle.kv2.specs.Versions.{Found, asked_number, check_and_set, checked, key_or_new, numbered}
-use Rattle.api_json.specs.Reply.{plain_reply}
+use Rattle.api_json.specs.Objects.{lease_object}
+use Rattle.api_json.specs.Reply.{lease_reply, plain_reply}
+use Rattle.api_json.specs.declared.lease_bodies.LeaseRenewal.{LeaseRenewal}
 use Rattle.api_json.specs.declared.secret_bodies.SecretWrite.{SecretWrite}
 use Rattle.api_json.specs.declared.token_bodies.TokenRenewal.{TokenRenewal}
 use Rattle.broker_model.specs.Act.{act}
+use Rattle.broker_model.specs.EffectLaws.{chained}
 use Rattle.broker_model.specs.Command.{Command, command_of, on_cubbyhole, on_issued, on_lease, on_mount, on_policy}
 use Rattle.broker_model.specs.Command.{on_secret, on_token, on_wrapping}
 use Rattle.broker_model.specs.Order.{response_to}
@@ -59,14 +64,17 @@ use Rattle.broker_model.specs.parts.Place.{Place}
 use Rattle.broker_model.specs.parts.SecretReplies.{object_left, version_answered, version_reply, written_reply}
 use Rattle.broker_model.specs.parts.TokenReplies.{auth_reply, token_reply}
 use Rattle.broker_model.specs.parts.Mounts.{without_kept}
-use Rattle.broker_model.specs.parts.Tokens.{holder, new_end, revoke}
+use Rattle.broker_model.specs.parts.Leases as of_leases
+use Rattle.broker_model.specs.parts.Tokens as tokens
+use Rattle.broker_model.specs.parts.Tokens.{new_end}
 use Rattle.broker_model.specs.parts.Wrappings.{act_on_wrappings, found_under, handed_out}
 use Rattle.histories.specs.Allowed.{AllDoAllowed, HasAccessor, HasVersion, MayWrite, is_done}
 use Rattle.histories.specs.Callers.{IsAllowed}
 use Rattle.histories.specs.History.{Asking, clocked, spent_by}
 use Rattle.histories.specs.Refused.{PoliciesDecide}
+use Rattle.histories.specs.Shown.{IsAccessorOf}
 use Rattle.histories.proofs.Carried.{answers, carried_for, carried_openly, never_wrapped, without_ttl}
-use Rattle.histories.proofs.Found.{goes, held_by_token, held_by_waiting}
+use Rattle.histories.proofs.Found.{goes, held_by_token, held_by_waiting, lease_found}
 use Rattle.histories.proofs.Placed.{one_place_still}
 use Rattle.histories.proofs.ReadsEnded.{current_is, number_is}
 use Rattle.histories.proofs.Requests.{asked_at}
@@ -226,20 +234,20 @@ module _ (a : Asking) (b : Broker) (same_mounts : b.mounts ≡ (clocked a).mount
 
 -- ---- a token that is there
 
-module _ (b : Broker) (c : Text) (names : Names) (t : Text) (x : Token) (there : get b.tokens t ≡ Some x) where
-  looked_up_done : (d : Done) × (r : Reply) × (act b (Some c) names (on_token (of_token.LookUp t)) ≡ Ok d)
+module _ (b : Broker) (names : Names) (t : Text) (x : Token) (there : get b.tokens t ≡ Some x) where
+  looked_up_done : (id : Text) → (d : Done) × (r : Reply) × (tokens.look_up b names t id ≡ Ok d)
       × (d.answered ≡ reply r None)
-  looked_up_done =
-      let answer : Token → Done = λ y. plainly (reply (token_reply names.request b.clock t (token_entry y)) None) b in (
+  looked_up_done id =
+      let tells : Token → Reply = λ y. token_reply names.request b.clock id (token_entry y) in
+      let answer : Token → Done = λ y. plainly (reply (tells y) None) b in (
         answer x,
-        token_reply names.request b.clock t (token_entry x),
+        tells x,
         ap (λ (o : Option Token). some_or (refusal.Forbidden denial.BadToken) o >>= (λ y. Ok (answer y))) there,
         refl,
       )
 
-  renewed_done : (increment : ℕ) → is_some x.ends ≡ true → (d : Done) × (r : Reply)
-      × (act b (Some c) names (on_token (of_token.Renew (record { token = t; increment = increment }))) ≡ Ok d)
-      × (d.answered ≡ reply r None)
+  renewed_done : (increment : ℕ) → x.ends ≢ None → (d : Done) × (r : Reply)
+      × (tokens.renew b names t increment ≡ Ok d) × (d.answered ≡ reply r None)
   renewed_done increment ends =
       let next : Token → ℕ = λ y. new_end b.clock (token_entry y) increment in
       let tells : Token → Reply = λ y.
@@ -251,7 +259,40 @@ module _ (b : Broker) (c : Text) (names : Names) (t : Text) (x : Token) (there :
         tells x,
         ap (λ (o : Option Token). some_or (refusal.Forbidden denial.BadToken) o
             >>= (λ y. ending y (is_some y.ends))) there
-            ∙ ap (ending x) ends,
+            ∙ ap (ending x) (has_some x.ends ends),
+        refl,
+      )
+    where
+      has_some : (o : Option ℕ) → o ≢ None → is_some o ≡ true
+      has_some None end = absurd (end refl)
+      has_some (Some n) end = refl
+
+-- ---- a lease that is there
+
+module _ (b : Broker) (names : Names) (lease_id : Text) (l : Lease) (there : leases.find b lease_id ≡ Some l) where
+  lease_looked_up : (d : Done) × (r : Reply) × (of_leases.look_up b names lease_id ≡ Ok d)
+      × (d.answered ≡ reply r None)
+  lease_looked_up =
+      let tells : Lease → Reply = λ m.
+      plain_reply names.request (lease_object (of_leases.shown b.clock lease_id (times_of m))) in (
+        plainly (reply (tells l) None) b,
+        tells l,
+        ap (λ (o : Option Lease). some_or (refusal.BadRequest reason.InvalidLease) o
+            >>= (λ m. Ok (plainly (reply (tells m) None) b))) there,
+        refl,
+      )
+
+  lease_renewed : (increment : ℕ) → (d : Done) × (r : Reply) × (of_leases.renew b names lease_id increment ≡ Ok d)
+      × (d.answered ≡ reply r None)
+  lease_renewed increment =
+      let next : Lease → Renewed = λ m.
+      record { ends = renewed_end b.clock increment m; next = with_renewed b lease_id increment } in
+      let tells : Renewed → Reply = λ r. lease_reply names.request lease_id (r.ends - b.clock) None in
+      let answer : Renewed → Done = λ r. plainly (reply (tells r) None) r.next in (
+        answer (next l),
+        tells (next l),
+        ap (λ (o : Option Lease). some_or (refusal.BadRequest reason.InvalidLease) o >>= (λ m. Ok (next m))
+            >>= (λ r. Ok (answer r))) there,
         refl,
       )
 
@@ -269,6 +310,12 @@ has_version a p n h = ap (fin.get h.key.versions) (by (n == 0) refl) ∙ h.is_ke
     by false some =
         let other : n ≢ 0 = λ none. false≢true (sym some ∙ ap (λ m. m == 0) none) in
         number_is h.key n other ∙ sym (h.by_number other)
+
+-- what a use leaves of a token that is looked for
+record IsLike (x y : Token) : Type 0 where
+  pub ends : y.ends ≡ x.ends
+  pub accessor : y.accessor ≡ x.accessor
+  pub leases : y.leases ≡ x.leases
 
 module _ (decide : PoliciesDecide) (a : Asking) (is : a.outcome ≡ step a.broker a.moment a.words a.ask)
     (k : IsAllowed a) (none : a.ask.wrap_ttl ≡ 0) where
@@ -317,21 +364,19 @@ module _ (decide : PoliciesDecide) (a : Asking) (is : a.outcome ≡ step a.broke
       replied (on_secret p (of_secret.Write asked)) means refl refl (answer left) _ None
       (ap (λ (r : Result Written Refusal). r >>= (λ w. Ok (answer w))) (writes_it a here refl refl p asked m)) refl
 
-  -- a token of the clock is there after the use, with its end and its accessor
+  -- a token of the clock is there after the use, with its end, its accessor and its leases
   after_use : (t : Text) (x : Token) → get (clocked a).tokens t ≡ Some x
-      → (y : Token) × (get here.tokens t ≡ Some y) × (y.ends ≡ x.ends) × (y.accessor ≡ x.accessor)
+      → (y : Token) × (get here.tokens t ≡ Some y) × IsLike x y
   after_use t x there = (
     if same t k.caller then one_less x else x,
     get-change (clocked a).tokens k.caller one_less t
         ∙ ap (option_map (λ z. if same t k.caller then one_less z else z)) there,
-    (by (same t k.caller) x).0,
-    (by (same t k.caller) x).1,
+    by (same t k.caller),
   )
     where
-      by : (v : Bool) (x : Token)
-          → ((if v then one_less x else x).ends ≡ x.ends) × ((if v then one_less x else x).accessor ≡ x.accessor)
-      by true x = (refl, refl)
-      by false x = (refl, refl)
+      by : (v : Bool) → IsLike x (if v then one_less x else x)
+      by true = record { ends = refl; accessor = refl; leases = refl }
+      by false = record { ends = refl; accessor = refl; leases = refl }
 
   look_up : (t : Text) → command_of (clocked a).mounts a.ask ≡ Ok (on_token (of_token.LookUp t))
       → get (clocked a).tokens t ≢ None → a.outcome.response.status ≡ status.Success
@@ -339,37 +384,88 @@ module _ (decide : PoliciesDecide) (a : Asking) (is : a.outcome ≡ step a.broke
     | inl none ↦ absurd (some none)
     | inr x ↦
         let y = after_use t x.0 x.1 in
-        let d = looked_up_done here k.caller (names_of a.words) t y.0 y.1 in
+        let d = looked_up_done here (names_of a.words) t y.0 y.1 t in
         replied (on_token (of_token.LookUp t)) means refl refl d.0 d.1 None d.2 d.3
   ]
+
+  look_up_self : command_of (clocked a).mounts a.ask ≡ Ok (on_token of_token.LookUpSelf)
+      → a.outcome.response.status ≡ status.Success
+  look_up_self means =
+      let d = looked_up_done here (names_of a.words) k.caller k.own k.calls.there k.caller in
+      replied (on_token of_token.LookUpSelf) means refl refl d.0 d.1 None d.2 d.3
 
   renew : (asked : TokenRenewal) (x : Token)
       → command_of (clocked a).mounts a.ask ≡ Ok (on_token (of_token.Renew asked))
       → get (clocked a).tokens asked.token ≡ Some x → x.ends ≢ None → a.outcome.response.status ≡ status.Success
   renew asked x means there some =
       let y = after_use asked.token x there in
-      let d = renewed_done here k.caller (names_of a.words) asked.token y.0 y.1 asked.increment
-      (ap (λ (o : Option ℕ). is_some o) y.2 ∙ has_some x.ends some) in
+      let d = renewed_done here (names_of a.words) asked.token y.0 y.1 asked.increment
+      (λ none. some (sym y.2.ends ∙ none)) in
       replied (on_token (of_token.Renew asked)) means refl refl d.0 d.1 None d.2 d.3
-    where
-      has_some : (o : Option ℕ) → o ≢ None → is_some o ≡ true
-      has_some None end = absurd (end refl)
-      has_some (Some n) end = refl
+
+  renew_self : (increment : ℕ) → command_of (clocked a).mounts a.ask ≡ Ok (on_token (of_token.RenewSelf increment))
+      → k.own.ends ≢ None → a.outcome.response.status ≡ status.Success
+  renew_self increment means some =
+      let d = renewed_done here (names_of a.words) k.caller k.own k.calls.there increment some in
+      replied (on_token (of_token.RenewSelf increment)) means refl refl d.0 d.1 None d.2 d.3
+
+  -- a lease of the clock is found after the use
+  lease_after_use : (t lease_id : Text) (l : Lease) → lease_of (clocked a) t lease_id ≡ Some l
+      → (m : Lease) × (leases.find here lease_id ≡ Some m)
+  lease_after_use t lease_id l there =
+      let x = chained (λ (z : Token). get z.leases lease_id) (get (clocked a).tokens t) l there in
+      let y = after_use t x.0 x.1 in
+      lease_found here lease_id t y.0 l y.1 (ap (λ (m : Map Lease). get m lease_id) y.2.leases ∙ x.2)
+
+  look_up_lease : (prefix lease_id t : Text) (l : Lease)
+      → command_of (clocked a).mounts a.ask ≡ Ok (on_lease prefix (of_lease.LookUp lease_id))
+      → lease_of (clocked a) t lease_id ≡ Some l → a.outcome.response.status ≡ status.Success
+  look_up_lease prefix lease_id t l means there =
+      let m = lease_after_use t lease_id l there in
+      let d = lease_looked_up here (names_of a.words) lease_id m.0 m.1 in
+      replied (on_lease prefix (of_lease.LookUp lease_id)) means refl refl d.0 d.1 None d.2 d.3
+
+  renew_lease : (prefix : Text) (asked : LeaseRenewal) (t : Text) (l : Lease)
+      → command_of (clocked a).mounts a.ask ≡ Ok (on_lease prefix (of_lease.Renew asked))
+      → lease_of (clocked a) t asked.lease_id ≡ Some l → a.outcome.response.status ≡ status.Success
+  renew_lease prefix asked t l means there =
+      let m = lease_after_use t asked.lease_id l there in
+      let d = lease_renewed here (names_of a.words) asked.lease_id m.0 m.1 asked.increment in
+      replied (on_lease prefix (of_lease.Renew asked)) means refl refl d.0 d.1 None d.2 d.3
 
   -- a revocation of what is found
-  revoke_found : (accessor : Text) → command_of (clocked a).mounts a.ask ≡ Ok (on_token (of_token.RevokeAccessor accessor))
-      → (t : Text) → holder here accessor ≡ Ok t → a.outcome.response ≡ no_content
+  revoke_found : (accessor : Text)
+      → command_of (clocked a).mounts a.ask ≡ Ok (on_token (of_token.RevokeAccessor accessor))
+      → (t : Text) → tokens.holder here accessor ≡ Ok t → a.outcome.response ≡ no_content
   revoke_found accessor means t held =
-      answer (on_token (of_token.RevokeAccessor accessor)) means refl refl (revoke here t)
-      (ap (λ (r : Result Text Refusal). r >>= (λ t. Ok (revoke here t))) held)
+      answer (on_token (of_token.RevokeAccessor accessor)) means refl refl (tokens.revoke here t)
+      (ap (λ (r : Result Text Refusal). r >>= (λ t. Ok (tokens.revoke here t))) held)
+
+  -- the token that has an accessor is found after the use
+  named_after_use : AccessorsNameTheirTokens → OnePlaceEach a.broker → (accessor : Text)
+      → (has : IsAccessorOf a accessor)
+      → tree.find_accessor here accessor ≡ Some has.0
+  named_after_use accessors one accessor (t, x, there, has) =
+      let y = after_use t x there in
+      ap (tree.find_accessor here) (sym (y.2.accessor ∙ has))
+      ∙ accessors here t y.0 (one_place_still a.broker a.moment k.caller one) y.1
+
+  look_up_accessor : AccessorsNameTheirTokens → OnePlaceEach a.broker → (accessor : Text)
+      → command_of (clocked a).mounts a.ask ≡ Ok (on_token (of_token.LookUpAccessor accessor))
+      → IsAccessorOf a accessor → a.outcome.response.status ≡ status.Success
+  look_up_accessor accessors one accessor means has =
+      let y = after_use has.0 has.1 has.2 in
+      let d = looked_up_done here (names_of a.words) has.0 y.0 y.1 [] in
+      replied (on_token (of_token.LookUpAccessor accessor)) means refl refl d.0 d.1 None
+      (ap (λ (o : Option Text). some_or (refusal.BadRequest reason.InvalidAccessor) o
+      >>= (λ t. tokens.look_up here (names_of a.words) t [])) (named_after_use accessors one accessor has) ∙ d.2) d.3
 
   revoke_accessor : AccessorsNameTheirTokens → OnePlaceEach a.broker → (accessor : Text)
       → command_of (clocked a).mounts a.ask ≡ Ok (on_token (of_token.RevokeAccessor accessor)) → HasAccessor a accessor
       → a.outcome.response ≡ no_content
-  revoke_accessor accessors one accessor means (inl (t, x, there, has)) =
-      let y = after_use t x there in
-      revoke_found accessor means t (held_by_token here accessor t
-      (ap (tree.find_accessor here) (sym (y.3 ∙ has)) ∙ accessors here t y.0 (one_place_still a.broker a.moment k.caller one) y.1))
+  revoke_accessor accessors one accessor means (inl has) =
+      revoke_found accessor means has.0
+      (held_by_token here accessor has.0 (named_after_use accessors one accessor has))
   revoke_accessor accessors one accessor means (inr (t, w, there, has)) =
       let u = held_by_waiting here accessor t w there has in
       revoke_found accessor means u.0 u.1
@@ -411,7 +507,8 @@ unwrap : PoliciesDecide → (a : Asking) → a.outcome ≡ step a.broker a.momen
 unwrap decide a is t w may means waits =
     let k = on_wrapping (of_responses.Unwrap (Some t)) in
     elim may [
-      | inl open_ ↦ answers a (clocked a) None k (carried_openly a is k means open_) (never_wrapped a k refl) refl refl _
+      | inl no_caller ↦
+          answers a (clocked a) None k (carried_openly a is k means no_caller) (never_wrapped a k refl) refl refl _
           (handed (clocked a) (names_of a.words) t w waits)
       | inr k_ ↦
           let here = spent_by a k_.caller in
@@ -421,6 +518,16 @@ unwrap decide a is t w may means waits =
 
 pub does_allowed : PoliciesDecide → AccessorsNameTheirTokens → AllDoAllowed
 does_allowed decide accessors b history h = record {
+  looks_up_accessor = λ i a accessor at k none means has.
+      let asked = asked_at b history i a h at in
+      look_up_accessor decide a asked.outcome k none accessors asked.sound.identifiers.one_place accessor means has;
+  looks_up_self = λ i a at k none means. look_up_self decide a (asked_at b history i a h at).outcome k none means;
+  renews_self = λ i a increment at k none means some.
+      renew_self decide a (asked_at b history i a h at).outcome k none increment means some;
+  looks_up_lease = λ i a prefix lease_id t l at k none means there.
+      look_up_lease decide a (asked_at b history i a h at).outcome k none prefix lease_id t l means there;
+  renews_lease = λ i a prefix asked t l at k none means there.
+      renew_lease decide a (asked_at b history i a h at).outcome k none prefix asked t l means there;
   revokes_accessor = λ i a accessor at k none means has.
       let asked = asked_at b history i a h at in
       revoke_accessor decide a asked.outcome k none accessors asked.sound.identifiers.one_place accessor means has;

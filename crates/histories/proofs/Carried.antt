@@ -48,7 +48,8 @@ module _ (a : Asking) (is : a.outcome ≡ step a.broker a.moment a.words a.ask) 
       let let_pass : Bool → Outcome = λ v. finish now None
       (unless (v || permits now None a.ask.verb a.ask.path) permission_denied
       >>= (λ u. go (command_of now.mounts a.ask))) in
-      is ∙ with_caller permits traits act a.broker a.moment (request_of a.ask) (names_of a.words) None (inl (open_, refl))
+      is
+      ∙ with_caller permits traits act a.broker a.moment (request_of a.ask) (names_of a.words) None (inl (open_, refl))
       ∙ ap let_pass open_
       ∙ ap (λ r. finish now None (go r)) means
 

@@ -1,5 +1,6 @@
--- What operations do that act on what is named, where it is there: by an accessor, or by the name of a mount.
-use Rattle.std.specs.Prelude.{◌≡◌, ◌≢◌, ◌||◌, [], ◌∷◌, false, not, Option, Some, Result, Ok, option_map, codes}
+-- What is found that a request names: by an accessor, by the id of a lease, and by the name of a mount.
+use Rattle.std.specs.Prelude.{◌≡◌, ◌≢◌, ◌||◌, [], ◌∷◌, Bool, false, not, Option, Some, Result, Ok, option_map, codes}
+use Rattle.std.specs.Prelude.{is_none, option_and_then}
 use Rattle.std.specs.List.{list_any}
 use Rattle.std.specs.Option.{option_map_or}
 use Rattle.std.proofs.Common.{sym, ◌∙◌, ap, inl, inr}
@@ -7,13 +8,16 @@ use Rattle.std.proofs.lemmas.Bool.{false≢true, false_from_ne_true}
 use Rattle.broker_types.specs.Text.{Text, same}
 use Rattle.broker_types.specs.TextLaws.{same_self, same_true}
 use Rattle.broker_types.specs.Map.{get, first_where}
-use Rattle.broker_types.specs.SearchLaws.{first_where_none}
+use Rattle.broker_types.specs.SearchLaws.{first_where_is, first_where_none}
+use Rattle.broker_types.specs.Token.{Lease, Token}
 use Rattle.broker_types.specs.Broker.{Broker, Waiting}
 use Rattle.broker_types.specs.OptionLaws.{found_or_not}
 use Rattle.broker_types.specs.Refuse.{some_or, unless}
 use Rattle.broker_types.specs.declared.refusal.Reason.TheVariants as reason
 use Rattle.broker_types.specs.declared.refusal.Refusal.{Refusal}
 use Rattle.broker_types.specs.declared.refusal.Refusal.TheVariants as refusal
+use Rattle.leases.specs.Leases.{find}
+use Rattle.records.specs.Rows.{has_lease}
 use Rattle.mounts.specs.Mounts.{may_go}
 use Rattle.token_tree.specs.Tokens as tree
 use Rattle.wrapping.specs.Wrapping as wrapping
@@ -50,6 +54,24 @@ module _ (b : Broker) (accessor : Text) where
         (u.0, ap held_by none ∙ ap (some_or (refusal.BadRequest reason.InvalidAccessor)) u.1)
     | inr u ↦ (u.0, held_by_token u.0 u.1)
   ]
+
+-- ---- a lease
+
+-- a lease that a token has is found by its id
+pub lease_found : (b : Broker) (lease_id t : Text) (x : Token) (l : Lease) → get b.tokens t ≡ Some x
+    → get x.leases lease_id ≡ Some l → (m : Lease) × (find b lease_id ≡ Some m)
+lease_found b lease_id t x l there has =
+    let passes : Text → Token → Bool = λ t y. has_lease lease_id y in
+    elim (found_or_not (first_where passes b.tokens)) [
+      | inl none ↦ absurd (false≢true (sym (first_where_none passes b.tokens t x none there)
+          ∙ ap (λ o. not (is_none o)) has))
+      | inr e ↦
+          let its = first_where_is passes b.tokens e.0 e.1 in
+          elim (found_or_not (get e.0.1.leases lease_id)) [
+            | inl none ↦ absurd (false≢true (ap (λ o. not (is_none o)) (sym none) ∙ its.1))
+            | inr m ↦ (m.0, ap (option_and_then (λ e. get e.1.leases lease_id)) e.1 ∙ m.1)
+          ]
+    ]
 
 -- ---- a mount
 

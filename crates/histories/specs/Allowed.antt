@@ -7,8 +7,10 @@ use Rattle.broker_types.specs.Text.{Text}
 use Rattle.broker_types.specs.Map.{get}
 use Rattle.broker_types.specs.Broker.{Broker, Mount, Waiting}
 use Rattle.broker_types.specs.Secret.{Key, Version}
-use Rattle.broker_types.specs.Token.{Token}
+use Rattle.broker_types.specs.Places.{lease_of}
+use Rattle.broker_types.specs.Token.{Lease, Token}
 use Rattle.broker_types.specs.declared.status.Status.TheVariants as status
+use Rattle.api_json.specs.declared.lease_bodies.LeaseRenewal.{LeaseRenewal}
 use Rattle.api_json.specs.declared.secret_bodies.SecretWrite.{SecretWrite}
 use Rattle.api_json.specs.declared.token_bodies.TokenRenewal.{TokenRenewal}
 use Rattle.broker_model.specs.Command.{Command, command_of, on_cubbyhole, on_issued, on_lease, on_secret, on_token}
@@ -30,6 +32,7 @@ use Rattle.broker_model.specs.declared.commands.WrappingCommand.TheVariants as r
 use Rattle.broker_model.specs.parts.Place.{Place}
 use Rattle.histories.specs.Callers.{IsAllowed}
 use Rattle.histories.specs.History.{AreAsked, Asking, AskedAt, History, clocked}
+use Rattle.histories.specs.Shown.{IsAccessorOf}
 use Rattle.histories.specs.Versions.{named}
 
 -- ---- commands that are never refused
@@ -105,7 +108,7 @@ pub record MayWrite (a : Asking) (p : Place) (asked : SecretWrite) : Type 0 wher
 -- a token, or the wrapping token of a response that waits, has the accessor
 abbrev pub HasAccessor : Asking → Text → Type 0
 HasAccessor a accessor =
-    ((t : Text) × (x : Token) × (get (clocked a).tokens t ≡ Some x) × (x.accessor ≡ accessor))
+    IsAccessorOf a accessor
     ⊎ ((t : Text) × (w : Waiting) × (get (clocked a).waiting t ≡ Some w) × (w.accessor ≡ accessor))
 
 -- ---- the law
@@ -141,6 +144,23 @@ pub record DoesAllowed (history : History) : Type 0 where
   pub renews : (i : ℕ) (a : Asking) (asked : TokenRenewal) (x : Token) → AskedAt history i a → IsAllowed a
       → a.ask.wrap_ttl ≡ 0 → command_of (clocked a).mounts a.ask ≡ Ok (on_token (token.Renew asked))
       → get (clocked a).tokens asked.token ≡ Some x → x.ends ≢ None → a.outcome.response.status ≡ status.Success
+  -- So are both for the client token, a look-up by accessor, and a look-up and a renewal of a lease that a token has.
+  pub looks_up_self : (i : ℕ) (a : Asking) → AskedAt history i a → IsAllowed a → a.ask.wrap_ttl ≡ 0
+      → command_of (clocked a).mounts a.ask ≡ Ok (on_token token.LookUpSelf)
+      → a.outcome.response.status ≡ status.Success
+  pub renews_self : (i : ℕ) (a : Asking) (increment : ℕ) → AskedAt history i a → (k : IsAllowed a)
+      → a.ask.wrap_ttl ≡ 0 → command_of (clocked a).mounts a.ask ≡ Ok (on_token (token.RenewSelf increment))
+      → k.own.ends ≢ None → a.outcome.response.status ≡ status.Success
+  pub looks_up_accessor : (i : ℕ) (a : Asking) (accessor : Text) → AskedAt history i a → IsAllowed a
+      → a.ask.wrap_ttl ≡ 0 → command_of (clocked a).mounts a.ask ≡ Ok (on_token (token.LookUpAccessor accessor))
+      → IsAccessorOf a accessor → a.outcome.response.status ≡ status.Success
+  pub looks_up_lease : (i : ℕ) (a : Asking) (prefix lease_id t : Text) (l : Lease) → AskedAt history i a → IsAllowed a
+      → a.ask.wrap_ttl ≡ 0 → command_of (clocked a).mounts a.ask ≡ Ok (on_lease prefix (lease.LookUp lease_id))
+      → lease_of (clocked a) t lease_id ≡ Some l → a.outcome.response.status ≡ status.Success
+  pub renews_lease : (i : ℕ) (a : Asking) (prefix : Text) (asked : LeaseRenewal) (t : Text) (l : Lease)
+      → AskedAt history i a → IsAllowed a → a.ask.wrap_ttl ≡ 0
+      → command_of (clocked a).mounts a.ask ≡ Ok (on_lease prefix (lease.Renew asked))
+      → lease_of (clocked a) t asked.lease_id ≡ Some l → a.outcome.response.status ≡ status.Success
   -- And so is a read of an object that is in the cubbyhole of the client token.
   pub reads_own : (i : ℕ) (a : Asking) (path : Text) → AskedAt history i a → (k : IsAllowed a) → a.ask.wrap_ttl ≡ 0
       → command_of (clocked a).mounts a.ask ≡ Ok (on_cubbyhole path cubbyhole.Read)
