@@ -1,23 +1,24 @@
 -- What is allowed is done: some commands always, some where what they ask for is there.
 use Rattle.std.specs.Prelude.{◌≡◌, ◌≢◌, ◌⊎◌, ◌<◌, ◌==◌, ◌||◌, ℕ, [], Bool, true, false, nat_lt}
 use Rattle.std.specs.Prelude.{is_some, if◌then◌else◌, Option, Some, None, Result, Ok, option_and_then, option_map, ⊤}
-use Rattle.std.specs.Prelude.{codes, ◌-◌}
+use Rattle.std.specs.Prelude.{codes, ◌-◌, not}
 use Rattle.std.specs.FinMap as fin
 use Rattle.std.proofs.Common.{refl, sym, ◌∙◌, ap, subst, inl, inr}
-use Rattle.std.proofs.lemmas.Bool.{eq-eqb, eqb-true, false≢true, lt-ltb}
+use Rattle.std.proofs.lemmas.Bool.{eq-eqb, eqb-true, false_from_ne_true, false≢true, lt-ltb}
 use Rattle.broker_types.specs.Text.{Text, same}
 use Rattle.broker_types.specs.Limits.{greatest_version}
 use Rattle.broker_types.specs.Map.{Map, entries, get, without}
 use Rattle.broker_types.specs.MapLaws.{get-change}
 use Rattle.broker_types.specs.Answer.{Response}
-use Rattle.broker_types.specs.Broker.{Broker, Mount, Waiting}
+use Rattle.broker_types.specs.Broker.{Broker, Mount, Role, Waiting}
+use Rattle.std.specs.Option.{option_map_or}
 use Rattle.broker_types.specs.Names.{Names, names_of}
 use Rattle.broker_types.specs.Operation.{missing, nothing, plainly, reply, Done}
 use Rattle.broker_types.specs.Places.{OnePlaceEach, lease_of}
 use Rattle.broker_types.specs.OptionLaws.{found_or_not}
 use Rattle.broker_types.specs.Refuse.{◌>>=◌, some_or, unless}
 use Rattle.broker_types.specs.Secret.{Key, Version}
-use Rattle.broker_types.specs.Spending.{one_less}
+use Rattle.broker_types.specs.Spending.{is_spent, one_less}
 use Rattle.broker_types.specs.Token.{Lease, Token}
 use Rattle.broker_types.specs.Used.{are_new}
 use Rattle.broker_types.specs.declared.refusal.Denial.TheVariants as denial
@@ -32,6 +33,8 @@ use Rattle.token_tree.specs.Laws.{AccessorsNameTheirTokens}
 use Rattle.token_tree.specs.Tokens as tree
 use Rattle.leases.specs.Leases as leases
 use Rattle.leases.specs.Leases.{Renewed, renewed_end, times_of, with_renewed}
+use Rattle.leases.specs.Roles.{Issued, IssuedLease, is_last_use, lease_id, new_lease}
+use Rattle.broker_model.specs.parts.Issued.{given, issue}
 use Rattle.kv2.specs.Secrets as secrets
 use Rattle.kv2.specs.Secrets.{Written, secret_name, write_over, written}
 use Rattle.kv2.specs.Versions.{Found, asked_number, check_and_set, checked, key_or_new, numbered}
@@ -68,13 +71,14 @@ use Rattle.broker_model.specs.parts.Leases as of_leases
 use Rattle.broker_model.specs.parts.Tokens as tokens
 use Rattle.broker_model.specs.parts.Tokens.{new_end}
 use Rattle.broker_model.specs.parts.Wrappings.{act_on_wrappings, found_under, handed_out}
-use Rattle.histories.specs.Allowed.{AllDoAllowed, HasAccessor, HasVersion, MayWrite, is_done}
+use Rattle.histories.specs.Allowed.{AllDoAllowed, AreNew, HasAccessor, HasVersion, MayWrite, is_done}
 use Rattle.histories.specs.Callers.{IsAllowed}
 use Rattle.histories.specs.History.{Asking, clocked, spent_by}
 use Rattle.histories.specs.Refused.{PoliciesDecide}
 use Rattle.histories.specs.Shown.{IsAccessorOf}
+use Rattle.histories.specs.Versions.{named}
 use Rattle.histories.proofs.Carried.{answers, carried_for, carried_openly, never_wrapped, without_ttl}
-use Rattle.histories.proofs.Found.{goes, held_by_token, held_by_waiting, lease_found}
+use Rattle.histories.proofs.Found.{both_new, goes, held_by_token, held_by_waiting, lease_found}
 use Rattle.histories.proofs.Placed.{one_place_still}
 use Rattle.histories.proofs.ReadsEnded.{current_is, number_is}
 use Rattle.histories.proofs.Requests.{asked_at}
@@ -296,6 +300,38 @@ module _ (b : Broker) (names : Names) (lease_id : Text) (l : Lease) (there : lea
         refl,
       )
 
+-- ---- a role that is there
+
+module _ (b : Broker) (c : Text) (names : Names) (p : Place) (r : Role)
+    (there : get b.roles (named p) ≡ Some r) (x : Token) (caller : get b.tokens c ≡ Some x)
+    (lasts : x.uses_left ≢ Some 0) where
+  not_last : is_last_use b c ≡ false
+  not_last = ap (λ (o : Option Token). option_map_or is_spent o false) caller ∙ by x.uses_left lasts
+    where
+      by : (o : Option ℕ) → o ≢ Some 0 → option_map_or (λ n. n == 0) o false ≡ false
+      by None some = refl
+      by (Some n) some = false_from_ne_true (n == 0) (λ e. some (ap Some (eqb-true n 0 e)))
+
+  credential_done : (d : Done) × (y : Reply) × (issue b c names p ≡ Ok d) × (d.answered ≡ reply y None)
+  credential_done =
+      let lease : Role → IssuedLease = λ q. record {
+        lease_id = lease_id p.mount p.path names.lease;
+        lease = new_lease b.clock q names.credential;
+      } in
+      let left : IssuedLease → Issued = λ i.
+      record { lease_id = i.lease_id; lease = i.lease; next = leases.issue b c i.lease_id i.lease } in
+      let go : Result IssuedLease Refusal → Result Done Refusal = λ z.
+      z >>= (λ i. Ok (left i)) >>= (λ i. Ok (given names i)) in (
+        given names (left (lease r)),
+        _,
+        ap (λ (o : Option Role). go (some_or refusal.NotFound o
+            >>= (λ q. unless (not (is_last_use b c)) (refusal.BadRequest reason.LastUseTakesLease)
+            >>= (λ u. Ok (lease q))))) there
+            ∙ ap (λ v. go (unless (not v) (refusal.BadRequest reason.LastUseTakesLease) >>= (λ u. Ok (lease r))))
+            not_last,
+        refl,
+      )
+
 -- ---- the law
 
 -- a version that is there, by the number that is asked for
@@ -433,6 +469,16 @@ module _ (decide : PoliciesDecide) (a : Asking) (is : a.outcome ≡ step a.broke
       let d = lease_renewed here (names_of a.words) asked.lease_id m.0 m.1 asked.increment in
       replied (on_lease prefix (of_lease.Renew asked)) means refl refl d.0 d.1 None d.2 d.3
 
+  issue_it : (p : Place) (r : Role) → command_of (clocked a).mounts a.ask ≡ Ok (on_issued p of_issued.Issue)
+      → get (clocked a).roles (named p) ≡ Some r → k.own.uses_left ≢ Some 0
+      → AreNew a (names_of a.words).lease (names_of a.words).credential → a.outcome.response.status ≡ status.Success
+  issue_it p r means there lasts new =
+      let names = names_of a.words in
+      let d = credential_done here k.caller names p r there k.own k.calls.there lasts in
+      replied (on_issued p of_issued.Issue) means
+      (both_new here.used names.lease names.credential new.one_is_new new.other_is_new new.differ) refl d.0 d.1 None d.2
+      d.3
+
   -- a revocation of what is found
   revoke_found : (accessor : Text)
       → command_of (clocked a).mounts a.ask ≡ Ok (on_token (of_token.RevokeAccessor accessor))
@@ -521,6 +567,8 @@ does_allowed decide accessors b history h = record {
   looks_up_accessor = λ i a accessor at k none means has.
       let asked = asked_at b history i a h at in
       look_up_accessor decide a asked.outcome k none accessors asked.sound.identifiers.one_place accessor means has;
+  issues = λ i a p r at k none means there lasts new.
+      issue_it decide a (asked_at b history i a h at).outcome k none p r means there lasts new;
   looks_up_self = λ i a at k none means. look_up_self decide a (asked_at b history i a h at).outcome k none means;
   renews_self = λ i a increment at k none means some.
       renew_self decide a (asked_at b history i a h at).outcome k none increment means some;

@@ -1,16 +1,17 @@
 -- What is found that a request names: by an accessor, by the id of a lease, and by the name of a mount.
-use Rattle.std.specs.Prelude.{◌≡◌, ◌≢◌, ◌||◌, [], ◌∷◌, Bool, false, not, Option, Some, Result, Ok, option_map, codes}
-use Rattle.std.specs.Prelude.{is_none, option_and_then}
+use Rattle.std.specs.Prelude.{◌≡◌, ◌≢◌, ◌||◌, ◌&&◌, [], ◌∷◌, Bool, true, false, not, Option, Some, None, Result, Ok, ⊤}
+use Rattle.std.specs.Prelude.{is_none, option_and_then, option_map, codes}
 use Rattle.std.specs.List.{list_any}
 use Rattle.std.specs.Option.{option_map_or}
 use Rattle.std.proofs.Common.{sym, ◌∙◌, ap, inl, inr}
 use Rattle.std.proofs.lemmas.Bool.{false≢true, false_from_ne_true}
 use Rattle.broker_types.specs.Text.{Text, same}
 use Rattle.broker_types.specs.TextLaws.{same_self, same_true}
-use Rattle.broker_types.specs.Map.{get, first_where}
+use Rattle.broker_types.specs.Map.{Map, get, first_where}
 use Rattle.broker_types.specs.SearchLaws.{first_where_is, first_where_none}
 use Rattle.broker_types.specs.Token.{Lease, Token}
 use Rattle.broker_types.specs.Broker.{Broker, Waiting}
+use Rattle.broker_types.specs.Used.{are_new}
 use Rattle.broker_types.specs.OptionLaws.{found_or_not}
 use Rattle.broker_types.specs.Refuse.{some_or, unless}
 use Rattle.broker_types.specs.declared.refusal.Reason.TheVariants as reason
@@ -73,10 +74,20 @@ lease_found b lease_id t x l there has =
           ]
     ]
 
--- ---- a mount
+-- ---- names
 
 apart : (t u : Text) → t ≢ u → same t u ≡ false
 apart t u other = false_from_ne_true (same t u) (λ is. other (same_true t u is))
+
+-- two identifiers that were not given out, and differ, are new
+pub both_new : (used : Map ⊤) (one other : Text) → get used one ≡ None → get used other ≡ None → one ≢ other
+    → are_new used (one ∷ other ∷ []) ≡ true
+both_new used one other first second differ =
+    ap (λ o. is_none o && (not (same one other || false) && are_new used (other ∷ []))) first
+    ∙ ap (λ v. not (v || false) && are_new used (other ∷ [])) (apart one other differ)
+    ∙ ap (λ o. is_none o && true) second
+
+-- ---- a mount
 
 -- a mount of another name than these may go
 pub goes : (name : Text) → name ≢ codes "sys" → name ≢ codes "auth" → name ≢ codes "cubbyhole" → may_go name ≡ Ok tt

@@ -5,7 +5,9 @@ use Rattle.std.specs.Prelude.{◌≡◌, ◌≢◌, ◌⊎◌, ◌<◌, ℕ, Boo
 use Rattle.std.specs.FinMap as fin
 use Rattle.broker_types.specs.Text.{Text}
 use Rattle.broker_types.specs.Map.{get}
-use Rattle.broker_types.specs.Broker.{Broker, Mount, Waiting}
+use Rattle.broker_types.specs.Broker.{Broker, Mount, Role, Waiting}
+use Rattle.broker_types.specs.Evolves.{IsNew}
+use Rattle.broker_types.specs.Names.{names_of}
 use Rattle.broker_types.specs.Secret.{Key, Version}
 use Rattle.broker_types.specs.Places.{lease_of}
 use Rattle.broker_types.specs.Token.{Lease, Token}
@@ -111,6 +113,14 @@ HasAccessor a accessor =
     IsAccessorOf a accessor
     ⊎ ((t : Text) × (w : Waiting) × (get (clocked a).waiting t ≡ Some w) × (w.accessor ≡ accessor))
 
+-- ---- what is new
+
+-- Neither identifier was given out before, and they differ.
+pub record AreNew (a : Asking) (one other : Text) : Type 0 where
+  pub one_is_new : IsNew (clocked a) one
+  pub other_is_new : IsNew (clocked a) other
+  pub differ : one ≢ other
+
 -- ---- the law
 
 pub record DoesAllowed (history : History) : Type 0 where
@@ -161,6 +171,11 @@ pub record DoesAllowed (history : History) : Type 0 where
       → AskedAt history i a → IsAllowed a → a.ask.wrap_ttl ≡ 0
       → command_of (clocked a).mounts a.ask ≡ Ok (on_lease prefix (lease.Renew asked))
       → lease_of (clocked a) t asked.lease_id ≡ Some l → a.outcome.response.status ≡ status.Success
+  -- So are `creds` of a role that is there, with new identifiers, unless the client token has spent its last use.
+  pub issues : (i : ℕ) (a : Asking) (p : Place) (r : Role) → AskedAt history i a → (k : IsAllowed a)
+      → a.ask.wrap_ttl ≡ 0 → command_of (clocked a).mounts a.ask ≡ Ok (on_issued p issued.Issue)
+      → get (clocked a).roles (named p) ≡ Some r → k.own.uses_left ≢ Some 0
+      → AreNew a (names_of a.words).lease (names_of a.words).credential → a.outcome.response.status ≡ status.Success
   -- And so is a read of an object that is in the cubbyhole of the client token.
   pub reads_own : (i : ℕ) (a : Asking) (path : Text) → AskedAt history i a → (k : IsAllowed a) → a.ask.wrap_ttl ≡ 0
       → command_of (clocked a).mounts a.ask ≡ Ok (on_cubbyhole path cubbyhole.Read)
