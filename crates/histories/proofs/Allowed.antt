@@ -42,6 +42,11 @@ use Rattle.api_json.specs.Objects.{lease_object}
 use Rattle.api_json.specs.Reply.{lease_reply, plain_reply}
 use Rattle.api_json.specs.declared.lease_bodies.LeaseRenewal.{LeaseRenewal}
 use Rattle.api_json.specs.declared.secret_bodies.SecretWrite.{SecretWrite}
+use Rattle.broker_model.specs.Forms.{forms}
+use Rattle.broker_model.specs.declared.making.Making.{Making}
+use Rattle.policies.specs.Laws.{AllThatIsGranted, RootMayDoAll}
+use Rattle.broker_types.specs.Sound.{Sound}
+use Rattle.api_json.specs.declared.token_bodies.TokenCreation.{TokenCreation}
 use Rattle.api_json.specs.declared.token_bodies.TokenRenewal.{TokenRenewal}
 use Rattle.broker_model.specs.Act.{act}
 use Rattle.broker_model.specs.EffectLaws.{chained}
@@ -71,7 +76,7 @@ use Rattle.broker_model.specs.parts.Leases as of_leases
 use Rattle.broker_model.specs.parts.Tokens as tokens
 use Rattle.broker_model.specs.parts.Tokens.{new_end}
 use Rattle.broker_model.specs.parts.Wrappings.{act_on_wrappings, found_under, handed_out}
-use Rattle.histories.specs.Allowed.{AllDoAllowed, AreNew, HasAccessor, HasVersion, MayWrite, is_done}
+use Rattle.histories.specs.Allowed.{AllDoAllowed, AreNew, HasAccessor, HasVersion, MayCreate, MayWrite, is_done}
 use Rattle.histories.specs.Callers.{IsAllowed}
 use Rattle.histories.specs.History.{Asking, clocked, spent_by}
 use Rattle.histories.specs.Refused.{PoliciesDecide}
@@ -79,6 +84,7 @@ use Rattle.histories.specs.Shown.{IsAccessorOf}
 use Rattle.histories.specs.Versions.{named}
 use Rattle.histories.proofs.Carried.{answers, carried_for, carried_openly, never_wrapped, without_ttl}
 use Rattle.histories.proofs.Found.{both_new, goes, held_by_token, held_by_waiting, lease_found}
+use Rattle.histories.proofs.MayCreate.{created}
 use Rattle.histories.proofs.Placed.{one_place_still}
 use Rattle.histories.proofs.ReadsEnded.{current_is, number_is}
 use Rattle.histories.proofs.Requests.{asked_at}
@@ -469,6 +475,16 @@ module _ (decide : PoliciesDecide) (a : Asking) (is : a.outcome ≡ step a.broke
       let d = lease_renewed here (names_of a.words) asked.lease_id m.0 m.1 asked.increment in
       replied (on_lease prefix (of_lease.Renew asked)) means refl refl d.0 d.1 None d.2 d.3
 
+  create_it : AllThatIsGranted → RootMayDoAll → Sound forms None a.broker → (making : Making) (asked : TokenCreation)
+      → command_of (clocked a).mounts a.ask ≡ Ok (on_token (of_token.Create making asked)) → MayCreate a k making asked
+      → AreNew a (names_of a.words).token (names_of a.words).accessor → a.outcome.response.status ≡ status.Success
+  create_it granted root sound making asked means may new =
+      let names = names_of a.words in
+      let d = created granted root a sound k making asked may names in
+      replied (on_token (of_token.Create making asked)) means
+      (both_new here.used names.token names.accessor new.one_is_new new.other_is_new new.differ) refl d.0 d.1
+      (Some names.accessor) d.2 d.3
+
   issue_it : (p : Place) (r : Role) → command_of (clocked a).mounts a.ask ≡ Ok (on_issued p of_issued.Issue)
       → get (clocked a).roles (named p) ≡ Some r → k.own.uses_left ≢ Some 0
       → AreNew a (names_of a.words).lease (names_of a.words).credential → a.outcome.response.status ≡ status.Success
@@ -562,8 +578,11 @@ unwrap decide a is t w may means waits =
           (handed here (names_of a.words) t w waits)
     ]
 
-pub does_allowed : PoliciesDecide → AccessorsNameTheirTokens → AllDoAllowed
-does_allowed decide accessors b history h = record {
+pub does_allowed : PoliciesDecide → AccessorsNameTheirTokens → AllThatIsGranted → RootMayDoAll → AllDoAllowed
+does_allowed decide accessors granted root b history h = record {
+  creates = λ i a making asked at k none means may new.
+      let is = asked_at b history i a h at in
+      create_it decide a is.outcome k none granted root is.sound making asked means may new;
   looks_up_accessor = λ i a accessor at k none means has.
       let asked = asked_at b history i a h at in
       look_up_accessor decide a asked.outcome k none accessors asked.sound.identifiers.one_place accessor means has;

@@ -26,6 +26,7 @@ pub mod LeasesDue
 pub mod LeasesGone
 pub mod LeasesRevoked
 pub mod Marked
+pub mod MayCreate
 pub mod OpenRequests
 pub mod OrderCases
 pub mod OrderKeeps

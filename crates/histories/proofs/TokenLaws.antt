@@ -53,7 +53,7 @@ use Rattle.histories.proofs.Requests.{asked_at}
 
 -- ---- privileges
 
-path_is : (making : Making) → making_path making ≡ path_of making
+pub path_is : (making : Making) → making_path making ≡ path_of making
 path_is OfCaller = refl
 path_is WithoutParent = refl
 
@@ -132,7 +132,7 @@ has_any_root (name ∷ names) e = elim (or_cases (same (codes "root") name) (has
   | inr later ↦ or_right (same name (codes "root")) (list_any is_root names) (has_any_root names later)
 ]
 
-granted_so : AllThatIsGranted → RootMayDoAll → (policies : Map Text) (names : List Text) (path : Text)
+pub granted_so : AllThatIsGranted → RootMayDoAll → (policies : Map Text) (names : List Text) (path : Text)
     → (has names (codes "root") ≡ true) ⊎ IsGranted policies names verb.Write path Sudo
     → grants policies names verb.Write path Sudo ≡ true
 granted_so all root policies names path (inl is) = root policies names verb.Write path Sudo (has_any_root names is)

@@ -1,19 +1,23 @@
 -- The law that what is allowed is done, as a statement: of requests without a wrap TTL, some are refused only where
--- policies refuse them, and some only where what they ask for is not there (Vault's documentation, "Tokens"; "Lease,
--- renew, and revoke"; "KV secrets engine - version 2 (API)"; "Cubbyhole secrets engine (API)").
-use Rattle.std.specs.Prelude.{◌≡◌, ◌≢◌, ◌⊎◌, ◌<◌, ℕ, Bool, true, false, Some, None, Ok, codes}
+-- policies refuse them, and some only where what they ask for is not there or may not be made (Vault's documentation,
+-- "Tokens"; "Token auth method (API)", create token; "Lease, renew, and revoke"; "Response wrapping"; "/sys/mounts";
+-- "KV secrets engine - version 2 (API)"; "Cubbyhole secrets engine (API)").
+use Rattle.std.specs.Prelude.{◌≡◌, ◌≢◌, ◌⊎◌, ◌<◌, ℕ, [], Bool, true, false, Some, None, Ok, codes}
 use Rattle.std.specs.FinMap as fin
 use Rattle.broker_types.specs.Text.{Text}
 use Rattle.broker_types.specs.Map.{get}
 use Rattle.broker_types.specs.Broker.{Broker, Mount, Role, Waiting}
 use Rattle.broker_types.specs.Evolves.{IsNew}
+use Rattle.broker_types.specs.Name.{is_name}
 use Rattle.broker_types.specs.Names.{names_of}
 use Rattle.broker_types.specs.Secret.{Key, Version}
 use Rattle.broker_types.specs.Places.{lease_of}
 use Rattle.broker_types.specs.Token.{Lease, Token}
 use Rattle.broker_types.specs.declared.status.Status.TheVariants as status
+use Rattle.records.specs.Children.{has}
 use Rattle.api_json.specs.declared.lease_bodies.LeaseRenewal.{LeaseRenewal}
 use Rattle.api_json.specs.declared.secret_bodies.SecretWrite.{SecretWrite}
+use Rattle.api_json.specs.declared.token_bodies.TokenCreation.{TokenCreation}
 use Rattle.api_json.specs.declared.token_bodies.TokenRenewal.{TokenRenewal}
 use Rattle.broker_model.specs.Command.{Command, command_of, on_cubbyhole, on_issued, on_lease, on_secret, on_token}
 use Rattle.broker_model.specs.Command.{on_mount, on_wrapping}
@@ -31,9 +35,13 @@ use Rattle.broker_model.specs.declared.commands.SecretCommand.TheVariants as sec
 use Rattle.broker_model.specs.declared.commands.TokenCommand.{TokenCommand}
 use Rattle.broker_model.specs.declared.commands.TokenCommand.TheVariants as token
 use Rattle.broker_model.specs.declared.commands.WrappingCommand.TheVariants as response
+use Rattle.broker_model.specs.declared.making.Making.{Making}
+use Rattle.broker_model.specs.declared.making.Making.TheVariants.{WithoutParent}
 use Rattle.broker_model.specs.parts.Place.{Place}
 use Rattle.histories.specs.Callers.{IsAllowed}
+use Rattle.histories.specs.Creations.{AsksNoEnd, HasRoot, HasSudo}
 use Rattle.histories.specs.History.{AreAsked, Asking, AskedAt, History, clocked}
+use Rattle.histories.specs.Paths.{path_of}
 use Rattle.histories.specs.Shown.{IsAccessorOf}
 use Rattle.histories.specs.Versions.{named}
 
@@ -121,20 +129,42 @@ pub record AreNew (a : Asking) (one other : Text) : Type 0 where
   pub other_is_new : IsNew (clocked a) other
   pub differ : one ≢ other
 
+-- ---- what may be made
+
+-- It asks for policies of the token x, for no period, and for a token without parent only where all are made so.
+pub record AsksItsOwn (x : Token) (making : Making) (asked : TokenCreation) : Type 0 where
+  pub policies : (p : Text) → has asked.policies p ≡ true → has x.policies p ≡ true
+  pub period : asked.period ≡ 0
+  pub parent : (asked.no_parent ≡ false) ⊎ (making ≡ WithoutParent)
+
+-- It asks for no root token: not for `root`, and for some policies, unless the token x is no root token itself.
+abbrev pub AsksNoRoot : Token → TokenCreation → Type 0
+AsksNoRoot x asked = (has asked.policies (codes "root") ≡ false) × ((asked.policies ≢ []) ⊎ (HasRoot x → ⊥))
+
+-- The client token has no limit of uses. It is a root token, or has `sudo` on the path, or asks for its own. What it
+-- asks for are names of policies, and `root` only if it is a root token. And it has no end, or asks for one, or for no
+-- root token.
+pub record MayCreate (a : Asking) (k : IsAllowed a) (making : Making) (asked : TokenCreation) : Type 0 where
+  pub unlimited : k.own.uses_left ≡ None
+  pub allowed : HasRoot k.own ⊎ (HasSudo (clocked a) k.own (path_of making) ⊎ AsksItsOwn k.own making asked)
+  pub names : (p : Text) → has asked.policies p ≡ true → (has k.own.policies p ≡ true) ⊎ (is_name p ≡ true)
+  pub root : has asked.policies (codes "root") ≡ true → HasRoot k.own
+  pub ends : (k.own.ends ≡ None) ⊎ ((AsksNoEnd asked → ⊥) ⊎ AsksNoRoot k.own asked)
+
 -- ---- the law
 
 pub record DoesAllowed (history : History) : Type 0 where
   -- These commands are carried out. So a revocation that is allowed is not refused.
   pub done : (i : ℕ) (a : Asking) (command : Command) → AskedAt history i a → IsAllowed a → a.ask.wrap_ttl ≡ 0
       → command_of (clocked a).mounts a.ask ≡ Ok command → is_done command ≡ true → a.outcome.response ≡ no_content
-  -- So is a revocation by an accessor that is there, and the disabling of a mount, but for three names.
+  -- So are a revocation by an accessor that is there, and the disabling of a mount, but for three names.
   pub revokes_accessor : (i : ℕ) (a : Asking) (accessor : Text) → AskedAt history i a → IsAllowed a
       → a.ask.wrap_ttl ≡ 0 → command_of (clocked a).mounts a.ask ≡ Ok (on_token (token.RevokeAccessor accessor))
       → HasAccessor a accessor → a.outcome.response ≡ no_content
   pub disables : (i : ℕ) (a : Asking) (name : Text) → AskedAt history i a → IsAllowed a → a.ask.wrap_ttl ≡ 0
       → command_of (clocked a).mounts a.ask ≡ Ok (on_mount name mount.Disable) → name ≢ codes "sys"
       → name ≢ codes "auth" → name ≢ codes "cubbyhole" → a.outcome.response ≡ no_content
-  -- An unwrap of a response that waits hands it out, with a wrap TTL too, if it is allowed or needs no caller.
+  -- An unwrap of a response that waits, if it is allowed or needs no caller, hands it out, also with a wrap TTL.
   pub unwraps : (i : ℕ) (a : Asking) (t : Text) (w : Waiting) → AskedAt history i a
       → (is_open a.ask ≡ true) ⊎ IsAllowed a
       → command_of (clocked a).mounts a.ask ≡ Ok (on_wrapping (response.Unwrap (Some t)))
@@ -171,6 +201,11 @@ pub record DoesAllowed (history : History) : Type 0 where
       → AskedAt history i a → IsAllowed a → a.ask.wrap_ttl ≡ 0
       → command_of (clocked a).mounts a.ask ≡ Ok (on_lease prefix (lease.Renew asked))
       → lease_of (clocked a) t asked.lease_id ≡ Some l → a.outcome.response.status ≡ status.Success
+  -- So is a creation that may be made, with new identifiers.
+  pub creates : (i : ℕ) (a : Asking) (making : Making) (asked : TokenCreation) → AskedAt history i a
+      → (k : IsAllowed a) → a.ask.wrap_ttl ≡ 0
+      → command_of (clocked a).mounts a.ask ≡ Ok (on_token (token.Create making asked)) → MayCreate a k making asked
+      → AreNew a (names_of a.words).token (names_of a.words).accessor → a.outcome.response.status ≡ status.Success
   -- So are `creds` of a role that is there, with new identifiers, unless the client token has spent its last use.
   pub issues : (i : ℕ) (a : Asking) (p : Place) (r : Role) → AskedAt history i a → (k : IsAllowed a)
       → a.ask.wrap_ttl ≡ 0 → command_of (clocked a).mounts a.ask ≡ Ok (on_issued p issued.Issue)

@@ -207,13 +207,16 @@ pub fn look_ups_show_what_there_is()
 }
 
 /// A law: of requests without a wrap TTL that policies allow, revocations by a text, deletions and others are carried
-/// out; so are a read of a version or an object that is there, and a write that check-and-set lets pass (Vault's
-/// documentation, "Tokens", "KV secrets engine - version 2 (API)").
+/// out. So are a look-up, a read, a renewal and a revocation by accessor of what is there, a write that check-and-set
+/// lets pass, a creation by a token that may make it, and `creds` of a role that is there. An unwrap of a response that
+/// waits hands it out, with a wrap TTL too (Vault's documentation, "Tokens", "Response wrapping", "Lease, renew, and
+/// revoke", "KV secrets engine - version 2 (API)").
 pub fn allowed_requests_are_carried_out()
     ensures { AllDoAllowed }
 {
     policies_decide();
     accessors_name_their_tokens();
+    granted_as_said();
 }
 
 /// A law: only `root` lets do everything; a verb asks for its capability, and a write for `create` exactly where it
