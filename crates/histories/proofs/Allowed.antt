@@ -88,6 +88,7 @@ use Rattle.histories.proofs.MayCreate.{created}
 use Rattle.histories.proofs.Placed.{one_place_still}
 use Rattle.histories.proofs.ReadsEnded.{current_is, number_is}
 use Rattle.histories.proofs.Requests.{asked_at}
+use Rattle.histories.proofs.WithTtl.{status_stays}
 
 -- ---- commands that are never refused
 
@@ -580,6 +581,7 @@ unwrap decide a is t w may means waits =
 
 pub does_allowed : PoliciesDecide → AccessorsNameTheirTokens → AllThatIsGranted → RootMayDoAll → AllDoAllowed
 does_allowed decide accessors granted root b history h = record {
+  wraps = λ i a at k some new low. status_stays decide a (asked_at b history i a h at).outcome k some new low;
   creates = λ i a making asked at k none means may new.
       let is = asked_at b history i a h at in
       create_it decide a is.outcome k none granted root is.sound making asked means may new;

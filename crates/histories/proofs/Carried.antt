@@ -1,5 +1,5 @@
 -- What a command leads to that is not refused before its operation: what the operation answers is the answer.
-use Rattle.std.specs.Prelude.{◌≡◌, ◌||◌, ◌&&◌, ◌∷◌, Bool, true, false, not, nat_lt, if◌then◌else◌}
+use Rattle.std.specs.Prelude.{◌≡◌, ◌||◌, ◌&&◌, List, ◌∷◌, Bool, true, false, not, nat_lt, if◌then◌else◌}
 use Rattle.std.specs.Prelude.{Option, Some, None, Result, Ok}
 use Rattle.std.proofs.Common.{refl, ◌∙◌, ap, inl}
 use Rattle.broker_types.specs.Text.{Text}
@@ -56,35 +56,49 @@ module _ (a : Asking) (is : a.outcome ≡ step a.broker a.moment a.words a.ask) 
 -- ---- what is answered
 
 module _ (a : Asking) (start : Broker) (who : Option Text) (command : Command)
-    (carried : a.outcome ≡ finish start who (operated start who (names_of a.words) a.ask command))
-    (no_wrap : is_wrapped a.ask command ≡ false)
-    (new : are_new start.used ((traits command).own (names_of a.words)) ≡ true)
-    (free : (traits command).must_wrap ≡ false) where
+    (carried : a.outcome ≡ finish start who (operated start who (names_of a.words) a.ask command)) where
   abbrev names : Names
   names = names_of a.words
 
   abbrev q : Request Command
   q = request_of a.ask
 
-  its_own : are_new start.used (needed permits traits act q names command) ≡ true
-  its_own =
-      ap (λ v. are_new start.used (if v then names.wrapping_token ∷ names.wrapping_accessor ∷ (traits command).own names
-      else (traits command).own names)) no_wrap ∙ new
-
-  -- where the command is carried out, what it answers is the answer
-  pub answers : (d : Done) → act start who names command ≡ Ok d → a.outcome.response ≡ response_to d.answered
-  answers d acted =
+  -- where its identifiers are new, and it has the wrap TTL that it must have, its operation decides
+  pub leads_to : are_new start.used (needed permits traits act q names command) ≡ true
+      → (not (traits command).must_wrap || nat_lt 0 q.wrap_ttl) ≡ true → (d : Done) → act start who names command ≡ Ok d
+      → a.outcome ≡ finish start who (Ok (wrapped permits traits act start q names command d))
+  leads_to new may d acted =
       let tried : Result Done Refusal → Result Wrapped Refusal =
       λ r. r >>= (λ d. Ok (wrapped permits traits act start q names command d)) in
       let asked : Bool → Result Wrapped Refusal =
-      λ v. unless (not v || nat_lt 0 q.wrap_ttl) (refusal.BadRequest reason.WrappingRequired)
-      >>= (λ w. tried (act start who names command)) in
-      ap (λ (o : Outcome). o.response) (carried
-      ∙ ap (λ v. finish start who (unless v refusal.IdentifierUsed >>= (λ u. asked (traits command).must_wrap))) its_own
-      ∙ ap (λ v. finish start who (asked v)) free
+      λ v. unless v (refusal.BadRequest reason.WrappingRequired) >>= (λ w. tried (act start who names command)) in
+      carried
+      ∙ ap (λ v. finish start who (unless v refusal.IdentifierUsed
+      >>= (λ u. asked (not (traits command).must_wrap || nat_lt 0 q.wrap_ttl)))) new
+      ∙ ap (λ v. finish start who (asked v)) may
       ∙ ap (λ r. finish start who (tried r)) acted
+
+module _ (a : Asking) (start : Broker) (who : Option Text) (command : Command)
+    (carried : a.outcome ≡ finish start who (operated start who (names_of a.words) a.ask command))
+    (no_wrap : is_wrapped a.ask command ≡ false)
+    (new : are_new start.used ((traits command).own (names_of a.words)) ≡ true)
+    (free : (traits command).must_wrap ≡ false) where
+  -- those that it needs, if its reply is wrapped, and if it is not
+  abbrev needs : Bool → List Text
+  needs v =
+      let its = names_of a.words in
+      let own = (traits command).own its in
+      if v then its.wrapping_token ∷ its.wrapping_accessor ∷ own else own
+
+  -- where the command is carried out, what it answers is the answer
+  pub answers : (d : Done) → act start who (names_of a.words) command ≡ Ok d
+      → a.outcome.response ≡ response_to d.answered
+  answers d acted =
+      ap (λ (o : Outcome). o.response)
+      (leads_to a start who command carried (ap (λ v. are_new start.used (needs v)) no_wrap ∙ new)
+      (ap (λ v. not v || nat_lt 0 a.ask.wrap_ttl) free) d acted
       ∙ ap (λ v. finish start who (Ok
-      (if v then wrap_200 start q.path q.wrap_ttl names d d.answered else unwrapped d))) no_wrap)
+      (if v then wrap_200 start a.ask.path a.ask.wrap_ttl (names_of a.words) d d.answered else unwrapped d))) no_wrap)
 
 -- without a wrap TTL nothing is wrapped
 pub without_ttl : (a : Asking) (command : Command) → a.ask.wrap_ttl ≡ 0 → is_wrapped a.ask command ≡ false

@@ -54,4 +54,5 @@ pub mod TokenGiven
 pub mod TokenLaws
 pub mod Used
 pub mod VersionsFollow
+pub mod WithTtl
 pub mod Wraps

@@ -63,7 +63,7 @@ command_by_plain (operation.Leases o) r a = refl
 command_by_plain (operation.Issued o) r a = refl
 command_by_plain (operation.Wrappings o) r a = refl
 
-command_plain : (mounts : Map Mount) (a : Ask) → command_of mounts (unwrapped_ask a) ≡ command_of mounts a
+pub command_plain : (mounts : Map Mount) (a : Ask) → command_of mounts (unwrapped_ask a) ≡ command_of mounts a
 command_plain mounts a =
     elim (route_of mounts a.verb a.path) as
     (λ (found : Result Route Refusal). (found >>= (λ r. command_for r (unwrapped_ask a)))

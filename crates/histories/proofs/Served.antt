@@ -40,7 +40,7 @@ cases a is = subst (λ (o : Outcome). IsTurnedAway (clocked a) (request_of a.ask
     (order_cases permits traits act a.broker a.moment (request_of a.ask) (names_of a.words))
 
 -- a refusal is 400 or more
-refused_code : (why : Refusal) → 400 ≤ status_code (refused why).status
+pub refused_code : (why : Refusal) → 400 ≤ status_code (refused why).status
 refused_code (refusal.BadRequest r) = omega (arith)
 refused_code (refusal.Forbidden d) = omega (arith)
 refused_code refusal.NotFound = omega (arith)

@@ -2,9 +2,10 @@
 -- policies refuse them, and some only where what they ask for is not there or may not be made (Vault's documentation,
 -- "Tokens"; "Token auth method (API)", create token; "Lease, renew, and revoke"; "Response wrapping"; "/sys/mounts";
 -- "KV secrets engine - version 2 (API)"; "Cubbyhole secrets engine (API)").
-use Rattle.std.specs.Prelude.{◌≡◌, ◌≢◌, ◌⊎◌, ◌<◌, ℕ, [], Bool, true, false, Some, None, Ok, codes}
+use Rattle.std.specs.Prelude.{◌≡◌, ◌≢◌, ◌⊎◌, ◌<◌, ℕ, List, [], ◌∷◌, Bool, true, false, Some, None, Ok, codes}
 use Rattle.std.specs.FinMap as fin
-use Rattle.broker_types.specs.Text.{Text}
+use Rattle.std.specs.List.{IsDistinct}
+use Rattle.broker_types.specs.Text.{Text, same}
 use Rattle.broker_types.specs.Map.{get}
 use Rattle.broker_types.specs.Broker.{Broker, Mount, Role, Waiting}
 use Rattle.broker_types.specs.Evolves.{IsNew}
@@ -12,6 +13,7 @@ use Rattle.broker_types.specs.Name.{is_name}
 use Rattle.broker_types.specs.Names.{names_of}
 use Rattle.broker_types.specs.Secret.{Key, Version}
 use Rattle.broker_types.specs.Places.{lease_of}
+use Rattle.broker_types.specs.Status.{status_code}
 use Rattle.broker_types.specs.Token.{Lease, Token}
 use Rattle.broker_types.specs.declared.status.Status.TheVariants as status
 use Rattle.records.specs.Children.{has}
@@ -41,6 +43,7 @@ use Rattle.broker_model.specs.parts.Place.{Place}
 use Rattle.histories.specs.Callers.{IsAllowed}
 use Rattle.histories.specs.Creations.{AsksNoEnd, HasRoot, HasSudo}
 use Rattle.histories.specs.History.{AreAsked, Asking, AskedAt, History, clocked}
+use Rattle.histories.specs.Kept.{unwrapped_answer}
 use Rattle.histories.specs.Paths.{path_of}
 use Rattle.histories.specs.Shown.{IsAccessorOf}
 use Rattle.histories.specs.Versions.{named}
@@ -129,6 +132,17 @@ pub record AreNew (a : Asking) (one other : Text) : Type 0 where
   pub other_is_new : IsNew (clocked a) other
   pub differ : one ≢ other
 
+-- The identifiers that the request's words make, but that of its reply.
+abbrev pub identifiers_made : Asking → List Text
+identifiers_made a =
+    let names = names_of a.words in
+    names.wrapping_token ∷ names.wrapping_accessor ∷ names.token ∷ names.accessor ∷ names.lease ∷ names.credential ∷ []
+
+-- None of them was given out before, and no two are the same.
+pub record AllNew (a : Asking) : Type 0 where
+  pub new : (i : Text) → has (identifiers_made a) i ≡ true → IsNew (clocked a) i
+  pub differ : IsDistinct same (identifiers_made a)
+
 -- ---- what may be made
 
 -- It asks for policies of the token x, for no period, and for a token without parent only where all are made so.
@@ -164,6 +178,10 @@ pub record DoesAllowed (history : History) : Type 0 where
   pub disables : (i : ℕ) (a : Asking) (name : Text) → AskedAt history i a → IsAllowed a → a.ask.wrap_ttl ≡ 0
       → command_of (clocked a).mounts a.ask ≡ Ok (on_mount name mount.Disable) → name ≢ codes "sys"
       → name ≢ codes "auth" → name ≢ codes "cubbyhole" → a.outcome.response ≡ no_content
+  -- With a wrap TTL and new identifiers, what is allowed has the status that it would have without, if that is below
+  -- 400.
+  pub wraps : (i : ℕ) (a : Asking) → AskedAt history i a → IsAllowed a → 0 < a.ask.wrap_ttl → AllNew a
+      → status_code (unwrapped_answer a).status < 400 → a.outcome.response.status ≡ (unwrapped_answer a).status
   -- An unwrap of a response that waits, if it is allowed or needs no caller, hands it out, also with a wrap TTL.
   pub unwraps : (i : ℕ) (a : Asking) (t : Text) (w : Waiting) → AskedAt history i a
       → (is_open a.ask ≡ true) ⊎ IsAllowed a
