@@ -10,7 +10,7 @@ use Rattle.broker_types.specs.Limits.{greatest_version}
 use Rattle.broker_types.specs.Map.{Map, entries, get, without}
 use Rattle.broker_types.specs.MapLaws.{get-change}
 use Rattle.broker_types.specs.Answer.{Response}
-use Rattle.broker_types.specs.Broker.{Broker, Mount, Role, Waiting}
+use Rattle.broker_types.specs.Broker.{Broker, Mount, Role}
 use Rattle.std.specs.Option.{option_map_or}
 use Rattle.broker_types.specs.Names.{Names, names_of}
 use Rattle.broker_types.specs.Operation.{missing, nothing, plainly, reply, Done}
@@ -53,8 +53,7 @@ use Rattle.broker_model.specs.EffectLaws.{chained}
 use Rattle.broker_model.specs.Command.{Command, command_of, on_cubbyhole, on_issued, on_lease, on_mount, on_policy}
 use Rattle.broker_model.specs.Command.{on_secret, on_token, on_wrapping}
 use Rattle.broker_model.specs.Order.{response_to}
-use Rattle.broker_model.specs.Responses.{no_content, ok}
-use Rattle.broker_model.specs.Serving.{is_open}
+use Rattle.broker_model.specs.Responses.{no_content}
 use Rattle.broker_model.specs.Step.{step, traits}
 use Rattle.broker_model.specs.declared.commands.CubbyholeCommand.{CubbyholeCommand}
 use Rattle.broker_model.specs.declared.commands.CubbyholeCommand.TheVariants as of_cubbyhole
@@ -67,7 +66,6 @@ use Rattle.broker_model.specs.declared.commands.SecretCommand.{SecretCommand}
 use Rattle.broker_model.specs.declared.commands.SecretCommand.TheVariants as of_secret
 use Rattle.broker_model.specs.declared.commands.TokenCommand.{TokenCommand}
 use Rattle.broker_model.specs.declared.commands.TokenCommand.TheVariants as of_token
-use Rattle.broker_model.specs.declared.commands.WrappingCommand.TheVariants as of_responses
 use Rattle.broker_model.specs.parts.Place.{Place}
 use Rattle.broker_model.specs.parts.SecretReplies.{object_left, version_answered, version_reply, written_reply}
 use Rattle.broker_model.specs.parts.TokenReplies.{auth_reply, token_reply}
@@ -75,19 +73,19 @@ use Rattle.broker_model.specs.parts.Mounts.{without_kept}
 use Rattle.broker_model.specs.parts.Leases as of_leases
 use Rattle.broker_model.specs.parts.Tokens as tokens
 use Rattle.broker_model.specs.parts.Tokens.{new_end}
-use Rattle.broker_model.specs.parts.Wrappings.{act_on_wrappings, found_under, handed_out}
 use Rattle.histories.specs.Allowed.{AllDoAllowed, AreNew, HasAccessor, HasVersion, MayCreate, MayWrite, is_done}
 use Rattle.histories.specs.Callers.{IsAllowed}
 use Rattle.histories.specs.History.{Asking, clocked, spent_by}
 use Rattle.histories.specs.Refused.{PoliciesDecide}
 use Rattle.histories.specs.Shown.{IsAccessorOf}
 use Rattle.histories.specs.Versions.{named}
-use Rattle.histories.proofs.Carried.{answers, carried_for, carried_openly, never_wrapped, without_ttl}
+use Rattle.histories.proofs.Carried.{answers, carried_for, without_ttl}
 use Rattle.histories.proofs.Found.{both_new, goes, held_by_token, held_by_waiting, lease_found}
 use Rattle.histories.proofs.MayCreate.{created}
 use Rattle.histories.proofs.Placed.{one_place_still}
 use Rattle.histories.proofs.ReadsEnded.{current_is, number_is}
 use Rattle.histories.proofs.Requests.{asked_at}
+use Rattle.histories.proofs.Responses.{look_up, rewrap, unwrap}
 use Rattle.histories.proofs.WithTtl.{status_stays}
 
 -- ---- commands that are never refused
@@ -421,9 +419,9 @@ module _ (decide : PoliciesDecide) (a : Asking) (is : a.outcome ≡ step a.broke
       by true = record { ends = refl; accessor = refl; leases = refl }
       by false = record { ends = refl; accessor = refl; leases = refl }
 
-  look_up : (t : Text) → command_of (clocked a).mounts a.ask ≡ Ok (on_token (of_token.LookUp t))
+  look_up_token : (t : Text) → command_of (clocked a).mounts a.ask ≡ Ok (on_token (of_token.LookUp t))
       → get (clocked a).tokens t ≢ None → a.outcome.response.status ≡ status.Success
-  look_up t means some = elim (found_or_not (get (clocked a).tokens t)) [
+  look_up_token t means some = elim (found_or_not (get (clocked a).tokens t)) [
     | inl none ↦ absurd (some none)
     | inr x ↦
         let y = after_use t x.0 x.1 in
@@ -554,31 +552,6 @@ module _ (decide : PoliciesDecide) (a : Asking) (is : a.outcome ≡ step a.broke
         (ap (option_and_then (λ (x : Token). get x.cubbyhole path)) k.calls.there ∙ text.1)) refl
   ]
 
--- ---- a response that waits
-
--- whoever asks, it is handed out
-handed : (b : Broker) (names : Names) (t : Text) (w : Waiting) → get b.waiting t ≡ Some w
-    → act_on_wrappings b names (of_responses.Unwrap (Some t)) ≡ Ok (handed_out b (found_under t w))
-handed b names t w waits =
-    ap (λ (o : Option Waiting). some_or (refusal.BadRequest reason.InvalidWrappingToken) (option_map (found_under t) o)
-    >>= (λ f. Ok (handed_out b f))) waits
-
-unwrap : PoliciesDecide → (a : Asking) → a.outcome ≡ step a.broker a.moment a.words a.ask → (t : Text) (w : Waiting)
-    → (is_open a.ask ≡ true) ⊎ IsAllowed a
-    → command_of (clocked a).mounts a.ask ≡ Ok (on_wrapping (of_responses.Unwrap (Some t)))
-    → get (clocked a).waiting t ≡ Some w → a.outcome.response ≡ ok w.reply
-unwrap decide a is t w may means waits =
-    let k = on_wrapping (of_responses.Unwrap (Some t)) in
-    elim may [
-      | inl no_caller ↦
-          answers a (clocked a) None k (carried_openly a is k means no_caller) (never_wrapped a k refl) refl refl _
-          (handed (clocked a) (names_of a.words) t w waits)
-      | inr k_ ↦
-          let here = spent_by a k_.caller in
-          answers a here (Some k_.caller) k (carried_for a is k means decide k_) (never_wrapped a k refl) refl refl _
-          (handed here (names_of a.words) t w waits)
-    ]
-
 pub does_allowed : PoliciesDecide → AccessorsNameTheirTokens → AllThatIsGranted → RootMayDoAll → AllDoAllowed
 does_allowed decide accessors granted root b history h = record {
   wraps = λ i a at k some new low. status_stays decide a (asked_at b history i a h at).outcome k some new low;
@@ -603,13 +576,18 @@ does_allowed decide accessors granted root b history h = record {
   disables = λ i a mount at k none means sys auth own.
       disable decide a (asked_at b history i a h at).outcome k none mount means sys auth own;
   unwraps = λ i a t w at may means waits.
-      unwrap decide a (asked_at b history i a h at).outcome t w may means waits;
+      unwrap decide a (asked_at b history i a h at).outcome may t w waits means;
+  looks_up_response = λ i a t w at may means waits.
+      look_up decide a (asked_at b history i a h at).outcome may t w waits means;
+  rewraps = λ i a t w at may means waits new.
+      rewrap decide a (asked_at b history i a h at).outcome may t w waits means new;
   done = λ i a command at k none means it.
       was_done decide a (asked_at b history i a h at).outcome k none command means it;
   reads = λ i a p n at k none means there. read decide a (asked_at b history i a h at).outcome k none p n means there;
   writes = λ i a p asked at k none means may.
       write decide a (asked_at b history i a h at).outcome k none p asked means may;
-  looks_up = λ i a t at k none means some. look_up decide a (asked_at b history i a h at).outcome k none t means some;
+  looks_up = λ i a t at k none means some.
+      look_up_token decide a (asked_at b history i a h at).outcome k none t means some;
   renews = λ i a asked x at k none means there some.
       renew decide a (asked_at b history i a h at).outcome k none asked x means there some;
   reads_own = λ i a path at k none means some.

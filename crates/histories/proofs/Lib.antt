@@ -40,6 +40,7 @@ pub mod Renewals
 pub mod RenewedEnds
 pub mod Requests
 pub mod RequestsPlace
+pub mod Responses
 pub mod RevocationLasts
 pub mod Revoking
 pub mod Routes

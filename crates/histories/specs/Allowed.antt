@@ -187,6 +187,17 @@ pub record DoesAllowed (history : History) : Type 0 where
       → (is_open a.ask ≡ true) ⊎ IsAllowed a
       → command_of (clocked a).mounts a.ask ≡ Ok (on_wrapping (response.Unwrap (Some t)))
       → get (clocked a).waiting t ≡ Some w → a.outcome.response ≡ ok w.reply
+  -- So a look-up of it is a 200, and a rewrap with new identifiers.
+  pub looks_up_response : (i : ℕ) (a : Asking) (t : Text) (w : Waiting) → AskedAt history i a
+      → (is_open a.ask ≡ true) ⊎ IsAllowed a
+      → command_of (clocked a).mounts a.ask ≡ Ok (on_wrapping (response.LookUp (Some t)))
+      → get (clocked a).waiting t ≡ Some w → a.outcome.response.status ≡ status.Success
+  pub rewraps : (i : ℕ) (a : Asking) (t : Text) (w : Waiting) → AskedAt history i a
+      → (is_open a.ask ≡ true) ⊎ IsAllowed a
+      → command_of (clocked a).mounts a.ask ≡ Ok (on_wrapping (response.Rewrap (Some t)))
+      → get (clocked a).waiting t ≡ Some w
+      → AreNew a (names_of a.words).wrapping_token (names_of a.words).wrapping_accessor
+      → a.outcome.response.status ≡ status.Success
   -- A read of a version that is there is a 200.
   pub reads : (i : ℕ) (a : Asking) (p : Place) (n : ℕ) → AskedAt history i a → IsAllowed a → a.ask.wrap_ttl ≡ 0
       → command_of (clocked a).mounts a.ask ≡ Ok (on_secret p (secret.Read n)) → HasVersion a p n
