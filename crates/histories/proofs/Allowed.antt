@@ -1,23 +1,26 @@
 -- What is allowed is done: some commands always, some where what they ask for is there.
 use Rattle.std.specs.Prelude.{◌≡◌, ◌≢◌, ◌⊎◌, ◌<◌, ◌==◌, ◌||◌, ℕ, [], Bool, true, false, nat_lt}
 use Rattle.std.specs.Prelude.{is_some, if◌then◌else◌, Option, Some, None, Result, Ok, option_and_then, option_map, ⊤}
-use Rattle.std.specs.Prelude.{codes, ◌-◌, not}
+use Rattle.std.specs.Prelude.{◌-◌, not}
 use Rattle.std.specs.FinMap as fin
+use Rattle.std.specs.Option.{option_map_or}
 use Rattle.std.proofs.Common.{refl, sym, ◌∙◌, ap, subst, inl, inr}
 use Rattle.std.proofs.lemmas.Bool.{eq-eqb, eqb-true, false_from_ne_true, false≢true, lt-ltb}
+use Rattle.std.proofs.lemmas.Option.{none-some}
 use Rattle.broker_types.specs.Text.{Text, same}
+use Rattle.broker_types.specs.TextLaws.{same_self}
 use Rattle.broker_types.specs.Limits.{greatest_version}
-use Rattle.broker_types.specs.Map.{Map, entries, get, without}
+use Rattle.broker_types.specs.Map.{Map, entries, get, put, without}
 use Rattle.broker_types.specs.MapLaws.{get-change}
 use Rattle.broker_types.specs.Answer.{Response}
 use Rattle.broker_types.specs.Broker.{Broker, Mount, Role}
-use Rattle.std.specs.Option.{option_map_or}
 use Rattle.broker_types.specs.Names.{Names, names_of}
 use Rattle.broker_types.specs.Operation.{missing, nothing, plainly, reply, Done}
-use Rattle.broker_types.specs.Places.{OnePlaceEach, lease_of}
-use Rattle.broker_types.specs.OptionLaws.{found_or_not}
+use Rattle.broker_types.specs.Places.{OnePlaceEach}
+use Rattle.broker_types.specs.OptionLaws.{found_or_not, mapped_none}
 use Rattle.broker_types.specs.Refuse.{◌>>=◌, some_or, unless}
 use Rattle.broker_types.specs.Secret.{Key, Version}
+use Rattle.broker_types.specs.Sound.{Sound}
 use Rattle.broker_types.specs.Spending.{is_spent, one_less}
 use Rattle.broker_types.specs.Token.{Lease, Token}
 use Rattle.broker_types.specs.Used.{are_new}
@@ -31,27 +34,26 @@ use Rattle.broker_types.specs.declared.status.Status.TheVariants as status
 use Rattle.records.specs.TokenEntry.{token_entry}
 use Rattle.token_tree.specs.Laws.{AccessorsNameTheirTokens}
 use Rattle.token_tree.specs.Tokens as tree
-use Rattle.leases.specs.Leases as leases
-use Rattle.leases.specs.Leases.{Renewed, renewed_end, times_of, with_renewed}
-use Rattle.leases.specs.Roles.{Issued, IssuedLease, is_last_use, lease_id, new_lease}
-use Rattle.broker_model.specs.parts.Issued.{given, issue}
+use Rattle.kv2.specs.Metadata.{metadata_of}
 use Rattle.kv2.specs.Secrets as secrets
 use Rattle.kv2.specs.Secrets.{Written, secret_name, write_over, written}
 use Rattle.kv2.specs.Versions.{Found, asked_number, check_and_set, checked, key_or_new, numbered}
-use Rattle.api_json.specs.Objects.{lease_object}
+use Rattle.leases.specs.Leases as leases
+use Rattle.leases.specs.Leases.{Renewed, renewed_end, times_of, with_renewed}
+use Rattle.leases.specs.Roles.{Issued, IssuedLease, is_last_use, lease_id, new_lease, role_name}
+use Rattle.policies.specs.Laws.{AllThatIsGranted, RootMayDoAll}
+use Rattle.policies.specs.Policies.{is_root, text_of}
+use Rattle.api_json.specs.Objects.{lease_object, policy_object, role_object}
 use Rattle.api_json.specs.Reply.{lease_reply, plain_reply}
 use Rattle.api_json.specs.declared.lease_bodies.LeaseRenewal.{LeaseRenewal}
 use Rattle.api_json.specs.declared.secret_bodies.SecretWrite.{SecretWrite}
-use Rattle.broker_model.specs.Forms.{forms}
-use Rattle.broker_model.specs.declared.making.Making.{Making}
-use Rattle.policies.specs.Laws.{AllThatIsGranted, RootMayDoAll}
-use Rattle.broker_types.specs.Sound.{Sound}
 use Rattle.api_json.specs.declared.token_bodies.TokenCreation.{TokenCreation}
 use Rattle.api_json.specs.declared.token_bodies.TokenRenewal.{TokenRenewal}
 use Rattle.broker_model.specs.Act.{act}
-use Rattle.broker_model.specs.EffectLaws.{chained}
 use Rattle.broker_model.specs.Command.{Command, command_of, on_cubbyhole, on_issued, on_lease, on_mount, on_policy}
 use Rattle.broker_model.specs.Command.{on_secret, on_token, on_wrapping}
+use Rattle.broker_model.specs.EffectLaws.{chained}
+use Rattle.broker_model.specs.Forms.{forms}
 use Rattle.broker_model.specs.Order.{response_to}
 use Rattle.broker_model.specs.Responses.{no_content}
 use Rattle.broker_model.specs.Step.{step, traits}
@@ -62,25 +64,30 @@ use Rattle.broker_model.specs.declared.commands.IssuedCommand.TheVariants as of_
 use Rattle.broker_model.specs.declared.commands.LeaseCommand.{LeaseCommand}
 use Rattle.broker_model.specs.declared.commands.LeaseCommand.TheVariants as of_lease
 use Rattle.broker_model.specs.declared.commands.MountCommand.TheVariants as of_mount
+use Rattle.broker_model.specs.declared.commands.PolicyCommand.TheVariants as of_policy
 use Rattle.broker_model.specs.declared.commands.SecretCommand.{SecretCommand}
 use Rattle.broker_model.specs.declared.commands.SecretCommand.TheVariants as of_secret
 use Rattle.broker_model.specs.declared.commands.TokenCommand.{TokenCommand}
 use Rattle.broker_model.specs.declared.commands.TokenCommand.TheVariants as of_token
-use Rattle.broker_model.specs.parts.Place.{Place}
-use Rattle.broker_model.specs.parts.SecretReplies.{object_left, version_answered, version_reply, written_reply}
-use Rattle.broker_model.specs.parts.TokenReplies.{auth_reply, token_reply}
-use Rattle.broker_model.specs.parts.Mounts.{without_kept}
+use Rattle.broker_model.specs.declared.making.Making.{Making}
+use Rattle.broker_model.specs.parts.Issued.{given, issue}
 use Rattle.broker_model.specs.parts.Leases as of_leases
+use Rattle.broker_model.specs.parts.Mounts.{without_kept}
+use Rattle.broker_model.specs.parts.Place.{Place}
+use Rattle.broker_model.specs.parts.SecretReplies.{metadata_reply, object_left, settings_reply, version_answered}
+use Rattle.broker_model.specs.parts.SecretReplies.{version_reply, written_reply}
+use Rattle.broker_model.specs.parts.TokenReplies.{auth_reply, token_reply}
 use Rattle.broker_model.specs.parts.Tokens as tokens
 use Rattle.broker_model.specs.parts.Tokens.{new_end}
-use Rattle.histories.specs.Allowed.{AllDoAllowed, AreNew, HasAccessor, HasVersion, MayCreate, MayWrite, is_done}
+use Rattle.histories.specs.Allowed.{AllDoAllowed, AreNew, HasAccessor, HasLease, HasVersion, MayChange, MayCreate}
+use Rattle.histories.specs.Allowed.{MayWrite, ShowsThere, is_done}
 use Rattle.histories.specs.Callers.{IsAllowed}
 use Rattle.histories.specs.History.{Asking, clocked, spent_by}
 use Rattle.histories.specs.Refused.{PoliciesDecide}
 use Rattle.histories.specs.Shown.{IsAccessorOf}
 use Rattle.histories.specs.Versions.{named}
 use Rattle.histories.proofs.Carried.{answers, carried_for, without_ttl}
-use Rattle.histories.proofs.Found.{both_new, goes, held_by_token, held_by_waiting, lease_found}
+use Rattle.histories.proofs.Found.{both_new, comes, goes, held_by_token, held_by_waiting, lease_found, removes, sets}
 use Rattle.histories.proofs.MayCreate.{created}
 use Rattle.histories.proofs.Placed.{one_place_still}
 use Rattle.histories.proofs.ReadsEnded.{current_is, number_is}
@@ -451,26 +458,25 @@ module _ (decide : PoliciesDecide) (a : Asking) (is : a.outcome ≡ step a.broke
       replied (on_token (of_token.RenewSelf increment)) means refl refl d.0 d.1 None d.2 d.3
 
   -- a lease of the clock is found after the use
-  lease_after_use : (t lease_id : Text) (l : Lease) → lease_of (clocked a) t lease_id ≡ Some l
-      → (m : Lease) × (leases.find here lease_id ≡ Some m)
-  lease_after_use t lease_id l there =
+  lease_after_use : (lease_id : Text) → HasLease a lease_id → (m : Lease) × (leases.find here lease_id ≡ Some m)
+  lease_after_use lease_id (t, l, there) =
       let x = chained (λ (z : Token). get z.leases lease_id) (get (clocked a).tokens t) l there in
       let y = after_use t x.0 x.1 in
       lease_found here lease_id t y.0 l y.1 (ap (λ (m : Map Lease). get m lease_id) y.2.leases ∙ x.2)
 
-  look_up_lease : (prefix lease_id t : Text) (l : Lease)
-      → command_of (clocked a).mounts a.ask ≡ Ok (on_lease prefix (of_lease.LookUp lease_id))
-      → lease_of (clocked a) t lease_id ≡ Some l → a.outcome.response.status ≡ status.Success
-  look_up_lease prefix lease_id t l means there =
-      let m = lease_after_use t lease_id l there in
+  look_up_lease : (prefix lease_id : Text)
+      → command_of (clocked a).mounts a.ask ≡ Ok (on_lease prefix (of_lease.LookUp lease_id)) → HasLease a lease_id
+      → a.outcome.response.status ≡ status.Success
+  look_up_lease prefix lease_id means there =
+      let m = lease_after_use lease_id there in
       let d = lease_looked_up here (names_of a.words) lease_id m.0 m.1 in
       replied (on_lease prefix (of_lease.LookUp lease_id)) means refl refl d.0 d.1 None d.2 d.3
 
-  renew_lease : (prefix : Text) (asked : LeaseRenewal) (t : Text) (l : Lease)
-      → command_of (clocked a).mounts a.ask ≡ Ok (on_lease prefix (of_lease.Renew asked))
-      → lease_of (clocked a) t asked.lease_id ≡ Some l → a.outcome.response.status ≡ status.Success
-  renew_lease prefix asked t l means there =
-      let m = lease_after_use t asked.lease_id l there in
+  renew_lease : (prefix : Text) (asked : LeaseRenewal)
+      → command_of (clocked a).mounts a.ask ≡ Ok (on_lease prefix (of_lease.Renew asked)) → HasLease a asked.lease_id
+      → a.outcome.response.status ≡ status.Success
+  renew_lease prefix asked means there =
+      let m = lease_after_use asked.lease_id there in
       let d = lease_renewed here (names_of a.words) asked.lease_id m.0 m.1 asked.increment in
       replied (on_lease prefix (of_lease.Renew asked)) means refl refl d.0 d.1 None d.2 d.3
 
@@ -521,6 +527,57 @@ module _ (decide : PoliciesDecide) (a : Asking) (is : a.outcome ≡ step a.broke
       (ap (λ (o : Option Text). some_or (refusal.BadRequest reason.InvalidAccessor) o
       >>= (λ t. tokens.look_up here (names_of a.words) t [])) (named_after_use accessors one accessor has) ∙ d.2) d.3
 
+  -- what is there is shown
+  shown_there : {X : Type 0} (command : Command) → command_of (clocked a).mounts a.ask ≡ Ok command
+      → (traits command).own (names_of a.words) ≡ [] → (traits command).must_wrap ≡ false → (o : Option X) → o ≢ None
+      → (go : X → Reply)
+      → act here (Some k.caller) (names_of a.words) command
+      ≡ (some_or refusal.NotFound o >>= (λ x. Ok (plainly (reply (go x) None) here)))
+      → a.outcome.response.status ≡ status.Success
+  shown_there command means own free None there go acts = absurd (there refl)
+  shown_there command means own free (Some x) there go acts =
+      replied command means (ap (are_new here.used) own) free (plainly (reply (go x) None) here) (go x) None acts refl
+
+  show : AccessorsNameTheirTokens → OnePlaceEach a.broker → (command : Command)
+      → command_of (clocked a).mounts a.ask ≡ Ok command → ShowsThere a command
+      → a.outcome.response.status ≡ status.Success
+  show accessors one (on_token of_token.LookUpSelf) means there = look_up_self means
+  show accessors one (on_token (of_token.LookUpAccessor accessor)) means there =
+      look_up_accessor accessors one accessor means there
+  show accessors one (on_lease prefix (of_lease.LookUp lease_id)) means there =
+      look_up_lease prefix lease_id means there
+  show accessors one (on_token of_token.ListAccessors) means there =
+      replied (on_token of_token.ListAccessors) means refl refl _ _ None refl refl
+  show accessors one (on_policy name of_policy.List) means there =
+      replied (on_policy name of_policy.List) means refl refl _ _ None refl refl
+  show accessors one (on_policy name of_policy.Show) means (inl root) =
+      shown_there (on_policy name of_policy.Show) means refl refl (text_of here.policies name)
+      (λ none. none-some _ (sym none ∙ ap (λ v. if v then Some [] else get here.policies name)
+      (ap (same name) (sym root) ∙ same_self name)))
+      (λ text. plain_reply (names_of a.words).request (policy_object name text)) refl
+  show accessors one (on_policy name of_policy.Show) means (inr some) =
+      shown_there (on_policy name of_policy.Show) means refl refl (text_of here.policies name)
+      (there_too (is_root name)) (λ text. plain_reply (names_of a.words).request (policy_object name text)) refl
+    where
+      there_too : (v : Bool) → (if v then Some [] else get here.policies name) ≢ None
+      there_too true none = none-some _ (sym none)
+      there_too false none = some none
+  show accessors one (on_mount name of_mount.List) means there =
+      replied (on_mount name of_mount.List) means refl refl _ _ None refl refl
+  show accessors one (on_issued p (of_issued.Verify credential)) means there =
+      replied (on_issued p (of_issued.Verify credential)) means refl refl _ _ None refl refl
+  show accessors one (on_issued p of_issued.ShowRole) means there =
+      shown_there (on_issued p of_issued.ShowRole) means refl refl (get here.roles (named p)) there
+      (λ r. plain_reply (names_of a.words).request (role_object r.max_ttl r.ttl)) refl
+  show accessors one (on_secret p of_secret.ShowSettings) means there =
+      shown_there (on_secret p of_secret.ShowSettings) means refl refl (get here.mounts p.mount) there
+      (settings_reply (names_of a.words).request) refl
+  show accessors one (on_secret p of_secret.ShowMetadata) means there =
+      shown_there (on_secret p of_secret.ShowMetadata) means refl refl (secrets.metadata here p.mount p.path)
+      (λ none. there (mapped_none metadata_of (get here.secrets (named p)) none))
+      (metadata_reply (names_of a.words).request) refl
+  show accessors one _ means there = absurd there
+
   revoke_accessor : AccessorsNameTheirTokens → OnePlaceEach a.broker → (accessor : Text)
       → command_of (clocked a).mounts a.ask ≡ Ok (on_token (of_token.RevokeAccessor accessor)) → HasAccessor a accessor
       → a.outcome.response ≡ no_content
@@ -531,14 +588,33 @@ module _ (decide : PoliciesDecide) (a : Asking) (is : a.outcome ≡ step a.broke
       let u = held_by_waiting here accessor t w there has in
       revoke_found accessor means u.0 u.1
 
-  disable : (name : Text) → command_of (clocked a).mounts a.ask ≡ Ok (on_mount name of_mount.Disable)
-      → name ≢ codes "sys" → name ≢ codes "auth" → name ≢ codes "cubbyhole" → a.outcome.response ≡ no_content
-  disable name means sys auth own =
+  change_it : (command : Command) → command_of (clocked a).mounts a.ask ≡ Ok command → MayChange a command
+      → a.outcome.response ≡ no_content
+  change_it (on_policy name (of_policy.Set text)) means (named, root, is) =
+      answer (on_policy name (of_policy.Set text)) means refl refl _
+      (ap (λ (r : Result (Map Text) Refusal). r >>= (λ next. Ok (plainly nothing (record here { policies = next }))))
+      (sets here.policies name text named root is))
+  change_it (on_policy name of_policy.Remove) means (root, default) =
+      answer (on_policy name of_policy.Remove) means refl refl _
+      (ap (λ (r : Result (Map Text) Refusal). r >>= (λ next. Ok (plainly nothing (record here { policies = next }))))
+      (removes here.policies name root default))
+  change_it (on_issued p (of_issued.SetRole asked)) means named =
+      answer (on_issued p (of_issued.SetRole asked)) means refl refl _
+      (ap (λ v. unless v (refusal.BadRequest reason.InvalidName)
+      >>= (λ u. Ok (record here {
+        roles = put here.roles (role_name p.mount p.path) (record { ttl = asked.ttl; max_ttl = asked.max_ttl });
+      })) >>= (λ next. Ok (plainly nothing next))) named)
+  change_it (on_mount name (of_mount.Enable asked)) means may =
+      answer (on_mount name (of_mount.Enable asked)) means refl refl _
+      (ap (λ (r : Result (Map Mount) Refusal). r >>= (λ next. Ok (plainly nothing (record here { mounts = next }))))
+      (comes a name asked may))
+  change_it (on_mount name of_mount.Disable) means (sys, auth, own) =
       answer (on_mount name of_mount.Disable) means refl refl _
       (ap (λ (r : Result ⊤ Refusal). r >>= (λ free. Ok (without here.mounts name))
       >>= (λ next. Ok (plainly nothing
       (if is_some (get here.mounts name) then without_kept (record here { mounts = next }) name else here))))
       (goes name sys auth own))
+  change_it _ means may = absurd may
 
   read_own : (path : Text) → command_of (clocked a).mounts a.ask ≡ Ok (on_cubbyhole path of_cubbyhole.Read)
       → get k.own.cubbyhole path ≢ None → a.outcome.response.status ≡ status.Success
@@ -558,23 +634,20 @@ does_allowed decide accessors granted root b history h = record {
   creates = λ i a making asked at k none means may new.
       let is = asked_at b history i a h at in
       create_it decide a is.outcome k none granted root is.sound making asked means may new;
-  looks_up_accessor = λ i a accessor at k none means has.
-      let asked = asked_at b history i a h at in
-      look_up_accessor decide a asked.outcome k none accessors asked.sound.identifiers.one_place accessor means has;
+  shows = λ i a command at k none means there.
+      let is = asked_at b history i a h at in
+      show decide a is.outcome k none accessors is.sound.identifiers.one_place command means there;
   issues = λ i a p r at k none means there lasts new.
       issue_it decide a (asked_at b history i a h at).outcome k none p r means there lasts new;
-  looks_up_self = λ i a at k none means. look_up_self decide a (asked_at b history i a h at).outcome k none means;
   renews_self = λ i a increment at k none means some.
       renew_self decide a (asked_at b history i a h at).outcome k none increment means some;
-  looks_up_lease = λ i a prefix lease_id t l at k none means there.
-      look_up_lease decide a (asked_at b history i a h at).outcome k none prefix lease_id t l means there;
-  renews_lease = λ i a prefix asked t l at k none means there.
-      renew_lease decide a (asked_at b history i a h at).outcome k none prefix asked t l means there;
+  renews_lease = λ i a prefix asked at k none means there.
+      renew_lease decide a (asked_at b history i a h at).outcome k none prefix asked means there;
   revokes_accessor = λ i a accessor at k none means has.
       let asked = asked_at b history i a h at in
       revoke_accessor decide a asked.outcome k none accessors asked.sound.identifiers.one_place accessor means has;
-  disables = λ i a mount at k none means sys auth own.
-      disable decide a (asked_at b history i a h at).outcome k none mount means sys auth own;
+  changes = λ i a command at k none means may.
+      change_it decide a (asked_at b history i a h at).outcome k none command means may;
   unwraps = λ i a t w at may means waits.
       unwrap decide a (asked_at b history i a h at).outcome may t w waits means;
   looks_up_response = λ i a t w at may means waits.

@@ -1,29 +1,37 @@
--- What is found that a request names: by an accessor, by the id of a lease, and by the name of a mount.
+-- Steps of operations that are not refused: what a request names is found, and what it may change is changed.
 use Rattle.std.specs.Prelude.{◌≡◌, ◌≢◌, ◌||◌, ◌&&◌, [], ◌∷◌, Bool, true, false, not, Option, Some, None, Result, Ok, ⊤}
-use Rattle.std.specs.Prelude.{is_none, option_and_then, option_map, codes}
+use Rattle.std.specs.Prelude.{List, is_some, is_none, option_and_then, option_map, codes}
 use Rattle.std.specs.List.{list_any}
 use Rattle.std.specs.Option.{option_map_or}
 use Rattle.std.proofs.Common.{sym, ◌∙◌, ap, inl, inr}
 use Rattle.std.proofs.lemmas.Bool.{false≢true, false_from_ne_true}
 use Rattle.broker_types.specs.Text.{Text, same}
 use Rattle.broker_types.specs.TextLaws.{same_self, same_true}
-use Rattle.broker_types.specs.Map.{Map, get, first_where}
+use Rattle.broker_types.specs.Map.{Map, first_where, get, put, without}
+use Rattle.broker_types.specs.Name.{is_name, reserved_names}
 use Rattle.broker_types.specs.SearchLaws.{first_where_is, first_where_none}
 use Rattle.broker_types.specs.Token.{Lease, Token}
-use Rattle.broker_types.specs.Broker.{Broker, Waiting}
+use Rattle.broker_types.specs.Broker.{Broker, Engine, Mount, Waiting, issued, kv}
 use Rattle.broker_types.specs.Used.{are_new}
 use Rattle.broker_types.specs.OptionLaws.{found_or_not}
-use Rattle.broker_types.specs.Refuse.{some_or, unless}
+use Rattle.broker_types.specs.Refuse.{◌>>=◌, some_or, unless}
 use Rattle.broker_types.specs.declared.refusal.Reason.TheVariants as reason
 use Rattle.broker_types.specs.declared.refusal.Refusal.{Refusal}
 use Rattle.broker_types.specs.declared.refusal.Refusal.TheVariants as refusal
-use Rattle.leases.specs.Leases.{find}
 use Rattle.records.specs.Rows.{has_lease}
-use Rattle.mounts.specs.Mounts.{may_go}
 use Rattle.token_tree.specs.Tokens as tree
 use Rattle.wrapping.specs.Wrapping as wrapping
 use Rattle.wrapping.specs.Wrapping.{has_accessor}
+use Rattle.leases.specs.Leases.{find}
+use Rattle.mounts.specs.Mounts.{enabled, engine_asked, may_go, plain_mount}
+use Rattle.policies.specs.Policies.{deleted, fixed, is_root, set}
+use Rattle.policies.specs.Reading.{is_policy, policy_of, unsupported}
+use Rattle.policies.specs.Rules.{Rule}
+use Rattle.api_json.specs.declared.mount_bodies.MountCreation.{MountCreation}
 use Rattle.broker_model.specs.parts.Tokens.{holder}
+use Rattle.histories.specs.Allowed.{MayEnable}
+use Rattle.histories.specs.History.{Asking, clocked}
+use Rattle.histories.specs.Settings.{MeansEngine}
 
 -- ---- an accessor
 
@@ -96,3 +104,64 @@ goes name sys auth own =
     (ap (λ v. v || list_any (same name) (codes "auth" ∷ codes "cubbyhole" ∷ [])) (apart name (codes "sys") sys)
     ∙ ap (λ v. v || list_any (same name) (codes "cubbyhole" ∷ [])) (apart name (codes "auth") auth)
     ∙ ap (λ v. v || false) (apart name (codes "cubbyhole") own))
+
+-- none of these names is reserved
+unreserved : (name : Text) → name ≢ codes "sys" → name ≢ codes "auth" → name ≢ codes "cubbyhole"
+    → name ≢ codes "identity" → list_any (same name) reserved_names ≡ false
+unreserved name sys auth own identity =
+    ap (λ v. v || list_any (same name) (codes "auth" ∷ codes "cubbyhole" ∷ codes "identity" ∷ []))
+    (apart name (codes "sys") sys)
+    ∙ ap (λ v. v || list_any (same name) (codes "cubbyhole" ∷ codes "identity" ∷ [])) (apart name (codes "auth") auth)
+    ∙ ap (λ v. v || list_any (same name) (codes "identity" ∷ [])) (apart name (codes "cubbyhole") own)
+    ∙ ap (λ v. v || false) (apart name (codes "identity") identity)
+
+-- the engine that is meant is the one that is asked for
+engine_is : (asked : MountCreation) (e : Engine) → MeansEngine asked e
+    → engine_asked asked.type_name asked.version ≡ Some e
+unfolding same
+engine_is asked kv (inl v2) = ap (λ t. engine_asked t asked.version) v2
+engine_is asked kv (inr (type, two)) = ap (λ t. engine_asked t asked.version) type ∙ ap (engine_asked (codes "kv")) two
+engine_is asked issued type = ap (λ t. engine_asked t asked.version) type
+
+-- so it is enabled
+pub comes : (a : Asking) (name : Text) (asked : MountCreation) (m : MayEnable a name asked)
+    → enabled (clocked a).mounts name asked.type_name asked.version
+    ≡ Ok (put (clocked a).mounts name (plain_mount m.engine))
+comes a name asked m =
+    let here = (clocked a).mounts in
+    let put_it : Result Mount Refusal → Result (Map Mount) Refusal = λ r. r >>= (λ x. Ok (put here name x)) in
+    let of_engine : Option Engine → Result Mount Refusal = λ o.
+    some_or (refusal.BadRequest reason.UnsupportedMount) o >>= (λ e. Ok (plain_mount e)) in
+    let free : Bool → Result Mount Refusal = λ v.
+    unless (not v) (refusal.BadRequest reason.PathInUse)
+    >>= (λ u. of_engine (engine_asked asked.type_name asked.version)) in
+    ap (λ v. put_it (unless v (refusal.BadRequest reason.InvalidName)
+    >>= (λ u. free (is_some (get here name) || list_any (same name) reserved_names)))) m.is_name
+    ∙ ap (λ (o : Option Mount). put_it (free (is_some o || list_any (same name) reserved_names))) m.free
+    ∙ ap (λ v. put_it (free (false || v)))
+    (unreserved name m.unreserved.0 m.unreserved.1 m.unreserved.2 m.unreserved.3)
+    ∙ ap (λ o. put_it (of_engine o)) (engine_is asked m.engine m.means)
+
+-- ---- a policy
+
+-- a policy of another name than `root` is set
+pub sets : (policies : Map Text) (name text : Text) → is_name name ≡ true → name ≢ codes "root"
+    → is_policy text ≡ true → set policies name text ≡ Ok (put policies name text)
+sets policies name text named root is = elim (found_or_not (policy_of text)) [
+  | inl none ↦ absurd (false≢true (ap (λ o. is_some o) (sym none) ∙ is))
+  | inr rules ↦
+      let put_it : Result ⊤ Refusal → Result (Map Text) Refusal = λ r. r >>= (λ u. Ok (put policies name text)) in
+      let read : Option (List Rule) → Result ⊤ Refusal = λ o. some_or unsupported o >>= (λ rs. Ok tt) in
+      ap (λ v. put_it (unless v (refusal.BadRequest reason.InvalidName)
+      >>= (λ u. unless (not (is_root name)) fixed >>= (λ w. read (policy_of text))))) named
+      ∙ ap (λ v. put_it (unless (not v) fixed >>= (λ w. read (policy_of text)))) (apart name (codes "root") root)
+      ∙ ap (λ o. put_it (read o)) rules.1
+]
+
+-- and removed, if it is not `default` either
+pub removes : (policies : Map Text) (name : Text) → name ≢ codes "root" → name ≢ codes "default"
+    → deleted policies name ≡ Ok (without policies name)
+removes policies name root default =
+    ap (λ v. unless (not (v || same name (codes "default"))) fixed >>= (λ u. Ok (without policies name)))
+    (apart name (codes "root") root)
+    ∙ ap (λ v. unless (not v) fixed >>= (λ u. Ok (without policies name))) (apart name (codes "default") default)

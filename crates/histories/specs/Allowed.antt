@@ -2,12 +2,12 @@
 -- policies refuse them, and some only where what they ask for is not there or may not be made (Vault's documentation,
 -- "Tokens"; "Token auth method (API)", create token; "Lease, renew, and revoke"; "Response wrapping"; "/sys/mounts";
 -- "KV secrets engine - version 2 (API)"; "Cubbyhole secrets engine (API)").
-use Rattle.std.specs.Prelude.{◌≡◌, ◌≢◌, ◌⊎◌, ◌<◌, ℕ, List, [], ◌∷◌, Bool, true, false, Some, None, Ok, codes}
+use Rattle.std.specs.Prelude.{◌≡◌, ◌≢◌, ◌⊎◌, ◌<◌, ℕ, List, [], ◌∷◌, Bool, true, false, Some, None, Ok, codes, ⊤}
 use Rattle.std.specs.FinMap as fin
 use Rattle.std.specs.List.{IsDistinct}
 use Rattle.broker_types.specs.Text.{Text, same}
 use Rattle.broker_types.specs.Map.{get}
-use Rattle.broker_types.specs.Broker.{Broker, Mount, Role, Waiting}
+use Rattle.broker_types.specs.Broker.{Broker, Engine, Mount, Role, Waiting}
 use Rattle.broker_types.specs.Evolves.{IsNew}
 use Rattle.broker_types.specs.Name.{is_name}
 use Rattle.broker_types.specs.Names.{names_of}
@@ -17,12 +17,14 @@ use Rattle.broker_types.specs.Status.{status_code}
 use Rattle.broker_types.specs.Token.{Lease, Token}
 use Rattle.broker_types.specs.declared.status.Status.TheVariants as status
 use Rattle.records.specs.Children.{has}
+use Rattle.policies.specs.Reading.{is_policy}
 use Rattle.api_json.specs.declared.lease_bodies.LeaseRenewal.{LeaseRenewal}
+use Rattle.api_json.specs.declared.mount_bodies.MountCreation.{MountCreation}
 use Rattle.api_json.specs.declared.secret_bodies.SecretWrite.{SecretWrite}
 use Rattle.api_json.specs.declared.token_bodies.TokenCreation.{TokenCreation}
 use Rattle.api_json.specs.declared.token_bodies.TokenRenewal.{TokenRenewal}
 use Rattle.broker_model.specs.Command.{Command, command_of, on_cubbyhole, on_issued, on_lease, on_secret, on_token}
-use Rattle.broker_model.specs.Command.{on_mount, on_wrapping}
+use Rattle.broker_model.specs.Command.{on_mount, on_policy, on_wrapping}
 use Rattle.broker_model.specs.Responses.{no_content, ok}
 use Rattle.broker_model.specs.Serving.{is_open}
 use Rattle.broker_model.specs.declared.commands.CubbyholeCommand.{CubbyholeCommand}
@@ -32,6 +34,7 @@ use Rattle.broker_model.specs.declared.commands.IssuedCommand.TheVariants as iss
 use Rattle.broker_model.specs.declared.commands.LeaseCommand.{LeaseCommand}
 use Rattle.broker_model.specs.declared.commands.LeaseCommand.TheVariants as lease
 use Rattle.broker_model.specs.declared.commands.MountCommand.TheVariants as mount
+use Rattle.broker_model.specs.declared.commands.PolicyCommand.TheVariants as policy
 use Rattle.broker_model.specs.declared.commands.SecretCommand.{SecretCommand}
 use Rattle.broker_model.specs.declared.commands.SecretCommand.TheVariants as secret
 use Rattle.broker_model.specs.declared.commands.TokenCommand.{TokenCommand}
@@ -45,6 +48,7 @@ use Rattle.histories.specs.Creations.{AsksNoEnd, HasRoot, HasSudo}
 use Rattle.histories.specs.History.{AreAsked, Asking, AskedAt, History, clocked}
 use Rattle.histories.specs.Kept.{unwrapped_answer}
 use Rattle.histories.specs.Paths.{path_of}
+use Rattle.histories.specs.Settings.{MeansEngine}
 use Rattle.histories.specs.Shown.{IsAccessorOf}
 use Rattle.histories.specs.Versions.{named}
 
@@ -118,11 +122,31 @@ pub record MayWrite (a : Asking) (p : Place) (asked : SecretWrite) : Type 0 wher
       × ((key : Key) → get (clocked a).secrets (named p) ≡ Some key → key.cas_required ≡ false))
   pub low : current < 999999999999999999
 
+-- a token has a lease of this id
+abbrev pub HasLease : Asking → Text → Type 0
+HasLease a lease_id = (t : Text) × (l : Lease) × (lease_of (clocked a) t lease_id ≡ Some l)
+
 -- a token, or the wrapping token of a response that waits, has the accessor
 abbrev pub HasAccessor : Asking → Text → Type 0
 HasAccessor a accessor =
     IsAccessorOf a accessor
     ⊎ ((t : Text) × (w : Waiting) × (get (clocked a).waiting t ≡ Some w) × (w.accessor ≡ accessor))
+
+-- What the command shows is there. The client token and `root` always are, and so are the lists of accessors, of
+-- policies and of mounts, and whether a credential is valid.
+abbrev pub ShowsThere : Asking → Command → Type 0
+ShowsThere a (on_token token.LookUpSelf) = ⊤
+ShowsThere a (on_token (token.LookUpAccessor accessor)) = IsAccessorOf a accessor
+ShowsThere a (on_token token.ListAccessors) = ⊤
+ShowsThere a (on_lease prefix (lease.LookUp lease_id)) = HasLease a lease_id
+ShowsThere a (on_policy name policy.List) = ⊤
+ShowsThere a (on_policy name policy.Show) = (name ≡ codes "root") ⊎ (get (clocked a).policies name ≢ None)
+ShowsThere a (on_mount name mount.List) = ⊤
+ShowsThere a (on_issued place (issued.Verify credential)) = ⊤
+ShowsThere a (on_issued place issued.ShowRole) = get (clocked a).roles (named place) ≢ None
+ShowsThere a (on_secret place secret.ShowSettings) = get (clocked a).mounts place.mount ≢ None
+ShowsThere a (on_secret place secret.ShowMetadata) = get (clocked a).secrets (named place) ≢ None
+ShowsThere a _ = ⊥
 
 -- ---- what is new
 
@@ -142,6 +166,28 @@ identifiers_made a =
 pub record AllNew (a : Asking) : Type 0 where
   pub new : (i : Text) → has (identifiers_made a) i ≡ true → IsNew (clocked a) i
   pub differ : IsDistinct same (identifiers_made a)
+
+-- ---- what may be changed
+
+-- There is no mount of this name, which is one and not reserved, and the type that is asked for means an engine.
+pub record MayEnable (a : Asking) (name : Text) (asked : MountCreation) : Type 0 where
+  pub is_name : is_name name ≡ true
+  pub free : get (clocked a).mounts name ≡ None
+  pub unreserved : (name ≢ codes "sys") × (name ≢ codes "auth") × (name ≢ codes "cubbyhole")
+      × (name ≢ codes "identity")
+  pub engine : Engine
+  pub means : MeansEngine asked engine
+
+-- The names and the text are of the right form, and what is fixed stays.
+abbrev pub MayChange : Asking → Command → Type 0
+MayChange a (on_policy name (policy.Set text)) =
+    (is_name name ≡ true) × (name ≢ codes "root") × (is_policy text ≡ true)
+MayChange a (on_policy name policy.Remove) = (name ≢ codes "root") × (name ≢ codes "default")
+MayChange a (on_issued place (issued.SetRole asked)) = is_name place.path ≡ true
+MayChange a (on_mount name (mount.Enable asked)) = MayEnable a name asked
+MayChange a (on_mount name mount.Disable) =
+    (name ≢ codes "sys") × (name ≢ codes "auth") × (name ≢ codes "cubbyhole")
+MayChange a _ = ⊥
 
 -- ---- what may be made
 
@@ -171,13 +217,12 @@ pub record DoesAllowed (history : History) : Type 0 where
   -- These commands are carried out. So a revocation that is allowed is not refused.
   pub done : (i : ℕ) (a : Asking) (command : Command) → AskedAt history i a → IsAllowed a → a.ask.wrap_ttl ≡ 0
       → command_of (clocked a).mounts a.ask ≡ Ok command → is_done command ≡ true → a.outcome.response ≡ no_content
-  -- So are a revocation by an accessor that is there, and the disabling of a mount, but for three names.
+  -- So are a revocation by an accessor that is there, and a change of a policy, a role or a mount that may be made.
   pub revokes_accessor : (i : ℕ) (a : Asking) (accessor : Text) → AskedAt history i a → IsAllowed a
       → a.ask.wrap_ttl ≡ 0 → command_of (clocked a).mounts a.ask ≡ Ok (on_token (token.RevokeAccessor accessor))
       → HasAccessor a accessor → a.outcome.response ≡ no_content
-  pub disables : (i : ℕ) (a : Asking) (name : Text) → AskedAt history i a → IsAllowed a → a.ask.wrap_ttl ≡ 0
-      → command_of (clocked a).mounts a.ask ≡ Ok (on_mount name mount.Disable) → name ≢ codes "sys"
-      → name ≢ codes "auth" → name ≢ codes "cubbyhole" → a.outcome.response ≡ no_content
+  pub changes : (i : ℕ) (a : Asking) (command : Command) → AskedAt history i a → IsAllowed a → a.ask.wrap_ttl ≡ 0
+      → command_of (clocked a).mounts a.ask ≡ Ok command → MayChange a command → a.outcome.response ≡ no_content
   -- With a wrap TTL and new identifiers, what is allowed has the status that it would have without, if that is below
   -- 400.
   pub wraps : (i : ℕ) (a : Asking) → AskedAt history i a → IsAllowed a → 0 < a.ask.wrap_ttl → AllNew a
@@ -213,23 +258,14 @@ pub record DoesAllowed (history : History) : Type 0 where
   pub renews : (i : ℕ) (a : Asking) (asked : TokenRenewal) (x : Token) → AskedAt history i a → IsAllowed a
       → a.ask.wrap_ttl ≡ 0 → command_of (clocked a).mounts a.ask ≡ Ok (on_token (token.Renew asked))
       → get (clocked a).tokens asked.token ≡ Some x → x.ends ≢ None → a.outcome.response.status ≡ status.Success
-  -- So are both for the client token, a look-up by accessor, and a look-up and a renewal of a lease that a token has.
-  pub looks_up_self : (i : ℕ) (a : Asking) → AskedAt history i a → IsAllowed a → a.ask.wrap_ttl ≡ 0
-      → command_of (clocked a).mounts a.ask ≡ Ok (on_token token.LookUpSelf)
-      → a.outcome.response.status ≡ status.Success
+  -- So is a renewal of the client token, if it has an end, and one of a lease that a token has.
   pub renews_self : (i : ℕ) (a : Asking) (increment : ℕ) → AskedAt history i a → (k : IsAllowed a)
       → a.ask.wrap_ttl ≡ 0 → command_of (clocked a).mounts a.ask ≡ Ok (on_token (token.RenewSelf increment))
       → k.own.ends ≢ None → a.outcome.response.status ≡ status.Success
-  pub looks_up_accessor : (i : ℕ) (a : Asking) (accessor : Text) → AskedAt history i a → IsAllowed a
-      → a.ask.wrap_ttl ≡ 0 → command_of (clocked a).mounts a.ask ≡ Ok (on_token (token.LookUpAccessor accessor))
-      → IsAccessorOf a accessor → a.outcome.response.status ≡ status.Success
-  pub looks_up_lease : (i : ℕ) (a : Asking) (prefix lease_id t : Text) (l : Lease) → AskedAt history i a → IsAllowed a
-      → a.ask.wrap_ttl ≡ 0 → command_of (clocked a).mounts a.ask ≡ Ok (on_lease prefix (lease.LookUp lease_id))
-      → lease_of (clocked a) t lease_id ≡ Some l → a.outcome.response.status ≡ status.Success
-  pub renews_lease : (i : ℕ) (a : Asking) (prefix : Text) (asked : LeaseRenewal) (t : Text) (l : Lease)
-      → AskedAt history i a → IsAllowed a → a.ask.wrap_ttl ≡ 0
-      → command_of (clocked a).mounts a.ask ≡ Ok (on_lease prefix (lease.Renew asked))
-      → lease_of (clocked a) t asked.lease_id ≡ Some l → a.outcome.response.status ≡ status.Success
+  pub renews_lease : (i : ℕ) (a : Asking) (prefix : Text) (asked : LeaseRenewal) → AskedAt history i a
+      → IsAllowed a → a.ask.wrap_ttl ≡ 0
+      → command_of (clocked a).mounts a.ask ≡ Ok (on_lease prefix (lease.Renew asked)) → HasLease a asked.lease_id
+      → a.outcome.response.status ≡ status.Success
   -- So is a creation that may be made, with new identifiers.
   pub creates : (i : ℕ) (a : Asking) (making : Making) (asked : TokenCreation) → AskedAt history i a
       → (k : IsAllowed a) → a.ask.wrap_ttl ≡ 0
@@ -240,6 +276,10 @@ pub record DoesAllowed (history : History) : Type 0 where
       → a.ask.wrap_ttl ≡ 0 → command_of (clocked a).mounts a.ask ≡ Ok (on_issued p issued.Issue)
       → get (clocked a).roles (named p) ≡ Some r → k.own.uses_left ≢ Some 0
       → AreNew a (names_of a.words).lease (names_of a.words).credential → a.outcome.response.status ≡ status.Success
+  -- So are the lists and look-ups of what else is there.
+  pub shows : (i : ℕ) (a : Asking) (command : Command) → AskedAt history i a → IsAllowed a → a.ask.wrap_ttl ≡ 0
+      → command_of (clocked a).mounts a.ask ≡ Ok command → ShowsThere a command
+      → a.outcome.response.status ≡ status.Success
   -- And so is a read of an object that is in the cubbyhole of the client token.
   pub reads_own : (i : ℕ) (a : Asking) (path : Text) → AskedAt history i a → (k : IsAllowed a) → a.ask.wrap_ttl ≡ 0
       → command_of (clocked a).mounts a.ask ≡ Ok (on_cubbyhole path cubbyhole.Read)
