@@ -1,8 +1,9 @@
 -- What is allowed is done: some commands always, some where what they ask for is there.
 use Rattle.std.specs.Prelude.{◌≡◌, ◌≢◌, ◌⊎◌, ◌<◌, ◌==◌, ◌||◌, ℕ, [], Bool, true, false, nat_lt}
 use Rattle.std.specs.Prelude.{is_some, if◌then◌else◌, Option, Some, None, Result, Ok, option_and_then, option_map, ⊤}
-use Rattle.std.specs.Prelude.{◌-◌, not}
+use Rattle.std.specs.Prelude.{◌-◌, ◌++◌, ◌∷◌, List, nat_eq, not}
 use Rattle.std.specs.FinMap as fin
+use Rattle.std.specs.List.{starts_with}
 use Rattle.std.specs.Option.{option_map_or}
 use Rattle.std.proofs.Common.{refl, sym, ◌∙◌, ap, subst, inl, inr}
 use Rattle.std.proofs.lemmas.Bool.{eq-eqb, eqb-true, false_from_ne_true, false≢true, lt-ltb}
@@ -10,7 +11,7 @@ use Rattle.std.proofs.lemmas.Option.{none-some}
 use Rattle.broker_types.specs.Text.{Text, same}
 use Rattle.broker_types.specs.TextLaws.{same_self}
 use Rattle.broker_types.specs.Limits.{greatest_version}
-use Rattle.broker_types.specs.Map.{Map, entries, get, put, without}
+use Rattle.broker_types.specs.Map.{Map, entries, get, keys, put, without}
 use Rattle.broker_types.specs.MapLaws.{get-change}
 use Rattle.broker_types.specs.Answer.{Response}
 use Rattle.broker_types.specs.Broker.{Broker, Mount, Role}
@@ -31,6 +32,8 @@ use Rattle.broker_types.specs.declared.refusal.Refusal.{Refusal}
 use Rattle.broker_types.specs.declared.refusal.Refusal.TheVariants as refusal
 use Rattle.broker_types.specs.declared.reply.Reply.{Reply}
 use Rattle.broker_types.specs.declared.status.Status.TheVariants as status
+use Rattle.records.specs.Children.{children, folder}
+use Rattle.records.specs.Splits.{slash}
 use Rattle.records.specs.TokenEntry.{token_entry}
 use Rattle.token_tree.specs.Laws.{AccessorsNameTheirTokens}
 use Rattle.token_tree.specs.Tokens as tree
@@ -72,6 +75,7 @@ use Rattle.broker_model.specs.declared.commands.TokenCommand.TheVariants as of_t
 use Rattle.broker_model.specs.declared.making.Making.{Making}
 use Rattle.broker_model.specs.parts.Issued.{given, issue}
 use Rattle.broker_model.specs.parts.Leases as of_leases
+use Rattle.broker_model.specs.parts.Lists.{are_none, list_reply, listed}
 use Rattle.broker_model.specs.parts.Mounts.{without_kept}
 use Rattle.broker_model.specs.parts.Place.{Place}
 use Rattle.broker_model.specs.parts.SecretReplies.{metadata_reply, object_left, settings_reply, version_answered}
@@ -88,6 +92,7 @@ use Rattle.histories.specs.Shown.{IsAccessorOf}
 use Rattle.histories.specs.Versions.{named}
 use Rattle.histories.proofs.Carried.{answers, carried_for, without_ttl}
 use Rattle.histories.proofs.Found.{both_new, comes, goes, held_by_token, held_by_waiting, lease_found, removes, sets}
+use Rattle.histories.proofs.Listed.{has_children, no_cons}
 use Rattle.histories.proofs.MayCreate.{created}
 use Rattle.histories.proofs.Placed.{one_place_still}
 use Rattle.histories.proofs.ReadsEnded.{current_is, number_is}
@@ -538,6 +543,32 @@ module _ (decide : PoliciesDecide) (a : Asking) (is : a.outcome ≡ step a.broke
   shown_there command means own free (Some x) there go acts =
       replied command means (ap (are_new here.used) own) free (plainly (reply (go x) None) here) (go x) None acts refl
 
+  list_there : (command : Command) → command_of (clocked a).mounts a.ask ≡ Ok command
+      → (traits command).own (names_of a.words) ≡ [] → (traits command).must_wrap ≡ false → (ts : List Text)
+      → are_none ts ≡ false
+      → act here (Some k.caller) (names_of a.words) command ≡ listed here (names_of a.words) ts
+      → a.outcome.response.status ≡ status.Success
+  list_there command means own free ts some acts =
+      let d = plainly (reply (list_reply (names_of a.words).request ts) None) here in
+      replied command means (ap (are_new here.used) own) free d _ None
+      (acts ∙ ap (λ v. unless (not v) refusal.NotFound >>= (λ u. Ok d)) some) refl
+
+  list_own : (path q : Text) → command_of (clocked a).mounts a.ask ≡ Ok (on_cubbyhole path of_cubbyhole.List)
+      → get k.own.cubbyhole q ≢ None → (path ≡ []) ⊎ (starts_with nat_eq q (path ++ slash ∷ []) ≡ true)
+      → a.outcome.response.status ≡ status.Success
+  list_own path q means some is =
+      list_there (on_cubbyhole path of_cubbyhole.List) means refl refl
+      (children (folder path) (keys k.own.cubbyhole))
+      (has_children k.own.cubbyhole (folder path) q some (begins path is))
+      (ap (λ (o : Option Token). listed here (names_of a.words) (children (folder path)
+      (option_map_or (λ (x : Token). keys x.cubbyhole) o []))) k.calls.there)
+    where
+      begins : (path : Text) → (path ≡ []) ⊎ (starts_with nat_eq q (path ++ slash ∷ []) ≡ true)
+          → starts_with nat_eq q (folder path) ≡ true
+      begins [] is = refl
+      begins (c ∷ path) (inl none) = absurd (no_cons c path none)
+      begins (c ∷ path) (inr at) = at
+
   show : AccessorsNameTheirTokens → OnePlaceEach a.broker → (command : Command)
       → command_of (clocked a).mounts a.ask ≡ Ok command → ShowsThere a command
       → a.outcome.response.status ≡ status.Success
@@ -572,6 +603,17 @@ module _ (decide : PoliciesDecide) (a : Asking) (is : a.outcome ≡ step a.broke
   show accessors one (on_secret p of_secret.ShowSettings) means there =
       shown_there (on_secret p of_secret.ShowSettings) means refl refl (get here.mounts p.mount) there
       (settings_reply (names_of a.words).request) refl
+  show accessors one (on_secret p of_secret.List) means (q, some, is) =
+      list_there (on_secret p of_secret.List) means refl refl
+      (children (secret_name p.mount (folder p.path)) (keys here.secrets))
+      (has_children here.secrets (secret_name p.mount (folder p.path)) q some (begins p.path refl))
+      refl
+    where
+      begins : (path : Text) → p.path ≡ path → starts_with nat_eq q (secret_name p.mount (folder path)) ≡ true
+      begins [] at = is.inside at
+      begins (c ∷ path) at =
+          ap (λ u. starts_with nat_eq q (p.mount ++ slash ∷ (u ++ slash ∷ []))) (sym at)
+          ∙ is.below (λ none. no_cons c path (sym at ∙ none))
   show accessors one (on_secret p of_secret.ShowMetadata) means there =
       shown_there (on_secret p of_secret.ShowMetadata) means refl refl (secrets.metadata here p.mount p.path)
       (λ none. there (mapped_none metadata_of (get here.secrets (named p)) none))
@@ -663,6 +705,8 @@ does_allowed decide accessors granted root b history h = record {
       look_up_token decide a (asked_at b history i a h at).outcome k none t means some;
   renews = λ i a asked x at k none means there some.
       renew decide a (asked_at b history i a h at).outcome k none asked x means there some;
+  lists_own = λ i a path q at k none means some is.
+      list_own decide a (asked_at b history i a h at).outcome k none path q means some is;
   reads_own = λ i a path at k none means some.
       read_own decide a (asked_at b history i a h at).outcome k none path means some;
 }

@@ -25,6 +25,7 @@ pub mod LeaseRoutes
 pub mod LeasesDue
 pub mod LeasesGone
 pub mod LeasesRevoked
+pub mod Listed
 pub mod Marked
 pub mod MayCreate
 pub mod OpenRequests

@@ -1,22 +1,24 @@
--- The law that what is allowed is done, as a statement: of requests without a wrap TTL, some are refused only where
--- policies refuse them, and some only where what they ask for is not there or may not be made (Vault's documentation,
--- "Tokens"; "Token auth method (API)", create token; "Lease, renew, and revoke"; "Response wrapping"; "/sys/mounts";
--- "KV secrets engine - version 2 (API)"; "Cubbyhole secrets engine (API)").
-use Rattle.std.specs.Prelude.{◌≡◌, ◌≢◌, ◌⊎◌, ◌<◌, ℕ, List, [], ◌∷◌, Bool, true, false, Some, None, Ok, codes, ⊤}
+-- The law that what is allowed is done, as a statement: some requests are refused only where policies refuse them, and
+-- the others only where what they ask for is not there or may not be made (Vault's documentation, "Tokens"; "Token auth
+-- method (API)"; "Lease, renew, and revoke"; "Response wrapping"; "/sys/policies"; "/sys/mounts"; "KV secrets engine -
+-- version 2 (API)"; "Cubbyhole secrets engine (API)"; the engine that issues credentials is this project's).
+use Rattle.std.specs.Prelude.{◌≡◌, ◌≢◌, ◌⊎◌, ◌<◌, ◌++◌, nat_eq, ℕ, List, [], ◌∷◌, Bool, true, false, Some, None, Ok}
+use Rattle.std.specs.Prelude.{codes, ⊤}
 use Rattle.std.specs.FinMap as fin
-use Rattle.std.specs.List.{IsDistinct}
+use Rattle.std.specs.List.{IsDistinct, starts_with}
 use Rattle.broker_types.specs.Text.{Text, same}
 use Rattle.broker_types.specs.Map.{get}
 use Rattle.broker_types.specs.Broker.{Broker, Engine, Mount, Role, Waiting}
 use Rattle.broker_types.specs.Evolves.{IsNew}
 use Rattle.broker_types.specs.Name.{is_name}
 use Rattle.broker_types.specs.Names.{names_of}
-use Rattle.broker_types.specs.Secret.{Key, Version}
 use Rattle.broker_types.specs.Places.{lease_of}
+use Rattle.broker_types.specs.Secret.{Key, Version}
 use Rattle.broker_types.specs.Status.{status_code}
 use Rattle.broker_types.specs.Token.{Lease, Token}
 use Rattle.broker_types.specs.declared.status.Status.TheVariants as status
 use Rattle.records.specs.Children.{has}
+use Rattle.records.specs.Splits.{slash}
 use Rattle.policies.specs.Reading.{is_policy}
 use Rattle.api_json.specs.declared.lease_bodies.LeaseRenewal.{LeaseRenewal}
 use Rattle.api_json.specs.declared.mount_bodies.MountCreation.{MountCreation}
@@ -132,8 +134,13 @@ HasAccessor a accessor =
     IsAccessorOf a accessor
     ⊎ ((t : Text) × (w : Waiting) × (get (clocked a).waiting t ≡ Some w) × (w.accessor ≡ accessor))
 
--- What the command shows is there. The client token and `root` always are, and so are the lists of accessors, of
--- policies and of mounts, and whether a credential is valid.
+-- The name is below the path in the mount, or in it where the path is empty.
+pub record IsBelow (p : Place) (q : Text) : Type 0 where
+  pub below : p.path ≢ [] → starts_with nat_eq q (p.mount ++ slash ∷ (p.path ++ slash ∷ [])) ≡ true
+  pub inside : p.path ≡ [] → starts_with nat_eq q (p.mount ++ slash ∷ []) ≡ true
+
+-- What the command shows is there: for the list of a folder, something below it. The client token and `root` always
+-- are, and so are the lists of accessors, of policies and of mounts, and whether a credential is valid.
 abbrev pub ShowsThere : Asking → Command → Type 0
 ShowsThere a (on_token token.LookUpSelf) = ⊤
 ShowsThere a (on_token (token.LookUpAccessor accessor)) = IsAccessorOf a accessor
@@ -145,6 +152,8 @@ ShowsThere a (on_mount name mount.List) = ⊤
 ShowsThere a (on_issued place (issued.Verify credential)) = ⊤
 ShowsThere a (on_issued place issued.ShowRole) = get (clocked a).roles (named place) ≢ None
 ShowsThere a (on_secret place secret.ShowSettings) = get (clocked a).mounts place.mount ≢ None
+ShowsThere a (on_secret place secret.List) =
+    (q : Text) × (get (clocked a).secrets q ≢ None) × IsBelow place q
 ShowsThere a (on_secret place secret.ShowMetadata) = get (clocked a).secrets (named place) ≢ None
 ShowsThere a _ = ⊥
 
@@ -280,10 +289,14 @@ pub record DoesAllowed (history : History) : Type 0 where
   pub shows : (i : ℕ) (a : Asking) (command : Command) → AskedAt history i a → IsAllowed a → a.ask.wrap_ttl ≡ 0
       → command_of (clocked a).mounts a.ask ≡ Ok command → ShowsThere a command
       → a.outcome.response.status ≡ status.Success
-  -- And so is a read of an object that is in the cubbyhole of the client token.
+  -- And so are a read of an object that is in the cubbyhole of the client token, and a list of a folder there.
   pub reads_own : (i : ℕ) (a : Asking) (path : Text) → AskedAt history i a → (k : IsAllowed a) → a.ask.wrap_ttl ≡ 0
       → command_of (clocked a).mounts a.ask ≡ Ok (on_cubbyhole path cubbyhole.Read)
       → get k.own.cubbyhole path ≢ None → a.outcome.response.status ≡ status.Success
+  pub lists_own : (i : ℕ) (a : Asking) (path q : Text) → AskedAt history i a → (k : IsAllowed a) → a.ask.wrap_ttl ≡ 0
+      → command_of (clocked a).mounts a.ask ≡ Ok (on_cubbyhole path cubbyhole.List) → get k.own.cubbyhole q ≢ None
+      → (path ≡ []) ⊎ (starts_with nat_eq q (path ++ slash ∷ []) ≡ true)
+      → a.outcome.response.status ≡ status.Success
 
 -- whatever the first broker is
 abbrev pub AllDoAllowed : Type 0

@@ -207,10 +207,11 @@ pub fn look_ups_show_what_there_is()
 }
 
 /// A law: of requests without a wrap TTL that policies allow, revocations by a text, deletions and others are carried
-/// out. So are a look-up, a read, a renewal and a revocation by accessor of what is there, a write that check-and-set
-/// lets pass, a creation by a token that may make it, and `creds` of a role that is there. An unwrap of a response that
-/// waits hands it out, with a wrap TTL too (Vault's documentation, "Tokens", "Response wrapping", "Lease, renew, and
-/// revoke", "KV secrets engine - version 2 (API)").
+/// out. So are a look-up, a read, a list, a renewal and a revocation by accessor of what is there, a write that
+/// check-and-set lets pass, a change of a policy, a role or a mount that may be made, a creation by a token that may
+/// make it, and `creds` of a role that is there. A wrap TTL changes none of that where the identifiers are new. An
+/// unwrap of a response that waits hands it out, with a wrap TTL too (Vault's documentation, "Tokens", "Response
+/// wrapping", "Lease, renew, and revoke", "KV secrets engine - version 2 (API)").
 pub fn allowed_requests_are_carried_out()
     ensures { AllDoAllowed }
 {
