@@ -28,6 +28,7 @@ pub mod LeasesRevoked
 pub mod Listed
 pub mod Marked
 pub mod MayCreate
+pub mod MountRoutes
 pub mod OpenRequests
 pub mod OrderCases
 pub mod OrderKeeps

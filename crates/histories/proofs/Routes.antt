@@ -100,22 +100,32 @@ OpenedAreRoutes =
     → (mounts : Map Mount) → route_of mounts v path ≡ Ok (fixed_route (cut path).0 o)
 
 module _ (found : FoundByForm) (none : NoneFoundByForm) (ordered : AreInOrder) where
-  -- the route of a path, where the row of the pattern has this operation
-  routed : (type : MountType) (v : Verb) (name rest path pattern p : Text) (operation : Operation)
-      → ((o : Option Mount) → type_at o name ≡ Some type) → cut path ≡ (name, rest) → are_bytes rest ≡ true
-      → StandsFor (route_rows type) pattern rest → operation_for (route_rows type) pattern v ≡ Some operation
-      → parameter pattern rest ≡ p → (mounts : Map Mount) → route_of mounts v path ≡ Ok (route_to name operation p)
+  -- the route of a path, where the row of the pattern has this operation, and these mounts make the mount of this type
+  pub routed_at : (type : MountType) (v : Verb) (name rest path pattern p : Text) (operation : Operation)
+      (mounts : Map Mount) → type_at (get mounts name) name ≡ Some type → cut path ≡ (name, rest)
+      → are_bytes rest ≡ true → StandsFor (route_rows type) pattern rest
+      → operation_for (route_rows type) pattern v ≡ Some operation → parameter pattern rest ≡ p
+      → route_of mounts v path ≡ Ok (route_to name operation p)
   unfolding route_at
-  routed type v name rest path pattern p operation there at bytes stands row parameter_is mounts =
-      let o = get mounts (cut path).0 in
+  routed_at type v name rest path pattern p operation mounts there at bytes stands row parameter_is =
       let rows = route_rows type in
-      ap (λ (q : Text × Text). some_or refusal.NotFound (type_at o q.0) >>= (λ t. within (route_rows t) v q.0 q.1)) at
-      ∙ ap (λ z. some_or refusal.NotFound z >>= (λ t. within (route_rows t) v name rest)) (there o)
+      ap (λ (q : Text × Text). some_or refusal.NotFound (type_at (get mounts q.0) q.0)
+      >>= (λ t. within (route_rows t) v q.0 q.1)) at
+      ∙ ap (λ z. some_or refusal.NotFound z >>= (λ t. within (route_rows t) v name rest)) there
       ∙ ap (λ z. some_or refusal.NotFound z >>= route_by rows v name rest)
       (found_alone found none rows rest pattern (ordered type) bytes stands.listed stands.form stands.alone)
       ∙ ap (λ z. some_or (refusal.MethodNotAllowed (methods_of rows pattern)) z
       >>= (λ (x : Operation). Ok (route_to name x (parameter pattern rest)))) row
       ∙ ap (λ q. Ok (route_to name operation q)) parameter_is
+
+  -- the same of a mount that is always there
+  routed : (type : MountType) (v : Verb) (name rest path pattern p : Text) (operation : Operation)
+      → ((o : Option Mount) → type_at o name ≡ Some type) → cut path ≡ (name, rest) → are_bytes rest ≡ true
+      → StandsFor (route_rows type) pattern rest → operation_for (route_rows type) pattern v ≡ Some operation
+      → parameter pattern rest ≡ p → (mounts : Map Mount) → route_of mounts v path ≡ Ok (route_to name operation p)
+  routed type v name rest path pattern p operation there at bytes stands row parameter_is mounts =
+      routed_at type v name rest path pattern p operation mounts (there (get mounts name)) at bytes stands row
+      parameter_is
 
   pub opened_are_routes : OpenedAreRoutes
   unfolding operation_at

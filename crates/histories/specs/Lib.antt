@@ -13,6 +13,7 @@ pub mod LeaseEnds
 pub mod LeaseOwners
 pub mod LeasePaths
 pub mod Lifetimes
+pub mod MountPaths
 pub mod Open
 pub mod Own
 pub mod Paths

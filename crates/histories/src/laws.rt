@@ -14,6 +14,7 @@ ghost use Rattle.histories.specs.KeptStay.{AllKeptResponsesStay};
 ghost use Rattle.histories.specs.LeaseEnds.{AllLeasesStayRevoked};
 ghost use Rattle.histories.specs.Open.{OpenMeansItsOwn, OpenChangesNoToken, TheseAreOpen};
 ghost use Rattle.histories.specs.LeasePaths.{PathsEndLeases};
+ghost use Rattle.histories.specs.MountPaths.{PathsOfIssued, PathsOfSecrets, PathsOfSettings};
 ghost use Rattle.histories.specs.Paths.{CreatesAtPath, PathsMeanCommands};
 ghost use Rattle.histories.specs.Refused.{RefusedChangeNothing, WrapNeedsTtl, PoliciesDecide};
 ghost use Rattle.histories.specs.Secrets.{AllSecretsStay};
@@ -114,14 +115,17 @@ pub fn open_requests_mean_their_own()
     tables_are_in_order();
 }
 
-/// A law: the paths of `sys/wrapping`, those of `auth/token`, those of `sys/leases` and the disabling of a mount, and
-/// GET and DELETE of a cubbyhole's path mean their commands, whatever mounts there are. So what a law says of an unwrap
-/// or a revocation, it says of these requests. And an ask that means a creation is one of the path that makes tokens so
-/// (Vault's documentation, "/sys/wrapping", "Token auth method (API)", "/sys/leases", "/sys/mounts", "Cubbyhole secrets
-/// engine (API)").
+/// A law: each path of the table means its command. Those of `sys`, `auth` and `cubbyhole` do so whatever mounts there
+/// are, and those below the name of another mount by its engine. So what a law says of an unwrap, a revocation or a
+/// deletion, it says of these requests. And an ask that means a creation is one of the path that makes tokens so
+/// (Vault's documentation, "/sys/wrapping", "Token auth method (API)", "/sys/leases", "/sys/policies", "/sys/mounts",
+/// "KV secrets engine - version 2 (API)", "Cubbyhole secrets engine (API)").
 pub fn paths_mean_their_commands()
     ensures commands { PathsMeanCommands }
     ensures ends_of_leases { PathsEndLeases }
+    ensures secrets { PathsOfSecrets }
+    ensures credentials { PathsOfIssued }
+    ensures settings { PathsOfSettings }
     ensures creations { CreatesAtPath }
 {
     patterns_are_found_by_form();

@@ -1,5 +1,6 @@
 use Rattle.histories.proofs.CreationRoutes.{creates_at}
 use Rattle.histories.proofs.LeaseRoutes.{paths_end_leases}
+use Rattle.histories.proofs.MountRoutes.{paths_of_issued, paths_of_secrets, paths_of_settings}
 use Rattle.histories.proofs.Routes.{paths_mean_commands}
 use Rattle.histories.proofs.laws.paths_mean_their_commands.Goals as goal
 
@@ -10,5 +11,8 @@ returns c =
     record {
       commands = paths_mean_commands by.found by.none ordered;
       ends_of_leases = paths_end_leases by.found by.none ordered;
+      secrets = paths_of_secrets by.found by.none ordered;
+      credentials = paths_of_issued by.found by.none ordered;
+      settings = paths_of_settings by.found by.none ordered;
       creations = creates_at by.found ordered;
     }

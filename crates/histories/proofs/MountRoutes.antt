@@ -1,0 +1,202 @@
+-- What the paths mean in a mount that was enabled, and those of policies, of mounts and of cubbyholes.
+use Rattle.std.specs.Prelude.{◌≡◌, ◌==◌, ◌&&◌, ◌||◌, ◌++◌, [], ◌∷◌, ℕ, Bool, true, false, not, Option, Some, None}
+use Rattle.std.specs.Prelude.{Result, codes, if◌then◌else◌, unwrap_or}
+use Rattle.std.specs.List.{list_all}
+use Rattle.std.proofs.Common.{refl, ◌∙◌, ap, arith}
+use Rattle.std.proofs.lemmas.Bool.{and_parts, false≢true}
+use Rattle.std.proofs.lemmas.Bool.Decides.{nat_tests}
+use Rattle.broker_types.specs.Name.{is_mount_name, is_name, is_name_byte}
+use Rattle.broker_types.specs.Broker.{Engine, Mount, issued, kv}
+use Rattle.broker_types.specs.Refuse.{◌>>=◌}
+use Rattle.broker_types.specs.Text.{Text, same}
+use Rattle.broker_types.specs.declared.ask.Verb.{Verb}
+use Rattle.broker_types.specs.declared.ask.Verb.TheVariants as verb
+use Rattle.broker_types.specs.declared.refusal.Refusal.{Refusal}
+use Rattle.records.specs.Rows.{or_else}
+use Rattle.records.specs.SplitLaws.{split-lacking}
+use Rattle.records.specs.Splits.{lacks, slash}
+use Rattle.mounts.specs.Forms.{are_bytes, parameter}
+use Rattle.mounts.specs.Laws.{AreInOrder, FoundByForm, NoneFoundByForm}
+use Rattle.mounts.specs.Route.{Route, operation_for, route_of}
+use Rattle.mounts.specs.Table.{route_rows}
+use Rattle.mounts.specs.Types.{engine_type, fixed_type, type_at, type_of}
+use Rattle.mounts.specs.declared.mount_type.MountType.{MountType}
+use Rattle.mounts.specs.declared.mount_type.MountType.TheVariants as type
+use Rattle.mounts.specs.declared.operation.CubbyholeOperation.TheVariants as of_cubbyholes
+use Rattle.mounts.specs.declared.operation.IssuedOperation.TheVariants as of_issued
+use Rattle.mounts.specs.declared.operation.MountOperation.TheVariants as of_mounts
+use Rattle.mounts.specs.declared.operation.Operation.{Operation}
+use Rattle.mounts.specs.declared.operation.Operation.TheVariants.{Cubbyholes, Issued, Mounts, Policies, Secrets}
+use Rattle.mounts.specs.declared.operation.PolicyOperation.TheVariants as of_policies
+use Rattle.mounts.specs.declared.operation.SecretOperation.TheVariants as of_secrets
+use Rattle.broker_model.specs.Command.{Command, command_for}
+use Rattle.histories.specs.MountPaths.{MeansIn, PathsOfIssued, PathsOfSecrets, PathsOfSettings}
+use Rattle.histories.proofs.Routes.{StandsFor, asked, route_to, routed_at}
+
+-- ---- the name of a mount
+
+weaker : (p q : ℕ → Bool) → ((x : ℕ) → p x ≡ true → q x ≡ true) → (xs : Text) → list_all p xs ≡ true
+    → list_all q xs ≡ true
+weaker p q h [] e = refl
+weaker p q h (x ∷ xs) e = λ i. h x (and_parts _ _ e).0 i && weaker p q h xs (and_parts _ _ e).1 i
+
+name_byte : (x : ℕ) → is_name_byte x ≡ true → not (x == slash) ≡ true
+name_byte x h = grind (arith, nat_tests)
+
+-- it has no slash
+name_lacks : (name : Text) → is_mount_name name ≡ true → lacks slash name ≡ true
+name_lacks name h =
+    weaker is_name_byte (λ x. not (x == slash)) name_byte name
+    (and_parts _ _ (and_parts _ _ (and_parts (is_name name) _ h).0).1).1
+
+-- and is none of those that are always there
+not_fixed : (name : Text) → is_mount_name name ≡ true → fixed_type name ≡ None
+not_fixed name h =
+    by (same name (codes "sys")) (same name (codes "auth")) (same name (codes "cubbyhole"))
+    (same name (codes "identity")) (and_parts (is_name name) _ h).1
+  where
+    by : (x y z w : Bool) → not (x || (y || (z || (w || false)))) ≡ true
+        → (if y then Some type.Token else (if x then Some type.System else (if z then Some type.Cubbyhole else None)))
+        ≡ None
+    by true y z w h = absurd (false≢true h)
+    by false true z w h = absurd (false≢true h)
+    by false false true w h = absurd (false≢true h)
+    by false false false w h = refl
+
+-- ---- paths below it
+
+module _ (found : FoundByForm) (none : NoneFoundByForm) (ordered : AreInOrder) where
+  -- what the verb means there
+  in_mount : (engine : Engine) (v : Verb) (rest pattern p : Text) (operation : Operation) → are_bytes rest ≡ true
+      → StandsFor (route_rows (engine_type engine)) pattern rest
+      → operation_for (route_rows (engine_type engine)) pattern v ≡ Some operation → parameter pattern rest ≡ p
+      → MeansIn engine v rest (λ name. command_for (route_to name operation p))
+  in_mount engine v rest pattern p operation bytes stands row parameter_is mounts m name a there is named verb_is here =
+      let go : Result Route Refusal → Result Command Refusal = λ x. x >>= (λ r. command_for r a) in
+      let path = name ++ slash ∷ rest in
+      ap (λ q. go (route_of mounts a.verb q)) here
+      ∙ ap (λ w. go (route_of mounts w path)) verb_is
+      ∙ ap go (routed_at found none ordered (engine_type engine) v name rest path pattern p operation mounts
+      (ap (λ (o : Option Mount). type_at o name) there
+      ∙ ap (λ (t : Option MountType). or_else t (Some (type_of m))) (not_fixed name named)
+      ∙ ap (λ (e : Engine). Some (engine_type e)) is)
+      (ap (λ (o : Option (Text × Text)). unwrap_or o (path, []))
+      (split-lacking slash name rest (name_lacks name named)))
+      bytes stands row parameter_is)
+
+  pub paths_of_secrets : PathsOfSecrets
+  unfolding same
+  paths_of_secrets = record {
+    show_settings =
+        in_mount kv verb.Get (codes "config") (codes "config") [] (Secrets of_secrets.ShowSettings) refl
+        (record { listed = refl; form = refl; alone = refl }) refl refl;
+    set_settings =
+        in_mount kv verb.Write (codes "config") (codes "config") [] (Secrets of_secrets.SetSettings) refl
+        (record { listed = refl; form = refl; alone = refl }) refl refl;
+    read =
+        λ c path bytes. in_mount kv verb.Get (codes "data/" ++ c ∷ path) (codes "data/{*path}") (c ∷ path)
+        (Secrets of_secrets.Read) bytes (record { listed = refl; form = refl; alone = refl }) refl refl;
+    write =
+        λ c path bytes. in_mount kv verb.Write (codes "data/" ++ c ∷ path) (codes "data/{*path}") (c ∷ path)
+        (Secrets of_secrets.Write) bytes (record { listed = refl; form = refl; alone = refl }) refl refl;
+    delete_current =
+        λ c path bytes. in_mount kv verb.Delete (codes "data/" ++ c ∷ path) (codes "data/{*path}") (c ∷ path)
+        (Secrets of_secrets.DeleteCurrent) bytes (record { listed = refl; form = refl; alone = refl }) refl refl;
+    delete =
+        λ c path bytes. in_mount kv verb.Write (codes "delete/" ++ c ∷ path) (codes "delete/{*path}") (c ∷ path)
+        (Secrets of_secrets.Delete) bytes (record { listed = refl; form = refl; alone = refl }) refl refl;
+    undelete =
+        λ c path bytes. in_mount kv verb.Write (codes "undelete/" ++ c ∷ path) (codes "undelete/{*path}") (c ∷ path)
+        (Secrets of_secrets.Undelete) bytes (record { listed = refl; form = refl; alone = refl }) refl refl;
+    destroy =
+        λ c path bytes. in_mount kv verb.Write (codes "destroy/" ++ c ∷ path) (codes "destroy/{*path}") (c ∷ path)
+        (Secrets of_secrets.Destroy) bytes (record { listed = refl; form = refl; alone = refl }) refl refl;
+    list_whole =
+        in_mount kv verb.List (codes "metadata") (codes "metadata") [] (Secrets of_secrets.List) refl
+        (record { listed = refl; form = refl; alone = refl }) refl refl;
+    list =
+        λ c path bytes. in_mount kv verb.List (codes "metadata/" ++ c ∷ path) (codes "metadata/{*path}") (c ∷ path)
+        (Secrets of_secrets.List) bytes (record { listed = refl; form = refl; alone = refl }) refl refl;
+    show_metadata =
+        λ c path bytes. in_mount kv verb.Get (codes "metadata/" ++ c ∷ path) (codes "metadata/{*path}") (c ∷ path)
+        (Secrets of_secrets.ShowMetadata) bytes (record { listed = refl; form = refl; alone = refl }) refl refl;
+    set_metadata =
+        λ c path bytes. in_mount kv verb.Write (codes "metadata/" ++ c ∷ path) (codes "metadata/{*path}") (c ∷ path)
+        (Secrets of_secrets.SetMetadata) bytes (record { listed = refl; form = refl; alone = refl }) refl refl;
+    remove =
+        λ c path bytes. in_mount kv verb.Delete (codes "metadata/" ++ c ∷ path) (codes "metadata/{*path}") (c ∷ path)
+        (Secrets of_secrets.Remove) bytes (record { listed = refl; form = refl; alone = refl }) refl refl;
+  }
+
+  pub paths_of_issued : PathsOfIssued
+  unfolding same
+  paths_of_issued = record {
+    show_role =
+        λ c name bytes one. in_mount issued verb.Get (codes "roles/" ++ c ∷ name) (codes "roles/{name}") (c ∷ name)
+        (Issued of_issued.ShowRole) bytes (record { listed = refl; form = one; alone = refl }) refl refl;
+    set_role =
+        λ c name bytes one. in_mount issued verb.Write (codes "roles/" ++ c ∷ name) (codes "roles/{name}") (c ∷ name)
+        (Issued of_issued.SetRole) bytes (record { listed = refl; form = one; alone = refl }) refl refl;
+    remove_role =
+        λ c name bytes one. in_mount issued verb.Delete (codes "roles/" ++ c ∷ name) (codes "roles/{name}") (c ∷ name)
+        (Issued of_issued.RemoveRole) bytes (record { listed = refl; form = one; alone = refl }) refl refl;
+    issue =
+        λ c name bytes one. in_mount issued verb.Get (codes "creds/" ++ c ∷ name) (codes "creds/{name}") (c ∷ name)
+        (Issued of_issued.Issue) bytes (record { listed = refl; form = one; alone = refl }) refl refl;
+    verify =
+        in_mount issued verb.Write (codes "verify") (codes "verify") [] (Issued of_issued.Verify) refl
+        (record { listed = refl; form = refl; alone = refl }) refl refl;
+  }
+
+  -- ---- paths that are always there
+
+  pub paths_of_settings : PathsOfSettings
+  unfolding same
+  paths_of_settings = record {
+    list_policies =
+        asked found none ordered type.System verb.List (codes "sys") (codes "policies/acl")
+        (codes "sys/policies/acl") (codes "policies/acl") []
+        (Policies of_policies.List) (λ o. refl) refl refl (record { listed = refl; form = refl; alone = refl }) refl
+        refl;
+    show_policy =
+        λ c name bytes one. asked found none ordered type.System verb.Get (codes "sys")
+        (codes "policies/acl/" ++ c ∷ name)
+        (codes "sys/policies/acl/" ++ c ∷ name) (codes "policies/acl/{name}") (c ∷ name)
+        (Policies of_policies.Show) (λ o. refl) refl bytes (record { listed = refl; form = one; alone = refl }) refl
+        refl;
+    set_policy =
+        λ c name bytes one. asked found none ordered type.System verb.Write (codes "sys")
+        (codes "policies/acl/" ++ c ∷ name)
+        (codes "sys/policies/acl/" ++ c ∷ name) (codes "policies/acl/{name}") (c ∷ name)
+        (Policies of_policies.Set) (λ o. refl) refl bytes (record { listed = refl; form = one; alone = refl }) refl
+        refl;
+    remove_policy =
+        λ c name bytes one. asked found none ordered type.System verb.Delete (codes "sys")
+        (codes "policies/acl/" ++ c ∷ name)
+        (codes "sys/policies/acl/" ++ c ∷ name) (codes "policies/acl/{name}") (c ∷ name)
+        (Policies of_policies.Remove) (λ o. refl) refl bytes (record { listed = refl; form = one; alone = refl }) refl
+        refl;
+    list_mounts =
+        asked found none ordered type.System verb.Get (codes "sys") (codes "mounts") (codes "sys/mounts")
+        (codes "mounts") []
+        (Mounts of_mounts.List) (λ o. refl) refl refl (record { listed = refl; form = refl; alone = refl }) refl refl;
+    enable_mount =
+        λ c name bytes one. asked found none ordered type.System verb.Write (codes "sys") (codes "mounts/" ++ c ∷ name)
+        (codes "sys/mounts/" ++ c ∷ name) (codes "mounts/{name}") (c ∷ name)
+        (Mounts of_mounts.Enable) (λ o. refl) refl bytes (record { listed = refl; form = one; alone = refl }) refl
+        refl;
+    write_object =
+        λ c path bytes. asked found none ordered type.Cubbyhole verb.Write (codes "cubbyhole") (c ∷ path)
+        (codes "cubbyhole/" ++ c ∷ path) (codes "{*path}") (c ∷ path)
+        (Cubbyholes of_cubbyholes.Write) (λ o. refl) refl bytes (record { listed = refl; form = refl; alone = refl })
+        refl refl;
+    list_objects =
+        λ c path bytes. asked found none ordered type.Cubbyhole verb.List (codes "cubbyhole") (c ∷ path)
+        (codes "cubbyhole/" ++ c ∷ path) (codes "{*path}") (c ∷ path)
+        (Cubbyholes of_cubbyholes.List) (λ o. refl) refl bytes (record { listed = refl; form = refl; alone = refl })
+        refl refl;
+    list_cubbyhole =
+        asked found none ordered type.Cubbyhole verb.List (codes "cubbyhole") [] (codes "cubbyhole") [] []
+        (Cubbyholes of_cubbyholes.List) (λ o. refl) refl refl (record { listed = refl; form = refl; alone = refl })
+        refl refl;
+  }

@@ -1,0 +1,123 @@
+-- What the paths mean that lead to a mount which was enabled, and those of policies, of mounts and of cubbyholes that
+-- are not in the other lists (Vault's documentation, "KV secrets engine - version 2 (API)", "/sys/policies",
+-- "/sys/mounts", "Cubbyhole secrets engine (API)"; the engine that issues credentials is this project's).
+use Rattle.std.specs.Prelude.{◌≡◌, ◌++◌, ℕ, [], ◌∷◌, true, Result, Ok, Some, codes}
+use Rattle.broker_types.specs.Text.{Text}
+use Rattle.broker_types.specs.Map.{Map, get}
+use Rattle.broker_types.specs.Name.{is_mount_name}
+use Rattle.broker_types.specs.Broker.{Engine, Mount, issued, kv}
+use Rattle.broker_types.specs.Refuse.{◌>>=◌}
+use Rattle.broker_types.specs.declared.ask.Ask.{Ask}
+use Rattle.broker_types.specs.declared.ask.Verb.{Verb}
+use Rattle.broker_types.specs.declared.ask.Verb.TheVariants as verb
+use Rattle.broker_types.specs.declared.refusal.Refusal.{Refusal}
+use Rattle.serde_json.specs.Data.{Members}
+use Rattle.records.specs.Splits.{lacks, slash}
+use Rattle.mounts.specs.Forms.{are_bytes}
+use Rattle.api_json.specs.Json.{body_members}
+use Rattle.api_json.specs.Readers as reader
+use Rattle.broker_model.specs.Command.{Command, command_of, meant_by, on_cubbyhole, on_issued, on_mount, on_policy}
+use Rattle.broker_model.specs.Command.{on_secret}
+use Rattle.broker_model.specs.declared.commands.CubbyholeCommand.TheVariants as cubbyhole
+use Rattle.broker_model.specs.declared.commands.IssuedCommand.{IssuedCommand}
+use Rattle.broker_model.specs.declared.commands.IssuedCommand.TheVariants as of_issued
+use Rattle.broker_model.specs.declared.commands.MountCommand.TheVariants as mount
+use Rattle.broker_model.specs.declared.commands.PolicyCommand.TheVariants as policy
+use Rattle.broker_model.specs.declared.commands.SecretCommand.{SecretCommand}
+use Rattle.broker_model.specs.declared.commands.SecretCommand.TheVariants as secret
+use Rattle.broker_model.specs.parts.Bodies.{read_as}
+use Rattle.broker_model.specs.parts.Cubbyholes.{full_text}
+use Rattle.broker_model.specs.parts.Place.{Place, at}
+use Rattle.histories.specs.LeasePaths.{AskedMeans}
+
+-- ---- paths below the name of a mount
+
+-- Where a mount of the name has the engine, the verb means this at the name, a slash and the rest.
+abbrev pub MeansIn : Engine → Verb → Text → (Text → Ask → Result Command Refusal) → Type 0
+MeansIn engine v rest meaning =
+    (mounts : Map Mount) (m : Mount) (name : Text) (a : Ask) → get mounts name ≡ Some m → m.engine ≡ engine
+    → is_mount_name name ≡ true → a.verb ≡ v → a.path ≡ name ++ slash ∷ rest → command_of mounts a ≡ meaning name a
+
+-- so it is at a text and any path of bytes behind it, in a mount of secrets
+abbrev pub AtPath : Verb → Text → (Place → Ask → Result Command Refusal) → Type 0
+AtPath v text meaning =
+    (c : ℕ) (path : Text) → are_bytes (c ∷ path) ≡ true
+    → MeansIn kv v (text ++ c ∷ path) (λ name. meaning (at name (c ∷ path)))
+
+-- and at a text and any segment of bytes behind it, in a mount that issues credentials
+abbrev pub AtName : Verb → Text → (Place → Ask → Result Command Refusal) → Type 0
+AtName v text meaning =
+    (c : ℕ) (segment : Text) → are_bytes (c ∷ segment) ≡ true → lacks slash (c ∷ segment) ≡ true
+    → MeansIn issued v (text ++ c ∷ segment) (λ name. meaning (at name (c ∷ segment)))
+
+-- a command on a place, whatever the body is
+abbrev pub on_secret_at : SecretCommand → Place → Ask → Result Command Refusal
+on_secret_at command p a = Ok (on_secret p command)
+
+abbrev pub on_issued_at : IssuedCommand → Place → Ask → Result Command Refusal
+on_issued_at command p a = Ok (on_issued p command)
+
+-- one by what the reader finds in the body
+abbrev pub on_secret_found : {X : Type 0} → (Members → Result X Refusal) → (X → SecretCommand) → Place → Ask
+    → Result Command Refusal
+on_secret_found read command p a = meant_by (on_secret p) (read_as read command a.body)
+
+abbrev pub on_issued_found : {X : Type 0} → (Members → Result X Refusal) → (X → IssuedCommand) → Place → Ask
+    → Result Command Refusal
+on_issued_found read command p a = meant_by (on_issued p) (read_as read command a.body)
+
+-- a read of the version that the query asks for
+abbrev pub on_version : Place → Ask → Result Command Refusal
+on_version p a = meant_by (on_secret p) (reader.version_number a.version >>= (λ n. Ok (secret.Read n)))
+
+-- the paths in a mount of versioned secrets
+pub record PathsOfSecrets : Type 0 where
+  pub show_settings : MeansIn kv verb.Get (codes "config") (λ name. on_secret_at secret.ShowSettings (at name []))
+  pub set_settings : MeansIn kv verb.Write (codes "config")
+      (λ name. on_secret_found reader.mount_settings secret.SetSettings (at name []))
+  pub read : AtPath verb.Get (codes "data/") on_version
+  pub write : AtPath verb.Write (codes "data/") (on_secret_found reader.secret_write secret.Write)
+  pub delete_current : AtPath verb.Delete (codes "data/") (on_secret_at secret.DeleteCurrent)
+  pub delete : AtPath verb.Write (codes "delete/") (on_secret_found reader.versions secret.Delete)
+  pub undelete : AtPath verb.Write (codes "undelete/") (on_secret_found reader.versions secret.Undelete)
+  pub destroy : AtPath verb.Write (codes "destroy/") (on_secret_found reader.versions secret.Destroy)
+  pub list_whole : MeansIn kv verb.List (codes "metadata") (λ name. on_secret_at secret.List (at name []))
+  pub list : AtPath verb.List (codes "metadata/") (on_secret_at secret.List)
+  pub show_metadata : AtPath verb.Get (codes "metadata/") (on_secret_at secret.ShowMetadata)
+  pub set_metadata : AtPath verb.Write (codes "metadata/") (on_secret_found reader.key_settings secret.SetMetadata)
+  pub remove : AtPath verb.Delete (codes "metadata/") (on_secret_at secret.Remove)
+
+-- those in a mount that issues credentials
+pub record PathsOfIssued : Type 0 where
+  pub show_role : AtName verb.Get (codes "roles/") (on_issued_at of_issued.ShowRole)
+  pub set_role : AtName verb.Write (codes "roles/") (on_issued_found reader.role_settings of_issued.SetRole)
+  pub remove_role : AtName verb.Delete (codes "roles/") (on_issued_at of_issued.RemoveRole)
+  pub issue : AtName verb.Get (codes "creds/") (on_issued_at of_issued.Issue)
+  pub verify : MeansIn issued verb.Write (codes "verify")
+      (λ name. on_issued_found reader.credential of_issued.Verify (at name []))
+
+-- ---- paths that are always there
+
+-- a write of what the body is, at a path of the caller's cubbyhole
+abbrev pub on_written : Text → Ask → Result Command Refusal
+on_written path a =
+    meant_by (on_cubbyhole path) (body_members a.body >>= (λ members. Ok (cubbyhole.Write (full_text members))))
+
+pub record PathsOfSettings : Type 0 where
+  pub list_policies : AskedMeans verb.List (codes "sys/policies/acl") (λ a. Ok (on_policy [] policy.List))
+  pub show_policy : (c : ℕ) (name : Text) → are_bytes (c ∷ name) ≡ true → lacks slash (c ∷ name) ≡ true
+      → AskedMeans verb.Get (codes "sys/policies/acl/" ++ c ∷ name) (λ a. Ok (on_policy (c ∷ name) policy.Show))
+  pub set_policy : (c : ℕ) (name : Text) → are_bytes (c ∷ name) ≡ true → lacks slash (c ∷ name) ≡ true
+      → AskedMeans verb.Write (codes "sys/policies/acl/" ++ c ∷ name)
+      (λ a. meant_by (on_policy (c ∷ name)) (read_as reader.policy_text policy.Set a.body))
+  pub remove_policy : (c : ℕ) (name : Text) → are_bytes (c ∷ name) ≡ true → lacks slash (c ∷ name) ≡ true
+      → AskedMeans verb.Delete (codes "sys/policies/acl/" ++ c ∷ name) (λ a. Ok (on_policy (c ∷ name) policy.Remove))
+  pub list_mounts : AskedMeans verb.Get (codes "sys/mounts") (λ a. Ok (on_mount [] mount.List))
+  pub enable_mount : (c : ℕ) (name : Text) → are_bytes (c ∷ name) ≡ true → lacks slash (c ∷ name) ≡ true
+      → AskedMeans verb.Write (codes "sys/mounts/" ++ c ∷ name)
+      (λ a. meant_by (on_mount (c ∷ name)) (read_as reader.mount_creation mount.Enable a.body))
+  pub write_object : (c : ℕ) (path : Text) → are_bytes (c ∷ path) ≡ true
+      → AskedMeans verb.Write (codes "cubbyhole/" ++ c ∷ path) (on_written (c ∷ path))
+  pub list_objects : (c : ℕ) (path : Text) → are_bytes (c ∷ path) ≡ true
+      → AskedMeans verb.List (codes "cubbyhole/" ++ c ∷ path) (λ a. Ok (on_cubbyhole (c ∷ path) cubbyhole.List))
+  pub list_cubbyhole : AskedMeans verb.List (codes "cubbyhole") (λ a. Ok (on_cubbyhole [] cubbyhole.List))
