@@ -1,9 +1,9 @@
 -- How a request is answered that is not refused, command by command.
 use Rattle.std.specs.Prelude.{◌≡◌, ◌⊎◌, ℕ, Bool, true, false, not, is_some, if◌then◌else◌}
-use Rattle.std.specs.Prelude.{Option, Some, None, Result, Ok}
+use Rattle.std.specs.Prelude.{Option, Some, None, Result, Ok, codes}
 use Rattle.std.proofs.Common.{refl, sym, ◌∙◌, ap, subst, inl, inr}
 use Rattle.std.proofs.lemmas.Bool.{false≢true}
-use Rattle.broker_types.specs.Text.{Text}
+use Rattle.broker_types.specs.Text.{Text, same}
 use Rattle.broker_types.specs.Answer.{IsRefused}
 use Rattle.broker_types.specs.Broker.{Broker}
 use Rattle.broker_types.specs.Names.{Names, names_of}
@@ -59,7 +59,8 @@ use Rattle.broker_model.specs.parts.TokenCreation.{is_privileged, making_path, m
 use Rattle.broker_model.specs.parts.Tokens.{act_on_tokens, holder, known, named, revoke}
 use Rattle.broker_model.specs.parts.Wrappings.{act_on_wrappings, found}
 use Rattle.histories.specs.History.{Asking, clocked}
-use Rattle.histories.specs.Statuses.{AllStatusesFollow, ReadsEnded, cubbyhole_is_silent, is_silent, issued_is_silent}
+use Rattle.histories.specs.Statuses.{AllStatusesFollow, IsNeverDone, ReadsEnded, cubbyhole_is_silent, is_silent}
+use Rattle.histories.specs.Statuses.{issued_is_silent}
 use Rattle.histories.specs.Statuses.{lease_is_silent, mount_is_silent, policy_is_silent, secret_is_silent}
 use Rattle.histories.specs.Statuses.{token_is_silent}
 use Rattle.histories.proofs.EventSecrets.{is_200}
@@ -152,6 +153,49 @@ silent_by : (b : Broker) (caller : Option Text) (names : Names) (d : Done) (k : 
     → act b caller names k ≡ Ok d → Silent d
 silent_by b None names d k is e = silent_openly b names d k is e
 silent_by b (Some c) names d k is e = silent_for b c names d k is e
+
+-- ---- what is never done
+
+module _ (b : Broker) (names : Names) (d : Done) where
+  never_set : (text : Text) → act_on_policies b names (codes "root") (of_policy.Set text) ≡ Ok d → ⊥
+  unfolding same
+  never_set text e = no_ok e
+
+  never_removed : (name : Text) → (name ≡ codes "root") ⊎ (name ≡ codes "default")
+      → act_on_policies b names name of_policy.Remove ≡ Ok d → ⊥
+  unfolding same
+  never_removed name (inl is) e =
+      no_ok (subst (λ n. act_on_policies b names n of_policy.Remove ≡ Ok d) is e)
+  never_removed name (inr is) e =
+      no_ok (subst (λ n. act_on_policies b names n of_policy.Remove ≡ Ok d) is e)
+
+  never_disabled : (name : Text) → (name ≡ codes "sys") ⊎ ((name ≡ codes "auth") ⊎ (name ≡ codes "cubbyhole"))
+      → act_on_mounts b names name of_mount.Disable ≡ Ok d → ⊥
+  unfolding same
+  never_disabled name (inl is) e =
+      no_ok (subst (λ n. act_on_mounts b names n of_mount.Disable ≡ Ok d) is e)
+  never_disabled name (inr (inl is)) e =
+      no_ok (subst (λ n. act_on_mounts b names n of_mount.Disable ≡ Ok d) is e)
+  never_disabled name (inr (inr is)) e =
+      no_ok (subst (λ n. act_on_mounts b names n of_mount.Disable ≡ Ok d) is e)
+
+  never_for : (c : Text) (k : Command) → IsNeverDone k → act b (Some c) names k ≡ Ok d → ⊥
+  never_for c (on_cubbyhole path k) never e =
+      no_ok (subst (λ j. act_on_cubbyhole b c names path j ≡ Ok d) never e)
+  never_for c (on_policy name k) (inl (text, is, root)) e =
+      never_set text (subst (λ n. act_on_policies b names n (of_policy.Set text) ≡ Ok d) root
+      (subst (λ j. act_on_policies b names name j ≡ Ok d) is e))
+  never_for c (on_policy name k) (inr (is, fixed)) e =
+      never_removed name fixed (subst (λ j. act_on_policies b names name j ≡ Ok d) is e)
+  never_for c (on_mount name k) (is, fixed) e =
+      never_disabled name fixed (subst (λ j. act_on_mounts b names name j ≡ Ok d) is e)
+  never_for c _ never e = never
+
+never_done : (b : Broker) (caller : Option Text) (names : Names) (d : Done) (k : Command) → IsNeverDone k
+    → act b caller names k ≡ Ok d → ⊥
+never_done b (Some c) names d k never e = never_for b names d c k never e
+never_done b None names d (on_wrapping k) never e = never
+never_done b None names d _ never e = no_ok e
 
 -- ---- what tells something
 
@@ -350,8 +394,17 @@ module _ (a : Asking) (is : a.outcome ≡ step a.broker a.moment a.words a.ask) 
         (tells_by (spent (clocked a) s.caller) s.caller (names_of a.words) s.done command loud (acted s))
   ]
 
+  refused_always : IsNeverDone command → IsRefused a.outcome.response
+  refused_always never = elim (refused_or_served a is) [
+    | inl r ↦ r
+    | inr s ↦ absurd
+        (never_done (spent (clocked a) s.caller) s.caller (names_of a.words) s.done command never (acted s))
+  ]
+
 pub statuses_follow : AllStatusesFollow
 statuses_follow b history h = record {
   silent = λ i a command at means quiet. silently a (asked_at b history i a h at).outcome command means quiet;
   told = λ i a command at means loud. tellingly a (asked_at b history i a h at).outcome command means loud;
+  never = λ i a command at means never.
+      refused_always a (asked_at b history i a h at).outcome command means never;
 }

@@ -1,7 +1,8 @@
 -- The law of how a request is answered that is not refused, as a statement (Vault's documentation, "HTTP API", HTTP
 -- status codes; RFC 9110, sections 15.3.1, 15.3.5 and 15.5.5).
-use Rattle.std.specs.Prelude.{◌≡◌, ◌⊎◌, ℕ, Bool, true, false, Ok}
+use Rattle.std.specs.Prelude.{◌≡◌, ◌⊎◌, ℕ, Bool, true, false, None, Ok, codes}
 use Rattle.broker_types.specs.Answer.{IsRefused}
+use Rattle.broker_types.specs.Text.{Text}
 use Rattle.broker_types.specs.Broker.{Broker}
 use Rattle.broker_types.specs.declared.status.Status.TheVariants as status
 use Rattle.broker_model.specs.Command.{Command, command_of, on_cubbyhole, on_issued, on_lease, on_mount, on_policy}
@@ -80,6 +81,20 @@ is_silent (on_lease prefix command) = lease_is_silent command
 is_silent (on_issued place command) = issued_is_silent command
 is_silent (on_wrapping command) = false
 
+-- ---- which commands are always refused
+
+-- The command asks for what is never done: to write an object without members to a cubbyhole, to set or to remove the
+-- policy `root`, to remove `default`, or to disable a mount that is always there.
+abbrev pub IsNeverDone : Command → Type 0
+IsNeverDone (on_cubbyhole path command) = command ≡ cubbyhole.Write None
+IsNeverDone (on_policy name command) =
+    ((text : Text) × (command ≡ policy.Set text) × (name ≡ codes "root"))
+    ⊎ ((command ≡ policy.Remove) × ((name ≡ codes "root") ⊎ (name ≡ codes "default")))
+IsNeverDone (on_mount name command) =
+    (command ≡ mount.Disable)
+    × ((name ≡ codes "sys") ⊎ ((name ≡ codes "auth") ⊎ (name ≡ codes "cubbyhole")))
+IsNeverDone _ = ⊥
+
 -- ---- the law
 
 -- the command reads a version that is deleted or destroyed, and the answer is a 404 that shows what is left of it
@@ -95,6 +110,9 @@ pub record StatusesFollow (history : History) : Type 0 where
   pub told : (i : ℕ) (a : Asking) (command : Command) → AskedAt history i a
       → command_of (clocked a).mounts a.ask ≡ Ok command → is_silent command ≡ false
       → (a.outcome.response.status ≡ status.Success) ⊎ (IsRefused a.outcome.response ⊎ ReadsEnded a command)
+  -- And what is never done is refused.
+  pub never : (i : ℕ) (a : Asking) (command : Command) → AskedAt history i a
+      → command_of (clocked a).mounts a.ask ≡ Ok command → IsNeverDone command → IsRefused a.outcome.response
 
 -- whatever the first broker is
 abbrev pub AllStatusesFollow : Type 0

@@ -192,8 +192,9 @@ pub fn only_allowed_requests_are_served()
 }
 
 /// A law: a command that tells nothing is answered with 204, or refused; any other with 200, or refused, but that a
-/// read of a version that is deleted or destroyed is a 404 which shows nothing of what it held (Vault's documentation,
-/// "HTTP API", HTTP status codes).
+/// read of a version that is deleted or destroyed is a 404 which shows nothing of what it held. A write of an object
+/// without members to a cubbyhole, a change of `root`, the removal of `default` and the disabling of a mount that is
+/// always there are refused (Vault's documentation, "HTTP API", HTTP status codes; "Policies", root policy).
 pub fn statuses_follow()
     ensures { AllStatusesFollow }
 {}
