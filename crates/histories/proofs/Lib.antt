@@ -29,6 +29,7 @@ pub mod Listed
 pub mod Marked
 pub mod MayCreate
 pub mod MountRoutes
+pub mod MountsListed
 pub mod OpenRequests
 pub mod OrderCases
 pub mod OrderKeeps

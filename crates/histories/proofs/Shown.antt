@@ -36,16 +36,17 @@ use Rattle.kv2.specs.Secrets as secrets
 use Rattle.policies.specs.Policies as policies
 use Rattle.token_tree.specs.Laws.{AccessorsNameTheirTokens, NamedTokensHaveTheirAccessors}
 use Rattle.token_tree.specs.Tokens as tree
-use Rattle.api_json.specs.Objects.{key_object, keys_object}
+use Rattle.api_json.specs.Objects.{key_object, keys_object, mounts_object}
 use Rattle.api_json.specs.Reply.{plain_reply, reply_text}
-use Rattle.broker_model.specs.Command.{Command, command_of, on_issued, on_lease, on_policy, on_secret, on_token}
-use Rattle.broker_model.specs.Command.{on_wrapping}
+use Rattle.broker_model.specs.Command.{Command, command_of, on_issued, on_lease, on_mount, on_policy, on_secret}
+use Rattle.broker_model.specs.Command.{on_token, on_wrapping}
 use Rattle.broker_model.specs.EffectLaws.{chained}
 use Rattle.broker_model.specs.Laws.{OperationsDoAsTold}
 use Rattle.broker_model.specs.Order.{Outcome}
 use Rattle.broker_model.specs.Step.{step, unwrapped_ask}
 use Rattle.broker_model.specs.declared.commands.IssuedCommand.TheVariants as of_issued
 use Rattle.broker_model.specs.declared.commands.LeaseCommand.TheVariants as of_lease
+use Rattle.broker_model.specs.declared.commands.MountCommand.TheVariants as of_mount
 use Rattle.broker_model.specs.declared.commands.PolicyCommand.TheVariants as of_policy
 use Rattle.broker_model.specs.declared.commands.SecretCommand.TheVariants as of_secret
 use Rattle.broker_model.specs.declared.commands.TokenCommand.TheVariants as of_token
@@ -55,13 +56,14 @@ use Rattle.broker_model.specs.parts.Place.{Place}
 use Rattle.broker_model.specs.parts.SecretReplies.{secret_told, version_told}
 use Rattle.broker_model.specs.parts.Tokens.{known, look_up, named}
 use Rattle.histories.specs.History.{Asking, clocked, spent_by}
-use Rattle.histories.specs.Shown.{AllAnswersShow, IsAccessorOf, IsPolicyName, IsValid, Lists, SaysValid, ShowsHolder}
-use Rattle.histories.specs.Shown.{ShowsLease, ShowsPolicy, ShowsRole, ShowsSecret, ShowsSettings, ShowsToken}
-use Rattle.histories.specs.Shown.{Succeeds, version_shown}
+use Rattle.histories.specs.Shown.{AllAnswersShow, IsAccessorOf, IsPolicyName, IsValid, Lists, ListsMounts, SaysValid}
+use Rattle.histories.specs.Shown.{ShowsHolder, ShowsLease, ShowsPolicy, ShowsRole, ShowsSecret, ShowsSettings}
+use Rattle.histories.specs.Shown.{ShowsToken, Succeeds, version_shown}
 use Rattle.histories.specs.Kept.{answer_by, unwrapped_answer, unwrapped_body}
 use Rattle.histories.specs.Revocation.{IsClient}
 use Rattle.histories.specs.Versions.{named as named_secret}
 use Rattle.histories.proofs.Clients.{from_clock}
+use Rattle.histories.proofs.MountsListed.{cubbyhole_shown, in_order, objects, only_shown, own_shown, system_shown}
 use Rattle.histories.proofs.OrderCases.{some_ok}
 use Rattle.histories.proofs.Placed.{one_place_still}
 use Rattle.histories.proofs.Renewals.{tells_renewed, tells_renewed_lease}
@@ -376,6 +378,21 @@ module _ (told : OperationsDoAsTold) (a : Asking) (is : a.outcome ≡ step a.bro
           subst (λ u. get (put (put (clocked a).policies policies.default []) policies.root []) u ≢ None) (sym root)
           (put_there (put (clocked a).policies policies.default []) policies.root [])
 
+  pub mounts_listed : (name : Text) → Succeeds a (on_mount name of_mount.List) → ListsMounts a
+  mounts_listed name h =
+      let k = on_mount name of_mount.List in
+      let s = for k h (λ b names d e. no_ok e) in
+      let all = (clocked a).mounts in
+      record {
+        mounts = objects all;
+        only = only_shown all;
+        own = own_shown all;
+        system = system_shown all;
+        cubbyhole = cubbyhole_shown all;
+        shows = tells k s _ _ s.acted refl
+            ∙ ap (λ ms. reply_text (plain_reply names.request (mounts_object ms))) (sym (in_order all));
+      }
+
   pub accessors_listed : AccessorsNameTheirTokens → NamedTokensHaveTheirAccessors → OnePlaceEach a.broker
       → Succeeds a (on_token of_token.ListAccessors) → Lists a (IsAccessorOf a)
   accessors_listed name theirs one h =
@@ -425,5 +442,6 @@ answers_show told name theirs b history h = record {
   accessors = λ i a at s.
       let is = asked_at b history i a h at in
       accessors_listed told a is.outcome name theirs is.sound.identifiers.one_place s;
+  mounts = λ i a name_ at s. mounts_listed told a (asked_at b history i a h at).outcome name_ s;
   listed = λ i a p at s. secrets_listed told a (asked_at b history i a h at).outcome p s;
 }

@@ -1,13 +1,13 @@
 -- The law of what look-ups answer, as a statement (Vault's documentation, "Token auth method (API)",
 -- "/sys/leases", "/sys/policies", "KV secrets engine - version 2 (API)"; the engine that issues credentials is this
 -- project's). The forms of objects are those of `api_json`.
-use Rattle.std.specs.Prelude.{◌≡◌, ◌≢◌, ◌⊎◌, ◌<◌, ◌≤◌, ◌+◌, ◌-◌, ℕ, min, List, [], ◌∷◌, map, Bool, true, false}
+use Rattle.std.specs.Prelude.{◌≡◌, ◌≢◌, ◌⊎◌, ◌<◌, ◌≤◌, ◌+◌, ◌-◌, ◌++◌, ℕ, min, List, [], ◌∷◌, map, Bool, true, false}
 use Rattle.std.specs.Prelude.{Some, None, Ok, is_none, unwrap_or, codes}
 use Rattle.std.specs.FinMap as fin
 use Rattle.std.specs.Option.{option_map_or}
 use Rattle.broker_types.specs.Text.{Text}
 use Rattle.broker_types.specs.Map.{Map, entries, get, keys}
-use Rattle.broker_types.specs.Broker.{Broker, Mount, Role}
+use Rattle.broker_types.specs.Broker.{Broker, Engine, Mount, Role, issued, kv}
 use Rattle.broker_types.specs.Names.{names_of}
 use Rattle.broker_types.specs.Places.{lease_of}
 use Rattle.broker_types.specs.Secret.{Key, Version}
@@ -15,16 +15,18 @@ use Rattle.broker_types.specs.Token.{Lease, Token}
 use Rattle.broker_types.specs.declared.status.Status.TheVariants as status
 use Rattle.records.specs.Children.{children, folder}
 use Rattle.api_json.specs.Objects.{auth_object, key_object, keys_object, lease_object, policy_object, role_object}
-use Rattle.api_json.specs.Objects.{settings_object, token_object, valid_object}
+use Rattle.api_json.specs.Objects.{mounts_object, settings_object, token_object, valid_object}
 use Rattle.api_json.specs.Reply.{lease_reply, plain_reply, reply_text}
 use Rattle.api_json.specs.declared.lease_objects.LeaseObject.{LeaseObject}
+use Rattle.api_json.specs.declared.mount_objects.MountObject.{MountObject}
 use Rattle.api_json.specs.declared.secret_objects.KeyObject.{KeyObject}
 use Rattle.api_json.specs.declared.token_objects.TokenObject.{TokenObject}
 use Rattle.api_json.specs.declared.version_list.VersionObject.{VersionObject}
-use Rattle.broker_model.specs.Command.{Command, command_of, on_issued, on_lease, on_policy, on_secret, on_token}
-use Rattle.broker_model.specs.Command.{on_wrapping}
+use Rattle.broker_model.specs.Command.{Command, command_of, on_issued, on_lease, on_mount, on_policy, on_secret}
+use Rattle.broker_model.specs.Command.{on_token, on_wrapping}
 use Rattle.broker_model.specs.declared.commands.IssuedCommand.TheVariants as of_issued
 use Rattle.broker_model.specs.declared.commands.LeaseCommand.TheVariants as of_lease
+use Rattle.broker_model.specs.declared.commands.MountCommand.TheVariants as of_mount
 use Rattle.broker_model.specs.declared.commands.PolicyCommand.TheVariants as of_policy
 use Rattle.broker_model.specs.declared.commands.SecretCommand.TheVariants as of_secret
 use Rattle.broker_model.specs.declared.commands.TokenCommand.TheVariants as of_token
@@ -201,6 +203,30 @@ abbrev pub IsAccessorOf : Asking → Text → Type 0
 IsAccessorOf a accessor =
     (t : Text) × (x : Token) × (get (clocked a).tokens t ≡ Some x) × (x.accessor ≡ accessor)
 
+-- ---- mounts
+
+-- a mount of an engine as the list shows it
+abbrev pub mount_shown : Text → Engine → MountObject
+mount_shown name kv = record { name = name; type_name = codes "kv"; version = Some (codes "2") }
+mount_shown name issued = record { name = name; type_name = codes "issued"; version = None }
+
+-- one of these mounts, or of the two that are always there, with a slash behind its name
+abbrev pub IsMountShown : Map Mount → MountObject → Type 0
+IsMountShown mounts x =
+    (x ≡ record { name = codes "sys/"; type_name = codes "system"; version = None })
+    ⊎ ((x ≡ record { name = codes "cubbyhole/"; type_name = codes "cubbyhole"; version = None })
+    ⊎ ((name : Text) × (m : Mount) × (get mounts name ≡ Some m) × (x ≡ mount_shown (name ++ codes "/") m.engine)))
+
+-- The reply lists the mounts, each once, in the order of the bytes of their names.
+pub record ListsMounts (a : Asking) : Type 0 where
+  pub mounts : Map MountObject
+  pub only : (name : Text) (x : MountObject) → get mounts name ≡ Some x
+      → (name ≡ x.name) × IsMountShown (clocked a).mounts x
+  pub own : (name : Text) → get (clocked a).mounts name ≢ None → get mounts (name ++ codes "/") ≢ None
+  pub system : get mounts (codes "sys/") ≢ None
+  pub cubbyhole : get mounts (codes "cubbyhole/") ≢ None
+  pub shows : Shows a (mounts_object (map (λ e. e.1) (entries mounts)))
+
 -- ---- the law
 
 pub record AnswersShow (history : History) : Type 0 where
@@ -233,6 +259,8 @@ pub record AnswersShow (history : History) : Type 0 where
       → Lists a (IsPolicyName a)
   pub accessors : (i : ℕ) (a : Asking) → AskedAt history i a → Succeeds a (on_token of_token.ListAccessors)
       → Lists a (IsAccessorOf a)
+  pub mounts : (i : ℕ) (a : Asking) (name : Text) → AskedAt history i a → Succeeds a (on_mount name of_mount.List)
+      → ListsMounts a
   pub listed : (i : ℕ) (a : Asking) (p : Place) → AskedAt history i a → Succeeds a (on_secret p of_secret.List)
       → Shows a (keys_object (children (named (record { mount = p.mount; path = folder p.path }))
       (keys (clocked a).secrets)))

@@ -200,10 +200,10 @@ pub fn statuses_follow()
 {}
 
 /// A law: a 200 to a look-up of a token, of an accessor, of a lease, of a role, of a policy, of settings or of a
-/// secret's metadata shows what the broker has, and so does one to a list of secrets, of policies or of accessors. One
-/// to a renewal tells of the new end, and one that asks whether a credential is valid says whether a token has its
-/// lease (Vault's documentation, "Token auth method (API)", "/sys/leases", "/sys/policies", "KV secrets engine -
-/// version 2 (API)").
+/// secret's metadata shows what the broker has, and so does one to a list of secrets, of policies, of accessors or of
+/// mounts. One to a renewal tells of the new end, and one that asks whether a credential is valid says whether a token
+/// has its lease (Vault's documentation, "Token auth method (API)", "/sys/leases", "/sys/policies", "/sys/mounts", "KV
+/// secrets engine - version 2 (API)").
 pub fn look_ups_show_what_there_is()
     ensures { AllAnswersShow }
 {

@@ -1,0 +1,131 @@
+-- Which mounts the list shows.
+use Rattle.std.specs.Prelude.{◌≡◌, ◌≢◌, List, [], ◌∷◌, map, true, false, cond, All, Some, None, codes, option_map}
+use Rattle.std.specs.List.{fold}
+use Rattle.std.specs.Map.{lookup}
+use Rattle.std.specs.FinMap as fin
+use Rattle.std.proofs.Common.{refl, sym, ◌∙◌, ap, subst, inl, inr}
+use Rattle.std.proofs.lemmas.List.Elements.{All-head, All-tail}
+use Rattle.std.proofs.lemmas.Option.{none-some}
+use Rattle.broker_types.specs.Text.{Text, same, text_cmp}
+use Rattle.broker_types.specs.TextLaws.{same_true}
+use Rattle.broker_types.specs.Map.{Map, empty, entries, get, map_values, put, with_values}
+use Rattle.broker_types.specs.MapLaws.{entries-map_values, get-lookup, get-map_values}
+use Rattle.broker_types.specs.Broker.{Engine, Mount, issued, kv}
+use Rattle.broker_types.specs.OptionLaws.{mapped}
+use Rattle.broker_types.specs.PutLaws.{put_is, put_keeps, put_there}
+use Rattle.broker_types.specs.SearchLaws.{each_entry}
+use Rattle.mounts.specs.Mounts.{listed_types, printed, typed, with_type}
+use Rattle.mounts.specs.Types.{engine_type, type_of}
+use Rattle.mounts.specs.declared.mount_type.MountType.{MountType}
+use Rattle.mounts.specs.declared.mount_type.MountType.TheVariants as type
+use Rattle.api_json.specs.declared.mount_objects.MountObject.{MountObject}
+use Rattle.broker_model.specs.parts.Mounts.{shown}
+use Rattle.histories.specs.Shown.{IsMountShown, mount_shown}
+
+-- ---- types put one after another
+
+-- what each of them and each entry passes, all pass
+only_of : (P : Text → MountType → Type 0) (ms : List (Text × Mount)) (types : Map MountType)
+    → ((q : Text) (t : MountType) → get types q ≡ Some t → P q t)
+    → All (λ (m : Text × Mount). P (printed m.0) (type_of m.1)) ms
+    → (q : Text) (t : MountType) → get (fold with_type types (map typed ms)) q ≡ Some t → P q t
+only_of P [] types had each q t e = had q t e
+only_of P (m ∷ ms) types had each q t e =
+    let first = All-head (λ (m : Text × Mount). P (printed m.0) (type_of m.1)) m ms each in
+    only_of P ms (put types (printed m.0) (type_of m.1))
+    (λ r u is. put_is types (printed m.0) (type_of m.1) r u (P r u) is
+    (λ here at. subst (λ z. P z u) (sym here) (subst (P (printed m.0)) (sym at) first)) (had r u))
+    (All-tail (λ (m : Text × Mount). P (printed m.0) (type_of m.1)) m ms each) q t e
+
+-- none goes
+stays : (ms : List (Text × Mount)) (types : Map MountType) (q : Text) → get types q ≢ None
+    → get (fold with_type types (map typed ms)) q ≢ None
+stays [] types q there = there
+stays (m ∷ ms) types q there =
+    stays ms (put types (printed m.0) (type_of m.1)) q (put_keeps types (printed m.0) (type_of m.1) q there)
+
+-- and each entry comes
+comes : (ms : List (Text × Mount)) (types : Map MountType) (name : Text) (x : Mount) → lookup (same name) ms ≡ Some x
+    → get (fold with_type types (map typed ms)) (printed name) ≢ None
+comes [] types name x e = absurd (none-some _ e)
+comes (m ∷ ms) types name x e =
+    let next = put types (printed m.0) (type_of m.1) in
+    elim (same name m.0) as (λ v. same name m.0 ≡ v → cond v (Some m.1) (lookup (same name) ms) ≡ Some x
+    → get (fold with_type next (map typed ms)) (printed name) ≢ None) [
+      | true ↦ λ at _. stays ms next (printed name)
+          (subst (λ z. get next (printed z) ≢ None) (sym (same_true name m.0 at))
+          (put_there types (printed m.0) (type_of m.1)))
+      | false ↦ λ _ rest. comes ms next name x rest
+    ] refl e
+
+-- ---- the list
+
+module _ (mounts : Map Mount) where
+  abbrev own : Map MountType
+  own = fold with_type empty (map typed (entries mounts))
+
+  abbrev with_cubbyhole : Map MountType
+  with_cubbyhole = put own (printed (codes "cubbyhole")) type.Cubbyhole
+
+  -- the mounts by their printed names
+  abbrev pub objects : Map MountObject
+  objects = map_values (λ q t. shown (q, t)) (listed_types mounts)
+
+  -- a mount of an engine as it is shown
+  of_engine : (name : Text) (engine : Engine) → shown (name, engine_type engine) ≡ mount_shown name engine
+  of_engine name kv = refl
+  of_engine name issued = refl
+
+  each_shown : (q : Text) (t : MountType) → get (listed_types mounts) q ≡ Some t → IsMountShown mounts (shown (q, t))
+  each_shown q t e =
+      put_is with_cubbyhole (printed (codes "sys")) type.System q t (IsMountShown mounts (shown (q, t))) e
+      (λ here is. inl (λ i. shown (here i, is i)))
+      (λ e. put_is own (printed (codes "cubbyhole")) type.Cubbyhole q t (IsMountShown mounts (shown (q, t))) e
+      (λ here is. inr (inl (λ i. shown (here i, is i))))
+      (only_of (λ q t. IsMountShown mounts (shown (q, t))) (entries mounts) empty
+      (λ q t e. absurd (none-some _ (sym (fin.get-empty text_cmp q) ∙ e)))
+      (each_entry (λ (m : Text × Mount). IsMountShown mounts (shown (printed m.0, type_of m.1))) mounts
+      (λ name m there. inr (inr (name, m, there, of_engine (printed name) m.engine)))) q t))
+
+  pub only_shown : (q : Text) (x : MountObject) → get objects q ≡ Some x → (q ≡ x.name) × IsMountShown mounts x
+  only_shown q x e =
+      let t = mapped (λ t. shown (q, t)) (get (listed_types mounts) q) x
+      (sym (get-map_values (λ q t. shown (q, t)) (listed_types mounts) q) ∙ e) in (
+        ap (λ (z : MountObject). z.name) (sym t.2),
+        subst (IsMountShown mounts) (sym t.2) (each_shown q t.0 t.1),
+      )
+
+  -- a name that has a type has an object
+  has_object : (q : Text) → get (listed_types mounts) q ≢ None → get objects q ≢ None
+  has_object q there none = by (get (listed_types mounts) q) refl
+    where
+      by : (o : _) → get (listed_types mounts) q ≡ o → ⊥
+      by None e = there e
+      by (Some t) e = none-some _ (sym none ∙ get-map_values (λ q t. shown (q, t)) (listed_types mounts) q
+          ∙ ap (option_map (λ t. shown (q, t))) e)
+
+  pub own_shown : (name : Text) → get mounts name ≢ None → get objects (printed name) ≢ None
+  own_shown name there = has_object (printed name) (put_keeps with_cubbyhole (printed (codes "sys")) type.System _
+      (put_keeps own (printed (codes "cubbyhole")) type.Cubbyhole _ (by (get mounts name) refl)))
+    where
+      by : (o : _) → get mounts name ≡ o → get own (printed name) ≢ None
+      by None e = absurd (there e)
+      by (Some m) e = comes (entries mounts) empty name m (sym (get-lookup mounts name) ∙ e)
+
+  pub system_shown : get objects (codes "sys/") ≢ None
+  system_shown = has_object (codes "sys/") (put_there with_cubbyhole (printed (codes "sys")) type.System)
+
+  pub cubbyhole_shown : get objects (codes "cubbyhole/") ≢ None
+  cubbyhole_shown = has_object (codes "cubbyhole/")
+      (put_keeps with_cubbyhole (printed (codes "sys")) type.System (codes "cubbyhole/")
+      (put_there own (printed (codes "cubbyhole")) type.Cubbyhole))
+
+  flat : (ts : List (Text × MountType)) → map (λ (e : Text × MountObject). e.1) (with_values (λ q t. shown (q, t)) ts)
+      ≡ map shown ts
+  flat [] = refl
+  flat (t ∷ ts) = ap (λ xs. shown t ∷ xs) (flat ts)
+
+  -- the objects are those of the list
+  pub in_order : map (λ (e : Text × MountObject). e.1) (entries objects) ≡ map shown (entries (listed_types mounts))
+  in_order = ap (map (λ (e : Text × MountObject). e.1))
+      (entries-map_values (λ q t. shown (q, t)) (listed_types mounts)) ∙ flat (entries (listed_types mounts))
