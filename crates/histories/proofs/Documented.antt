@@ -53,6 +53,7 @@ use Rattle.broker_model.specs.parts.TokenReplies.{token_reply}
 use Rattle.broker_model.specs.parts.Tokens.{act_on_tokens, known, named}
 use Rattle.histories.specs.Documented.{AccessorsHideTokens, AreAsDocumented, AsksByVerb, MakesAnew, SudoIsNeeded}
 use Rattle.histories.proofs.CreationRoutes.{whole}
+use Rattle.histories.proofs.Folders.{folders_listed}
 use Rattle.histories.proofs.OrderCases.{some_ok}
 
 -- ---- root
@@ -326,4 +327,5 @@ as_documented = record {
   };
   sudo_needed = sudo_needed;
   accessors = hide_tokens;
+  folders = folders_listed;
 }

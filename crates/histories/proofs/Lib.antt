@@ -12,6 +12,7 @@ pub mod Documented
 pub mod EffectsPlace
 pub mod Ending
 pub mod EventSecrets
+pub mod Folders
 pub mod Found
 pub mod GivenOut
 pub mod InOrder

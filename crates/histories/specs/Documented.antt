@@ -1,6 +1,7 @@
--- What permission and look-ups are to be by the documentation, in its words, as statements (Vault's documentation,
--- "Policies", root policy, capabilities, root-protected API endpoints; "Token auth method (API)", look up by accessor).
-use Rattle.std.specs.Prelude.{◌≡◌, ◌⊎◌, ◌++◌, ℕ, List, ◌∷◌, Contains, true, codes, Some, None, Ok}
+-- What permission, look-ups and lists are to be by the documentation, in its words, as statements (Vault's
+-- documentation, "Policies", root policy, capabilities, root-protected API endpoints; "Token auth method (API)", look
+-- up by accessor; "KV secrets engine - version 2 (API)" and "Cubbyhole secrets engine (API)", list secrets).
+use Rattle.std.specs.Prelude.{◌≡◌, ◌⊎◌, ◌++◌, ℕ, List, [], ◌∷◌, Contains, true, codes, Some, None, Ok}
 use Rattle.broker_types.specs.Text.{Text}
 use Rattle.broker_types.specs.Map.{Map, empty, get}
 use Rattle.broker_types.specs.Broker.{Broker}
@@ -9,6 +10,9 @@ use Rattle.broker_types.specs.Operation.{Done}
 use Rattle.broker_types.specs.Token.{Token}
 use Rattle.broker_types.specs.declared.ask.Verb.{Verb}
 use Rattle.broker_types.specs.declared.ask.Verb.TheVariants as verb
+use Rattle.broker_types.specs.Sound.{is_ascending}
+use Rattle.records.specs.Children.{children, has}
+use Rattle.records.specs.Splits.{lacks, slash}
 use Rattle.cubbyhole.specs.Cubbyhole.{object_at}
 use Rattle.kv2.specs.Secrets.{key_at}
 use Rattle.mounts.specs.Route.{Route, asks_sudo, route_of}
@@ -84,9 +88,27 @@ AccessorsHideTokens =
     → act_on_tokens b caller names (token.LookUpAccessor accessor) ≡ Ok done
     → act_on_tokens d other names (token.LookUpAccessor accessor) ≡ Ok next → done.answered ≡ next.answered
 
+-- ---- lists
+
+-- The name is the path, which has no slash; or it is what is before the first slash of the path, with that slash.
+abbrev pub IsFirstPart : Text → Text → Type 0
+IsFirstPart path name =
+    ((lacks slash path ≡ true) × (name ≡ path))
+    ⊎ ((segment : Text) × (more : Text) × (lacks slash segment ≡ true) × (path ≡ segment ++ slash ∷ more)
+    × (name ≡ segment ++ slash ∷ []))
+
+-- The names are the first parts of what follows the prefix, in the paths that begin with it: each once, in the order of
+-- their bytes.
+pub record ListsFolder (prefix : Text) (paths names : List Text) : Type 0 where
+  pub once : is_ascending names ≡ true
+  pub only : (name : Text) → has names name ≡ true
+      → (path : Text) × (has paths (prefix ++ path) ≡ true) × IsFirstPart path name
+  pub all : (path name : Text) → has paths (prefix ++ path) ≡ true → IsFirstPart path name → has names name ≡ true
+
 pub record AreAsDocumented : Type 0 where
   pub root : RootAlone
   pub capabilities : (b : Broker) (c path : Text) → AsksByVerb b c path
   pub sudo : SudoAlone
   pub sudo_needed : SudoIsNeeded
   pub accessors : AccessorsHideTokens
+  pub folders : (prefix : Text) (paths : List Text) → ListsFolder prefix paths (children prefix paths)

@@ -226,8 +226,9 @@ pub fn allowed_requests_are_carried_out()
 }
 
 /// A law: only `root` lets do everything; a verb asks for its capability, and a write for `create` exactly where it
-/// makes an object of a cubbyhole or a secret that is not there; and a look-up by accessor does not tell the token's
-/// text (Vault's documentation, "Policies", "Token auth method (API)").
+/// makes an object of a cubbyhole or a secret that is not there; a look-up by accessor does not tell the token's text;
+/// and the list of a folder has the first part of each path in it, and nothing else (Vault's documentation, "Policies",
+/// "Token auth method (API)", "KV secrets engine - version 2 (API)", list secrets).
 pub fn permission_is_as_documented()
     ensures { AreAsDocumented }
 {}
