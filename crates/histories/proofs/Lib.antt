@@ -59,5 +59,6 @@ pub mod TokenGiven
 pub mod TokenLaws
 pub mod Used
 pub mod VersionsFollow
+pub mod WhyRefused
 pub mod WithTtl
 pub mod Wraps

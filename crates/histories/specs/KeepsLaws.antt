@@ -18,6 +18,7 @@ use Rattle.histories.specs.Settings.{SettingsFollow}
 use Rattle.histories.specs.Shown.{AnswersShow}
 use Rattle.histories.specs.Statuses.{StatusesFollow}
 use Rattle.histories.specs.Versions.{VersionsFollow}
+use Rattle.histories.specs.WhyRefused.{TellsWhy}
 
 -- What the history asks, from the broker b on, keeps the laws.
 pub record KeepsLaws (b : Broker) (history : History) : Type 0 where
@@ -52,6 +53,8 @@ pub record KeepsLaws (b : Broker) (history : History) : Type 0 where
   pub statuses : StatusesFollow history
   -- And some of what is allowed is always done.
   pub allowed : DoesAllowed history
+  -- What is refused though policies grant it, is told why.
+  pub refusals : TellsWhy history
   -- A look-up shows what there is.
   pub shown : AnswersShow history
 

@@ -24,3 +24,4 @@ pub mod Settings
 pub mod Shown
 pub mod Statuses
 pub mod Versions
+pub mod WhyRefused

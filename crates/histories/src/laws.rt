@@ -22,6 +22,7 @@ ghost use Rattle.histories.specs.Settings.{AllSettingsFollow};
 ghost use Rattle.histories.specs.Shown.{AllAnswersShow};
 ghost use Rattle.histories.specs.Statuses.{AllStatusesFollow};
 ghost use Rattle.histories.specs.Versions.{AllVersionsFollow};
+ghost use Rattle.histories.specs.WhyRefused.{AllTellWhy};
 
 use broker_model::{operations_do_as_told, wrapping_commands_are_proper};
 use mounts::{patterns_are_found_by_form, tables_are_in_order};
@@ -225,6 +226,16 @@ pub fn allowed_requests_are_carried_out()
     granted_as_said();
 }
 
+/// A law: a request without a wrap TTL that policies grant, and which asks for what is not there, is refused with 404,
+/// or 403 if that is a token, or 400 if it is a lease; so are with 400 a renewal of a token without end, and a write
+/// that check-and-set does not let pass (Vault's documentation, "HTTP API", HTTP status codes; "KV secrets engine -
+/// version 2 (API)").
+pub fn refusals_tell_why()
+    ensures { AllTellWhy }
+{
+    policies_decide();
+}
+
 /// A law: only `root` lets do everything; a verb asks for its capability, and a write for `create` exactly where it
 /// makes an object of a cubbyhole or a secret that is not there; a look-up by accessor does not tell the token's text;
 /// and the list of a folder has the first part of each path in it, and nothing else (Vault's documentation, "Policies",
@@ -298,5 +309,6 @@ pub fn all_that_is_asked_keeps_the_laws()
     only_allowed_requests_are_served();
     statuses_follow();
     allowed_requests_are_carried_out();
+    refusals_tell_why();
     look_ups_show_what_there_is();
 }

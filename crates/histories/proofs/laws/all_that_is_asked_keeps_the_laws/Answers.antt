@@ -29,5 +29,6 @@ returns c = λ b history asked.
       callers = c.only_allowed_requests_are_served.ensures b history asked;
       statuses = c.statuses_follow.ensures b history asked;
       allowed = c.allowed_requests_are_carried_out.ensures b history asked;
+      refusals = c.refusals_tell_why.ensures b history asked;
       shown = c.look_ups_show_what_there_is.ensures b history asked;
     }

@@ -1,0 +1,103 @@
+-- The law of why a request is refused that policies grant, as a statement: it is told that what it asks for is not
+-- there, or that check-and-set does not let it pass (Vault's documentation, "HTTP API", HTTP status codes; "KV secrets
+-- engine - version 2 (API)", "Token auth method (API)"; the engine that issues credentials, and the texts of refusals,
+-- are this project's).
+use Rattle.std.specs.Prelude.{◌≡◌, ◌≢◌, ◌⊎◌, ℕ, true, Some, None, Ok, codes}
+use Rattle.broker_types.specs.Text.{Text}
+use Rattle.broker_types.specs.Answer.{refused}
+use Rattle.broker_types.specs.Map.{get}
+use Rattle.broker_types.specs.Broker.{Broker, Mount}
+use Rattle.broker_types.specs.Places.{lease_of}
+use Rattle.broker_types.specs.Secret.{Key}
+use Rattle.broker_types.specs.Token.{Token}
+use Rattle.broker_types.specs.declared.refusal.Denial.TheVariants as denial
+use Rattle.broker_types.specs.declared.refusal.Reason.TheVariants as reason
+use Rattle.broker_types.specs.declared.refusal.Refusal.{Refusal}
+use Rattle.broker_types.specs.declared.refusal.Refusal.TheVariants as refusal
+use Rattle.api_json.specs.declared.lease_bodies.LeaseRenewal.{LeaseRenewal}
+use Rattle.api_json.specs.declared.secret_bodies.SecretWrite.{SecretWrite}
+use Rattle.api_json.specs.declared.token_bodies.TokenRenewal.{TokenRenewal}
+use Rattle.broker_model.specs.Command.{Command, command_of, on_cubbyhole, on_issued, on_lease, on_policy, on_secret}
+use Rattle.broker_model.specs.Command.{on_token}
+use Rattle.broker_model.specs.declared.commands.CubbyholeCommand.TheVariants as of_cubbyhole
+use Rattle.broker_model.specs.declared.commands.IssuedCommand.TheVariants as of_issued
+use Rattle.broker_model.specs.declared.commands.LeaseCommand.TheVariants as of_lease
+use Rattle.broker_model.specs.declared.commands.PolicyCommand.TheVariants as of_policy
+use Rattle.broker_model.specs.declared.commands.SecretCommand.TheVariants as of_secret
+use Rattle.broker_model.specs.declared.commands.TokenCommand.TheVariants as of_token
+use Rattle.broker_model.specs.parts.Place.{Place}
+use Rattle.histories.specs.Callers.{IsAllowed}
+use Rattle.histories.specs.History.{AreAsked, Asking, AskedAt, History, clocked}
+use Rattle.histories.specs.Versions.{LacksVersion, named}
+
+-- Policies grant the request, which has no wrap TTL, and means the command.
+pub record Asks (a : Asking) (command : Command) : Type 0 where
+  pub granted : IsAllowed a
+  pub no_ttl : a.ask.wrap_ttl ≡ 0
+  pub means : command_of (clocked a).mounts a.ask ≡ Ok command
+
+-- it is refused so
+abbrev pub IsRefusedBy : Asking → Refusal → Type 0
+IsRefusedBy a why = a.outcome.response ≡ refused why
+
+-- no token has a lease of the id
+abbrev pub LacksId : Asking → Text → Type 0
+LacksId a lease_id = (q : Text) → lease_of (clocked a) q lease_id ≡ None
+
+-- The write tells a version that is not the current one, which is 0 for a new secret. Its mount is there.
+pub record FailsCheck (a : Asking) (p : Place) (asked : SecretWrite) : Type 0 where
+  pub of_mount : Mount
+  pub in_mount : get (clocked a).mounts p.mount ≡ Some of_mount
+  pub told : ℕ
+  pub tells : asked.cas ≡ Some told
+  pub by_key : (key : Key) → get (clocked a).secrets (named p) ≡ Some key → told ≢ key.current
+  pub by_none : get (clocked a).secrets (named p) ≡ None → told ≢ 0
+
+-- The write tells none, but the secret or its mount wants to be told.
+pub record LacksCheck (a : Asking) (p : Place) (asked : SecretWrite) : Type 0 where
+  pub of_mount : Mount
+  pub in_mount : get (clocked a).mounts p.mount ≡ Some of_mount
+  pub tells_none : asked.cas ≡ None
+  pub wanted : (of_mount.cas_required ≡ true)
+      ⊎ ((key : Key) × (get (clocked a).secrets (named p) ≡ Some key) × (key.cas_required ≡ true))
+
+pub record TellsWhy (history : History) : Type 0 where
+  -- 404: a version, a secret, an object, a role or a policy that is not there
+  pub version : (i : ℕ) (a : Asking) (p : Place) (n : ℕ) → AskedAt history i a → Asks a (on_secret p (of_secret.Read n))
+      → LacksVersion a p n → IsRefusedBy a refusal.NotFound
+  pub secret : (i : ℕ) (a : Asking) (p : Place) → AskedAt history i a → Asks a (on_secret p of_secret.ShowMetadata)
+      → get (clocked a).secrets (named p) ≡ None → IsRefusedBy a refusal.NotFound
+  pub object : (i : ℕ) (a : Asking) (path : Text) → AskedAt history i a
+      → (h : Asks a (on_cubbyhole path of_cubbyhole.Read)) → get (h.granted).own.cubbyhole path ≡ None
+      → IsRefusedBy a refusal.NotFound
+  pub role : (i : ℕ) (a : Asking) (p : Place) → AskedAt history i a → Asks a (on_issued p of_issued.ShowRole)
+      → get (clocked a).roles (named p) ≡ None → IsRefusedBy a refusal.NotFound
+  pub policy : (i : ℕ) (a : Asking) (name : Text) → AskedAt history i a → Asks a (on_policy name of_policy.Show)
+      → name ≢ codes "root" → get (clocked a).policies name ≡ None → IsRefusedBy a refusal.NotFound
+  -- 403 `bad token`: a token to look up or to renew
+  pub token : (i : ℕ) (a : Asking) (t : Text) → AskedAt history i a → Asks a (on_token (of_token.LookUp t))
+      → get (clocked a).tokens t ≡ None → IsRefusedBy a (refusal.Forbidden denial.BadToken)
+  pub renewed_token : (i : ℕ) (a : Asking) (asked : TokenRenewal) → AskedAt history i a
+      → Asks a (on_token (of_token.Renew asked)) → get (clocked a).tokens asked.token ≡ None
+      → IsRefusedBy a (refusal.Forbidden denial.BadToken)
+  -- 400: a token to renew that has no end, a lease to look up or to renew that is not there
+  pub endless : (i : ℕ) (a : Asking) (asked : TokenRenewal) (x : Token) → AskedAt history i a
+      → Asks a (on_token (of_token.Renew asked)) → get (clocked a).tokens asked.token ≡ Some x → x.ends ≡ None
+      → IsRefusedBy a (refusal.BadRequest reason.TokenNotRenewable)
+  pub lease : (i : ℕ) (a : Asking) (prefix lease_id : Text) → AskedAt history i a
+      → Asks a (on_lease prefix (of_lease.LookUp lease_id)) → LacksId a lease_id
+      → IsRefusedBy a (refusal.BadRequest reason.InvalidLease)
+  pub renewed_lease : (i : ℕ) (a : Asking) (prefix : Text) (asked : LeaseRenewal) → AskedAt history i a
+      → Asks a (on_lease prefix (of_lease.Renew asked)) → LacksId a asked.lease_id
+      → IsRefusedBy a (refusal.BadRequest reason.InvalidLease)
+  -- and 400: a write that tells another version than the current one, or none where it should
+  pub compared : (i : ℕ) (a : Asking) (p : Place) (asked : SecretWrite) → AskedAt history i a
+      → Asks a (on_secret p (of_secret.Write asked)) → FailsCheck a p asked
+      → IsRefusedBy a (refusal.BadRequest reason.CheckAndSetFailed)
+  pub not_compared : (i : ℕ) (a : Asking) (p : Place) (asked : SecretWrite) → AskedAt history i a
+      → Asks a (on_secret p (of_secret.Write asked)) → LacksCheck a p asked
+      → IsRefusedBy a (refusal.BadRequest reason.CheckAndSetRequired)
+
+-- whatever the first broker is
+abbrev pub AllTellWhy : Type 0
+AllTellWhy = (b : Broker) (history : History) → AreAsked b history → TellsWhy history
