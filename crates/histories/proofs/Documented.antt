@@ -55,6 +55,7 @@ use Rattle.histories.specs.Documented.{AccessorsHideTokens, AreAsDocumented, Ask
 use Rattle.histories.proofs.CreationRoutes.{whole}
 use Rattle.histories.proofs.Folders.{folders_listed}
 use Rattle.histories.proofs.OrderCases.{some_ok}
+use Rattle.histories.proofs.Words.{policies_are_read}
 
 -- ---- root
 
@@ -319,6 +320,7 @@ pub as_documented : AreAsDocumented
 as_documented = record {
   root = record { only = root_only; everything = root_everything };
   capabilities = asks;
+  policies = policies_are_read;
   sudo = record {
     only = sudo_only;
     accessors = accessors_ask;

@@ -61,4 +61,5 @@ pub mod Used
 pub mod VersionsFollow
 pub mod WhyRefused
 pub mod WithTtl
+pub mod Words
 pub mod Wraps

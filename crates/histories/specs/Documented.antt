@@ -2,7 +2,8 @@
 -- documentation, "Policies", root policy, capabilities, root-protected API endpoints; "Token auth method (API)", look
 -- up by accessor; "KV secrets engine - version 2 (API)" and "Cubbyhole secrets engine (API)", list secrets).
 use Rattle.std.specs.Prelude.{◌≡◌, ◌⊎◌, ◌++◌, ℕ, List, [], ◌∷◌, Contains, true, codes, Some, None, Ok}
-use Rattle.broker_types.specs.Text.{Text}
+use Rattle.std.specs.Map.{lookup}
+use Rattle.broker_types.specs.Text.{Text, same}
 use Rattle.broker_types.specs.Map.{Map, empty, get}
 use Rattle.broker_types.specs.Broker.{Broker}
 use Rattle.broker_types.specs.Names.{Names}
@@ -20,8 +21,12 @@ use Rattle.mounts.specs.declared.operation.CubbyholeOperation.TheVariants as cub
 use Rattle.mounts.specs.declared.operation.Operation.TheVariants.{Cubbyholes, Secrets}
 use Rattle.mounts.specs.declared.operation.SecretOperation.TheVariants as secret
 use Rattle.policies.specs.Grants.{grants}
+use Rattle.policies.specs.Reading.{pattern_of, word_named}
 use Rattle.policies.specs.declared.capability.Capability.{Capability}
 use Rattle.policies.specs.declared.capability.Capability.TheVariants as capability
+use Rattle.policies.specs.declared.capability.Word.{Word}
+use Rattle.policies.specs.declared.capability.Word.TheVariants.{Deny, Grant, Patch}
+use Rattle.policies.specs.declared.pattern.Pattern.TheVariants.{Exact, Prefix}
 use Rattle.token_tree.specs.Tokens.{find_accessor}
 use Rattle.broker_model.specs.Capabilities.{asked}
 use Rattle.broker_model.specs.Permission.{permits}
@@ -76,6 +81,22 @@ SudoIsNeeded =
     (b : Broker) (c : Text) (v : Verb) (path : Text) → permits b (Some c) v path ≡ true → asks_sudo path ≡ true
     → (x : Token) × (get b.tokens c ≡ Some x) × (grants b.policies x.policies v path capability.Sudo ≡ true)
 
+-- ---- words and patterns
+
+-- what the texts in a policy's list of capabilities mean
+abbrev pub capability_words : List (Text × Word)
+capability_words =
+    (codes "deny", Deny) ∷ (codes "patch", Patch)
+    ∷ (codes "create", Grant capability.Create) ∷ (codes "read", Grant capability.Read)
+    ∷ (codes "update", Grant capability.Update) ∷ (codes "delete", Grant capability.Delete)
+    ∷ (codes "list", Grant capability.List) ∷ (codes "sudo", Grant capability.Sudo) ∷ []
+
+-- These texts mean these words, and no other text is one. A path that ends in `*` is a prefix, and any other is itself.
+pub record PoliciesAreRead : Type 0 where
+  pub words : (s : Text) → word_named s ≡ lookup (same s) capability_words
+  pub prefix : (s : Text) → pattern_of (s ++ codes "*") ≡ Prefix s
+  pub exact : (s t : Text) → pattern_of s ≡ Exact t → t ≡ s
+
 -- ---- look-ups by accessor
 
 -- What is answered to a look-up by accessor does not depend on the text of the token: at two brokers with the same
@@ -108,6 +129,7 @@ pub record ListsFolder (prefix : Text) (paths names : List Text) : Type 0 where
 pub record AreAsDocumented : Type 0 where
   pub root : RootAlone
   pub capabilities : (b : Broker) (c path : Text) → AsksByVerb b c path
+  pub policies : PoliciesAreRead
   pub sudo : SudoAlone
   pub sudo_needed : SudoIsNeeded
   pub accessors : AccessorsHideTokens

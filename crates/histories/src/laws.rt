@@ -236,10 +236,11 @@ pub fn refusals_tell_why()
     policies_decide();
 }
 
-/// A law: only `root` lets do everything; a verb asks for its capability, and a write for `create` exactly where it
-/// makes an object of a cubbyhole or a secret that is not there; a look-up by accessor does not tell the token's text;
-/// and the list of a folder has the first part of each path in it, and nothing else (Vault's documentation, "Policies",
-/// "Token auth method (API)", "KV secrets engine - version 2 (API)", list secrets).
+/// A law: only `root` lets do everything; the words of a policy are those of the documentation; a verb asks for its
+/// capability, and a write for `create` exactly where it makes an object of a cubbyhole or a secret that is not there;
+/// a look-up by accessor does not tell the token's text; and the list of a folder has the first part of each path in
+/// it, and nothing else (Vault's documentation, "Policies", "Token auth method (API)", "KV secrets engine - version 2
+/// (API)", list secrets).
 pub fn permission_is_as_documented()
     ensures { AreAsDocumented }
 {}
