@@ -2,7 +2,6 @@ use Rattle.std.specs.Prelude.{Some}
 use Rattle.std.proofs.Common.{refl, sym, subst}
 use Rattle.std.proofs.lemmas.Option.{same_Some}
 use Rattle.std.proofs.lemmas.Result.{on_ok_weaker}
-use Rattle.records.specs.CallLaws.{on_answer}
 use Rattle.records.specs.Ranges.{IsTokenInRange}
 use Rattle.records.specs.Transaction.{Rows}
 use Rattle.broker_model.specs.declared.commands.TokenCommand.{TokenCommand}
