@@ -50,11 +50,10 @@ NUMBERS = itertools.count()  # of runs
 
 # The fewest allocations of an event on average, without the start, in the five rows and in others, of which some have
 # requests that are refused by their heads; and the fewest runs of a hundred with an allocation after the start refused in
-# which the request has to be sent once more; in one run it may be otherwise. The others are allocations without which a
-# request goes on: over SQL more, since a row that was read is remembered only if there is memory for it.
+# which the request has to be sent once more; in one run it may be otherwise.
 ALLOCATIONS = {"list": 50, "sql": 150}
 ALLOCATIONS_OF_OTHERS = {"list": 10, "sql": 30}
-SENT = {"list": 95, "sql": 90}
+SENT = {"list": 95, "sql": 95}
 FAULTS = {"list": "1", "sql": "12"}
 
 TOLD = {"list": re.compile(rb"event ([1-9][0-9]*): fault (1), sent once more\n"),
@@ -236,7 +235,7 @@ class Judge:
     def __init__(self, tally, runs, count):
         self.expect, self.tell, self.runs, self.way, self.count = tally.expect, tally.tell, runs, runs.way, count
         self.name, self.events = runs.name, len(events_of(runs.replay))
-        self.last = 0
+        self.last = self.starts = 0  # starts: how many outcomes there were up to the last fault at the start
         self.kinds, self.faults, self.sent = (collections.Counter() for _ in range(3))
 
     def take(self, number, ended):
@@ -246,6 +245,7 @@ class Judge:
             self.kinds[outcome.kind] += 1
             self.faults.update([outcome.fault] if outcome.fault else [])
             self.sent.update([outcome.place] if outcome.kind == "again" else [])
+            self.starts = sum(self.kinds.values()) if outcome.kind == "started" else self.starts
             wrong = self.wrong_place(outcome)
         self.expect(wrong is None, f"{self.name}: allocation {number}: {wrong}")
 
@@ -268,7 +268,7 @@ class Judge:
         for fault in FAULTS[store] if is_one_of_five or step <= DENSE else ():
             self.expect(self.faults[fault] > 0, f"{self.name}: no fault {fault}")
         if self.way.retries:
-            sent, after = self.kinds["again"], tried - self.kinds["started"]
+            sent, after = self.kinds["again"], tried - self.starts
             least = (ALLOCATIONS if is_one_of_five else ALLOCATIONS_OF_OTHERS)[store]
             self.expect((after + 1) * step > least * self.events,
                         f"{self.name}: {after} allocations of the events were refused")
