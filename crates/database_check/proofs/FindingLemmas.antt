@@ -3,9 +3,8 @@ use Rattle.std.proofs.Common.{◌≡◌, Option, Some, None, subst}
 use Rattle.std.specs.Prelude.{IfNone}
 use Rattle.database_check.specs.Findings.{IfSound}
 use Rattle.database_check.specs.declared.checking.Finding.{Finding}
-use Rattle.std.proofs.Common.{sym, ◌∙◌}
+use Rattle.std.proofs.Common.{◌∙◌}
 use Rattle.std.specs.Prelude.{IfSome}
-use Rattle.broker_rows.specs.Representing.{Represents}
 use Rattle.records.specs.Table.{table_of}
 use Rattle.records.specs.Transaction.{Rows}
 use Rattle.records.specs.Upgraded.{AreUpgraded}
@@ -13,6 +12,8 @@ use Rattle.records.specs.UpgradedLaws.{one_table}
 use Rattle.soundness.specs.Laws.{AreOfABroker}
 use Rattle.database_check.specs.Findings.{IfUnsound, OpenAsABroker}
 use Rattle.database_check.specs.declared.checking.Finding.TheVariants.{Sound, Unsound}
+use Rattle.database_check.specs.declared.counts.Counts.{Counts}
+use Rattle.database_check.specs.declared.defect.Defect.{Defect}
 
 -- of no row
 pub none_found : {X : Type 0} {P : Type 0} (o : Option X) → o ≡ None → IfNone o P → P
@@ -23,17 +24,19 @@ pub if_none : {X : Type 0} {P Q : Type 0} (o : Option X) → (P → Q) → IfNon
 if_none None f p = f p
 if_none (Some x) f p = tt
 
-pub if_sound : {P Q : Type 0} (finding : Finding) → (P → Q) → IfSound finding P → IfSound finding Q
-if_sound (Sound counts) f p = f p
+pub if_sound : {P Q : Counts → Type 0} (finding : Finding) → ((counts : Counts) → P counts → Q counts)
+    → IfSound finding P → IfSound finding Q
+if_sound (Sound counts) f p = f counts p
 if_sound (Unsound defect) f p = tt
 
 -- of the row
 pub some_found : {X : Type 0} (P : X → Type 0) (o : Option X) (x : X) → o ≡ Some x → IfSome o P → P x
 some_found {X = X} P o x is p = subst (λ (q : Option X). IfSome q P) is p
 
-pub if_unsound : {P Q : Type 0} (finding : Finding) → (P → Q) → IfUnsound finding P → IfUnsound finding Q
+pub if_unsound : {P Q : Defect → Type 0} (finding : Finding) → ((defect : Defect) → P defect → Q defect)
+    → IfUnsound finding P → IfUnsound finding Q
 if_unsound (Sound counts) f p = tt
-if_unsound (Unsound defect) f p = f p
+if_unsound (Unsound defect) f p = f defect p
 
 -- where what they are rewritten to is of no sound broker, an opening makes no rows of one of them
 pub opens_as_none : (old rows : Rows) → AreUpgraded (table_of old) (table_of rows) → (AreOfABroker rows → ⊥)

@@ -1,32 +1,72 @@
 -- What a check of a database finds (this project's definition).
-use Rattle.std.specs.Prelude.{⊤}
+use Rattle.std.specs.Prelude.{◌≡◌, ℕ, [], length, ⊤}
 use Rattle.sqlite.specs.Recovery.{Image}
 use Rattle.records.specs.Table.{table_of}
-use Rattle.records.specs.Transaction.{Rows}
+use Rattle.records.specs.Transaction.{Rows, rows_under}
 use Rattle.records.specs.Upgraded.{AreUpgraded}
+use Rattle.records.specs.declared.kind.Kind.{Kind}
+use Rattle.records.specs.declared.kind.Kind.TheVariants as kind
 use Rattle.records_sql.specs.Adopted.{IsKeptIn}
+use Rattle.soundness.specs.Broken.{Breaks}
 use Rattle.soundness.specs.Laws.{AreOfABroker}
+use Rattle.soundness.specs.declared.trouble.Trouble.{Trouble}
+use Rattle.database_check.specs.Naming.{TellsOf}
 use Rattle.database_check.specs.declared.checking.Finding.{Finding}
 use Rattle.database_check.specs.declared.checking.Finding.TheVariants.{Sound, Unsound}
+use Rattle.database_check.specs.declared.counts.Counts.{Counts}
+use Rattle.database_check.specs.declared.defect.Defect.{Defect}
 
--- if the rows were found to be those of a sound broker, P
-abbrev pub IfSound : Finding → Type 0 → Type 0
-IfSound (Sound counts) P = P
+-- if the rows were found to be those of a sound broker, P of their counts
+abbrev pub IfSound : Finding → (Counts → Type 0) → Type 0
+IfSound (Sound counts) P = P counts
 IfSound (Unsound defect) P = ⊤
 
--- if they were found not to be, P
-abbrev pub IfUnsound : Finding → Type 0 → Type 0
+-- if they were found not to be, P of the row that was told of
+abbrev pub IfUnsound : Finding → (Defect → Type 0) → Type 0
 IfUnsound (Sound counts) P = ⊤
-IfUnsound (Unsound defect) P = P
+IfUnsound (Unsound defect) P = P defect
+
+-- how many rows of a kind there are
+abbrev pub count_of : Rows → Kind → ℕ
+count_of rows k = length (rows_under rows k [])
+
+-- how many of each there are
+abbrev pub counts_of : Rows → Counts
+counts_of rows =
+    record {
+      tokens = count_of rows kind.Token;
+      objects = count_of rows kind.Cubby;
+      secrets = count_of rows kind.KvKey;
+      versions = count_of rows kind.KvVersion;
+      leases = count_of rows kind.Lease;
+      responses = count_of rows kind.Waiting;
+      mounts = count_of rows kind.Mount;
+      policies = count_of rows kind.Policy;
+      roles = count_of rows kind.Role;
+    }
 
 -- an opening makes rows of them that are those of a sound broker
 abbrev pub OpenAsABroker : Rows → Type 0
 OpenAsABroker old = (rows : Rows) × AreUpgraded (table_of old) (table_of rows) × AreOfABroker rows
 
--- two files, a database and its log, keep rows of which an opening makes those of a sound broker
-abbrev pub KeepABroker : Image → Type 0
-KeepABroker image = (rows : Rows) × IsKeptIn image rows × OpenAsABroker rows
+-- and so many there are then
+abbrev pub OpenAsCounted : Rows → Counts → Type 0
+OpenAsCounted old counts =
+    (rows : Rows) × AreUpgraded (table_of old) (table_of rows) × AreOfABroker rows × (counts ≡ counts_of rows)
 
--- or rows of which it does not
-abbrev pub KeepNoBroker : Image → Type 0
-KeepNoBroker image = (rows : Rows) × IsKeptIn image rows × (OpenAsABroker rows → ⊥)
+-- none makes such rows of them: in those that it makes a row breaks a rule, and the defect tells of that row
+pub record OpenAsNone (old : Rows) (defect : Defect) : Type 0 where
+  pub none : OpenAsABroker old → ⊥
+  pub rows : Rows
+  pub upgraded : AreUpgraded (table_of old) (table_of rows)
+  pub trouble : Trouble
+  pub breaks : Breaks (table_of rows) trouble
+  pub tells : TellsOf rows trouble defect
+
+-- two files, a database and its log, keep rows of which an opening makes those of a sound broker, with these counts
+abbrev pub KeepABroker : Image → Counts → Type 0
+KeepABroker image counts = (rows : Rows) × IsKeptIn image rows × OpenAsCounted rows counts
+
+-- or rows of which it does not, and the defect tells why
+abbrev pub KeepNoBroker : Image → Defect → Type 0
+KeepNoBroker image defect = (rows : Rows) × IsKeptIn image rows × OpenAsNone rows defect

@@ -1,26 +1,47 @@
--- By what a row is named where it is in trouble (this project's definition).
-use Rattle.std.specs.Prelude.{◌≡◌, Some}
+-- What is told of a row in trouble: which it is of its kind, its name, and what is wrong (this project's definition).
+use Rattle.std.specs.Prelude.{◌≡◌, ◌≢◌, ◌⊎◌, [], length, if◌then◌else◌, Option, Some, None}
+use Rattle.std.specs.Char.{is_ascii_graphic}
 use Rattle.std.specs.FinMap as map
+use Rattle.std.specs.List.{list_all}
 use Rattle.broker_types.specs.Broker.{Waiting}
 use Rattle.broker_types.specs.Text.{Text}
+use Rattle.records.specs.Ranges.{IsTokenInRange, IsWaitingInRange}
 use Rattle.records.specs.RowForms.{entry_row, waiting_row}
 use Rattle.records.specs.TokenEntry.{TokenEntry}
-use Rattle.records.specs.Transaction.{Rows}
+use Rattle.records.specs.Transaction.{Rows, rows_upto}
 use Rattle.records.specs.declared.kind.Kind.{Kind}
 use Rattle.records.specs.declared.kind.Kind.TheVariants as kind
+use Rattle.records.specs.declared.row.Row.{Row}
+use Rattle.soundness.specs.declared.trouble.Trouble.{Trouble}
+use Rattle.database_check.specs.declared.defect.Defect.{Defect}
 
--- t is the accessor in the row of a token
-abbrev pub IsAccessorOfToken : Rows → Text → Text → Type 0
-IsAccessorOfToken rows key t =
-    (x : TokenEntry) × (map.get rows (kind.Token, key) ≡ Some (entry_row x)) × (t ≡ x.accessor)
+-- the text, if it has visible ASCII characters alone
+abbrev pub visible : Text → Option Text
+visible t = if list_all is_ascii_graphic t then Some t else None
 
--- t is the accessor of a wrapping token, in the row of its response
-abbrev pub IsAccessorOfResponse : Rows → Text → Text → Type 0
-IsAccessorOfResponse rows key t =
-    (w : Waiting) × (map.get rows (kind.Waiting, key) ≡ Some (waiting_row w)) × (t ≡ w.accessor)
+-- the accessor in a row, if it is visible; no name if there is no row, or if it is that of no record
+abbrev pub IsAccessorIn : {X : Type 0} → (X → Type 0) → (X → Row) → (X → Text) → Option Row → Option Text → Type 0
+IsAccessorIn {X} IsInRange row_of accessor row name =
+    ((x : X) × IsInRange x × (row ≡ Some (row_of x)) × (name ≡ visible (accessor x)))
+    ⊎ (((x : X) → IsInRange x → row ≢ Some (row_of x)) × (name ≡ None))
 
--- t names the row: one of a token or of a response by the accessor in it, and any other by its key
-abbrev pub IsNamed : Rows → Kind → Text → Text → Type 0
-IsNamed rows kind.Token key t = IsAccessorOfToken rows key t
-IsNamed rows kind.Waiting key t = IsAccessorOfResponse rows key t
-IsNamed rows _ key t = t ≡ key
+-- The name of the row at a kind and key: that of a token or of a response is the accessor in it, and never its key.
+-- Other keys are told only where they are names.
+abbrev pub IsName : Rows → Kind → Text → Option Text → Type 0
+IsName rows kind.Token key name =
+    IsAccessorIn IsTokenInRange entry_row (λ (x : TokenEntry). x.accessor) (map.get rows (kind.Token, key)) name
+IsName rows kind.Waiting key name =
+    IsAccessorIn IsWaitingInRange waiting_row (λ (w : Waiting). w.accessor) (map.get rows (kind.Waiting, key)) name
+IsName rows kind.KvKey key name = name ≡ visible key
+IsName rows kind.Mount key name = name ≡ visible key
+IsName rows kind.Policy key name = name ≡ visible key
+IsName rows kind.Role key name = name ≡ visible key
+IsName rows _ key name = name ≡ None
+
+-- the defect tells of the row in trouble
+pub record TellsOf (rows : Rows) (t : Trouble) (d : Defect) : Type 0 where
+  pub of_kind : d.kind ≡ t.kind
+  pub of_rule : d.rule ≡ t.rule
+  -- so many rows of its kind there are up to it, in the order of their keys
+  pub place : d.number ≡ length (rows_upto rows t.kind [] t.key)
+  pub name_of : IsName rows t.kind t.key d.name

@@ -8,8 +8,12 @@ ghost use Rattle.broker.specs.Kept.{IsHonestStore};
 ghost use Rattle.broker_rows.specs.ClockRow.{HasNoClock};
 ghost use Rattle.broker_sql.specs.SqlKept.{kept_records};
 ghost use Rattle.records.specs.Calls.{IsCall};
+ghost use Rattle.records.specs.Table.{table};
 ghost use Rattle.records.specs.Transaction.{IsHonest};
+ghost use Rattle.records.specs.Upgraded.{AreUpgraded};
+ghost use Rattle.soundness.specs.Laws.{AreOfABroker};
 ghost use Rattle.database_check.specs.Findings.{IfSound, IfUnsound, KeepABroker, KeepNoBroker, OpenAsABroker};
+ghost use Rattle.database_check.specs.Findings.{OpenAsCounted, OpenAsNone};
 
 use crate::counts::Counts;
 use crate::defect::Defect;
@@ -45,9 +49,9 @@ impl fmt::Display for Finding {
 /// are not. The rows stay as they are. It fails only if memory runs out or the storage fails.
 pub fn check_records<S: Alter>(alloc: Global, records: &mut SqlRecords<S>) -> Result<Finding, Fault>
     ensures sound { IsHonestStore (kept_records S.Store records.new) → IfOk result (λ finding.
-        IfSound finding (OpenAsABroker (kept_records S.Store records.old).rows)) }
+        IfSound finding (OpenAsCounted (kept_records S.Store records.old).rows)) }
     ensures unsound { IsHonestStore (kept_records S.Store records.new) → IfOk result (λ finding.
-        IfUnsound finding (OpenAsABroker (kept_records S.Store records.old).rows → ⊥)) }
+        IfUnsound finding (OpenAsNone (kept_records S.Store records.old).rows)) }
     ensures same { IsHonestStore (kept_records S.Store records.new) → IsTrue (kept_records S.Store records.new).is_open
         → (kept_records S.Store records.new).rows ≡ (kept_records S.Store records.old).rows }
     ensures mismatches { (kept_records S.Store records.old).mismatches
@@ -62,9 +66,9 @@ pub fn check_records<S: Alter>(alloc: Global, records: &mut SqlRecords<S>) -> Re
 /// Rewrites the rows of keys in format 1, checks all rows, and counts them if they are those of a sound broker.
 fn find<T: RecordsTx>(alloc: Global, tx: &mut T) -> Result<Finding, Fault>
     ensures sound { IsHonest (T.seen tx.new) → IfOk result (λ finding.
-        IfSound finding (OpenAsABroker (T.seen tx.old).rows)) }
+        IfSound finding (OpenAsCounted (T.seen tx.old).rows)) }
     ensures unsound { IsHonest (T.seen tx.new) → IfOk result (λ finding.
-        IfUnsound finding (OpenAsABroker (T.seen tx.old).rows → ⊥)) }
+        IfUnsound finding (OpenAsNone (T.seen tx.old).rows)) }
     ensures call { IsCall (T.seen tx.old) (T.seen tx.new) result IsMemoryOrStorage }
 {
     match find_defect(alloc, tx)? {
@@ -75,10 +79,10 @@ fn find<T: RecordsTx>(alloc: Global, tx: &mut T) -> Result<Finding, Fault>
 
 /// Rewrites the rows of keys in format 1, and checks all rows.
 fn find_defect<T: RecordsTx>(alloc: Global, tx: &mut T) -> Result<Option<Defect>, Fault>
-    ensures sound { IsHonest (T.seen tx.new) → IfOk result (λ defect.
-        IfNone defect (OpenAsABroker (T.seen tx.old).rows)) }
+    ensures sound { IsHonest (T.seen tx.new) → IfOk result (λ defect. IfNone defect
+        (AreUpgraded (table (T.seen tx.old)) (table (T.seen tx.new)) × AreOfABroker (T.seen tx.new).rows)) }
     ensures unsound { IsHonest (T.seen tx.new) → IfOk result (λ defect.
-        IfSome defect (λ _. OpenAsABroker (T.seen tx.old).rows → ⊥)) }
+        IfSome defect (OpenAsNone (T.seen tx.old).rows)) }
     ensures call { IsCall (T.seen tx.old) (T.seen tx.new) result IsMemoryOrStorage }
 {
     upgrade_keys(alloc, tx)?;
@@ -98,8 +102,8 @@ pub fn defect_of<S: Alter>(
 ) -> Result<Option<Defect>, Fault>
     ensures sound { IsHonestStore (kept_records S.Store records.new) → IfOk result (λ defect. IfNone defect
         (HasNoClock (kept_records S.Store records.old).rows ⊎ OpenAsABroker (kept_records S.Store records.old).rows)) }
-    ensures unsound { IsHonestStore (kept_records S.Store records.new) → IfOk result (λ defect. IfSome defect
-        (λ _. OpenAsABroker (kept_records S.Store records.old).rows → ⊥)) }
+    ensures unsound { IsHonestStore (kept_records S.Store records.new) → IfOk result (λ defect.
+        IfSome defect (OpenAsNone (kept_records S.Store records.old).rows)) }
     ensures same { IsHonestStore (kept_records S.Store records.new)
         → OnOk result ((kept_records S.Store records.new).rows ≡ (kept_records S.Store records.old).rows) }
     ensures mismatches { (kept_records S.Store records.old).mismatches
@@ -120,7 +124,7 @@ fn find_if_started<T: RecordsTx>(alloc: Global, tx: &mut T) -> Result<Option<Def
     ensures sound { IsHonest (T.seen tx.new) → IfOk result (λ defect.
         IfNone defect (HasNoClock (T.seen tx.old).rows ⊎ OpenAsABroker (T.seen tx.old).rows)) }
     ensures unsound { IsHonest (T.seen tx.new) → IfOk result (λ defect.
-        IfSome defect (λ _. OpenAsABroker (T.seen tx.old).rows → ⊥)) }
+        IfSome defect (OpenAsNone (T.seen tx.old).rows)) }
     ensures call { IsCall (T.seen tx.old) (T.seen tx.new) result IsMemoryOrStorage }
 {
     if tx.get(Kind::Clock, "")?.is_none() {

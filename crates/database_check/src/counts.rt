@@ -1,7 +1,10 @@
 //! How many rows there are.
 
+ghost use Rattle.std.specs.Prelude.{◌≡◌, IfOk};
 ghost use Rattle.broker_types.specs.Fault.{IsMemoryOrStorage};
 ghost use Rattle.records.specs.Calls.{IsReading};
+ghost use Rattle.records.specs.Transaction.{IsHonest};
+ghost use Rattle.database_check.specs.Findings.{count_of, counts_of};
 
 use broker_types::Fault;
 use records::{Kind, RecordsTx};
@@ -26,7 +29,8 @@ pub struct Counts {
 impl Counts {
     /// The counts of a transaction.
     pub(crate) fn of<T: RecordsTx>(tx: &mut T) -> Result<Counts, Fault>
-        ensures { IsReading (T.seen tx.old) (T.seen tx.new) result IsMemoryOrStorage }
+        ensures counted { IsHonest (T.seen tx.new) → IfOk result (λ counts. counts ≡ counts_of (T.seen tx.old).rows) }
+        ensures call { IsReading (T.seen tx.old) (T.seen tx.new) result IsMemoryOrStorage }
     {
         Ok(Counts {
             tokens: count(tx, Kind::Token)?,
@@ -44,7 +48,8 @@ impl Counts {
 
 /// How many rows of a kind there are.
 fn count<T: RecordsTx>(tx: &mut T, kind: Kind) -> Result<usize, Fault>
-    ensures { IsReading (T.seen tx.old) (T.seen tx.new) result IsMemoryOrStorage }
+    ensures counted { IsHonest (T.seen tx.new) → IfOk result (λ number. number ≡ count_of (T.seen tx.old).rows kind) }
+    ensures call { IsReading (T.seen tx.old) (T.seen tx.new) result IsMemoryOrStorage }
 {
     Ok(tx.under(kind, "")?.len())
 }

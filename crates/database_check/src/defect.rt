@@ -1,10 +1,12 @@
 //! What is wrong with a row, told without a secret.
 
-ghost use Rattle.std.specs.Prelude.{◌≡◌, IfOk, IfSome};
+ghost use Rattle.std.specs.Prelude.{◌≡◌, IfOk};
+ghost use Rattle.std.specs.Char.{is_ascii_graphic};
+ghost use Rattle.std.specs.List.{list_all};
 ghost use Rattle.broker_types.specs.Fault.{IsMemoryOrStorage};
 ghost use Rattle.records.specs.Calls.{IsReading};
 ghost use Rattle.records.specs.Transaction.{IsHonest};
-ghost use Rattle.database_check.specs.Naming.{IsAccessorOfResponse, IsAccessorOfToken, IsNamed};
+ghost use Rattle.database_check.specs.Naming.{IsName, TellsOf, visible};
 
 use broker_types::{Fault, TextBuf};
 use records::{Kind, RecordsTx, read_token, read_waiting};
@@ -30,8 +32,7 @@ impl Defect {
         tx: &mut T,
         trouble: &Trouble,
     ) -> Result<Defect, Fault>
-        ensures named { IsHonest (T.seen tx.new) → IfOk result (λ defect. IfSome defect.name
-            (IsNamed (T.seen tx.old).rows trouble.now.kind trouble.now.key)) }
+        ensures tells { IsHonest (T.seen tx.new) → IfOk result (TellsOf (T.seen tx.old).rows trouble.now) }
         ensures call { IsReading (T.seen tx.old) (T.seen tx.new) result IsMemoryOrStorage }
     {
         let key = trouble.key.as_str();
@@ -53,8 +54,7 @@ fn name_of<T: RecordsTx>(
     kind: Kind,
     key: &str,
 ) -> Result<Option<TextBuf>, Fault>
-    ensures named { IsHonest (T.seen tx.new)
-        → IfOk result (λ name. IfSome name (IsNamed (T.seen tx.old).rows kind key.now)) }
+    ensures named { IsHonest (T.seen tx.new) → IfOk result (IsName (T.seen tx.old).rows kind key.now) }
     ensures call { IsReading (T.seen tx.old) (T.seen tx.new) result IsMemoryOrStorage }
 {
     match kind {
@@ -71,8 +71,7 @@ fn accessor_of_token<T: RecordsTx>(
     tx: &mut T,
     key: &str,
 ) -> Result<Option<TextBuf>, Fault>
-    ensures named { IsHonest (T.seen tx.new)
-        → IfOk result (λ name. IfSome name (IsAccessorOfToken (T.seen tx.old).rows key.now)) }
+    ensures named { IsHonest (T.seen tx.new) → IfOk result (IsName (T.seen tx.old).rows Kind.Token key.now) }
     ensures call { IsReading (T.seen tx.old) (T.seen tx.new) result IsMemoryOrStorage }
 {
     let Some(row) = tx.get(Kind::Token, key)? else {
@@ -80,8 +79,8 @@ fn accessor_of_token<T: RecordsTx>(
     };
     match read_token(alloc, &row) {
         Ok(token) => Ok(visible(alloc, token.accessor.as_str())?),
-        Err(Fault::Memory) => Err(Fault::Memory),
-        Err(_) => Ok(None),
+        Err(Fault::Damaged) => Ok(None),
+        Err(_) => Err(Fault::Memory),
     }
 }
 
@@ -91,8 +90,7 @@ fn accessor_of_response<T: RecordsTx>(
     tx: &mut T,
     key: &str,
 ) -> Result<Option<TextBuf>, Fault>
-    ensures named { IsHonest (T.seen tx.new)
-        → IfOk result (λ name. IfSome name (IsAccessorOfResponse (T.seen tx.old).rows key.now)) }
+    ensures named { IsHonest (T.seen tx.new) → IfOk result (IsName (T.seen tx.old).rows Kind.Waiting key.now) }
     ensures call { IsReading (T.seen tx.old) (T.seen tx.new) result IsMemoryOrStorage }
 {
     let Some(row) = tx.get(Kind::Waiting, key)? else {
@@ -106,13 +104,19 @@ fn accessor_of_response<T: RecordsTx>(
 
 /// The text, if it has visible ASCII characters alone.
 fn visible(alloc: Global, text: &str) -> Result<Option<TextBuf>, AllocError>
-    ensures { IfOk result (λ seen. IfSome seen (λ t. t ≡ text.now)) }
+    ensures { IfOk result (λ name. name ≡ visible text.now) }
 {
-    if text.as_bytes().iter().all(|byte| byte.is_ascii_graphic()) {
+    if is_visible(text.as_bytes()) {
         Ok(Some(TextBuf::copied(alloc, text)?))
     } else {
         Ok(None)
     }
+}
+
+fn is_visible(text: &[u8]) -> bool
+    ensures { result ≡ list_all is_ascii_graphic text.now }
+{
+    text.iter().all(|byte| byte.is_ascii_graphic())
 }
 
 /// What the rows of a kind are.

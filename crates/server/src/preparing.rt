@@ -7,8 +7,9 @@ ghost use Rattle.broker_rows.specs.Representing.{Represents};
 ghost use Rattle.broker.specs.Kept.{IsHonestStore};
 ghost use Rattle.broker_sql.specs.Beginning.{LacksClock};
 ghost use Rattle.broker_sql.specs.SqlKept.{kept_records, sql_kept};
+ghost use Rattle.database_check.specs.Findings.{OpenAsNone};
 ghost use Rattle.server.specs.Prepared.{CannotStart, IsPrepared};
-ghost use Rattle.server.specs.Starting.{IfFaulted, IsFaultOfNew};
+ghost use Rattle.server.specs.Starting.{IfFaulted, IfRefused, IsFaultOfNew, ReturnsWhatWasWritten};
 
 use crate::serve_error::ServeError;
 use broker_sql::SqlStore;
@@ -62,6 +63,8 @@ pub fn prepare_checked<S: Alter + Drop>(
         → IsPrepared moment words.now (kept_records S.Store records).rows (sql_kept S.Store made.0).rows made.1) }
     ensures stands { IfOk result (λ made. IsHonestStore (sql_kept S.Store made.0)
         → IsTrue (sql_kept S.Store made.0).is_open) }
+    ensures unsound { ReturnsWhatWasWritten S.Store
+        → IfErr result (λ error. IfRefused error (OpenAsNone (kept_records S.Store records).rows)) }
     ensures faults { IfErr result (λ error. IfFaulted error IsFaultOfNew) }
 {
     match defect_of(alloc, &mut records)? {

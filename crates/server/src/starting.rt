@@ -5,7 +5,8 @@ ghost use Rattle.std.specs.FinMap as map;
 ghost use Rattle.broker_types.specs.Broker.{Broker};
 ghost use Rattle.broker_rows.specs.Representing.{Represents};
 ghost use Rattle.broker_sql.specs.SqlKept.{kept_records, sql_kept};
-ghost use Rattle.server.specs.Starting.{IfFaulted, IsFaultOfNew, ReturnsWhatWasWritten};
+ghost use Rattle.database_check.specs.Findings.{OpenAsNone};
+ghost use Rattle.server.specs.Starting.{IfFaulted, IfRefused, IsFaultOfNew, ReturnsWhatWasWritten};
 
 use crate::drawn::{DrawnWords, seeded};
 use crate::listening::Listening;
@@ -67,8 +68,10 @@ fn serve_opened<S: Alter + Drop>(
     settings: &Settings<'_>,
     log: Option<Rc<Log>>,
 ) -> Result<(), ServeError>
-    ensures { ReturnsWhatWasWritten S.Store → IsTrue settings.now.checks
+    ensures faults { ReturnsWhatWasWritten S.Store → IsTrue settings.now.checks
         → IfErr result (λ error. IfFaulted error IsFaultOfNew) }
+    ensures unsound { ReturnsWhatWasWritten S.Store
+        → IfErr result (λ error. IfRefused error (OpenAsNone (kept_records S.Store records).rows)) }
 {
     if settings.checks {
         return serve_checked(rt, records, settings, log);
@@ -132,7 +135,9 @@ fn serve_checked<S: Alter + Drop>(
     settings: &Settings<'_>,
     log: Option<Rc<Log>>,
 ) -> Result<(), ServeError>
-    ensures { ReturnsWhatWasWritten S.Store → IfErr result (λ error. IfFaulted error IsFaultOfNew) }
+    ensures faults { ReturnsWhatWasWritten S.Store → IfErr result (λ error. IfFaulted error IsFaultOfNew) }
+    ensures unsound { ReturnsWhatWasWritten S.Store
+        → IfErr result (λ error. IfRefused error (OpenAsNone (kept_records S.Store records).rows)) }
 {
     let mut clock = SystemClock::new(rt);
     let Ok(mut words) = seeded(rt) else {

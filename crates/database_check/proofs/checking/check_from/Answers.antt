@@ -11,7 +11,7 @@ returns-clause-sound g c honest =
     let less : opened.mismatches ≤ (kept_records over_files c.check_records.new.records).mismatches =
     c.in_ok-finding.ensures.mismatches in
     let before : IsHonestStore opened = omega (arith, less, honest) in
-    if_sound c.in_ok-finding.finding (λ opens. (opened.rows, c.in_ok-records.ensures.found before, opens))
+    if_sound c.in_ok-finding.finding (λ counts opens. (opened.rows, c.in_ok-records.ensures.found before, opens))
     (c.in_ok-finding.ensures.sound honest)
 
 pub returns-clause-unsound : goal.returns-clause-unsound
@@ -20,5 +20,5 @@ returns-clause-unsound g c honest =
     let less : opened.mismatches ≤ (kept_records over_files c.check_records.new.records).mismatches =
     c.in_ok-finding.ensures.mismatches in
     let before : IsHonestStore opened = omega (arith, less, honest) in
-    if_unsound c.in_ok-finding.finding (λ none. (opened.rows, c.in_ok-records.ensures.found before, none))
+    if_unsound c.in_ok-finding.finding (λ defect none. (opened.rows, c.in_ok-records.ensures.found before, none))
     (c.in_ok-finding.ensures.unsound honest)

@@ -3,8 +3,8 @@ use Rattle.std.proofs.Math.Arith.{le-zero}
 use Rattle.sqlite.specs.Held.{state}
 use Rattle.records.specs.CallLaws.{honest_before}
 use Rattle.records.specs.Transaction.{Rows}
-use Rattle.records_sql.specs.Table.{rows_of, mismatches, seen_of}
-use Rattle.database_check.specs.Findings.{IfSound, IfUnsound, OpenAsABroker}
+use Rattle.records_sql.specs.Table.{mismatches, seen_of}
+use Rattle.database_check.specs.Findings.{IfSound, IfUnsound, OpenAsCounted, OpenAsNone}
 use Rattle.database_check.proofs.checking.check_records.Goals as goal
 
 pub returns-clause-sound : goal.returns-clause-sound
@@ -17,7 +17,7 @@ returns-clause-sound g c honest =
     let first = seen_of (state g.S.Store c.in_ok-tx.tx.records.now.conn) _ _ in
     let honest_first = honest_before first (seen_of (state g.S.Store last.now.conn) _ _) _ c.find.ensures.call.goes_on
     honest_last in
-    subst (λ (rows : Rows). IfOk c.find.result (λ finding. IfSound finding (OpenAsABroker rows)))
+    subst (λ (rows : Rows). IfOk c.find.result (λ finding. IfSound finding (OpenAsCounted rows)))
     (c.in_ok-tx.ensures.begun honest_first) (c.find.ensures.sound honest_last)
 
 pub returns-clause-unsound : goal.returns-clause-unsound
@@ -30,5 +30,5 @@ returns-clause-unsound g c honest =
     let first = seen_of (state g.S.Store c.in_ok-tx.tx.records.now.conn) _ _ in
     let honest_first = honest_before first (seen_of (state g.S.Store last.now.conn) _ _) _ c.find.ensures.call.goes_on
     honest_last in
-    subst (λ (rows : Rows). IfOk c.find.result (λ finding. IfUnsound finding (OpenAsABroker rows → ⊥)))
+    subst (λ (rows : Rows). IfOk c.find.result (λ finding. IfUnsound finding (OpenAsNone rows)))
     (c.in_ok-tx.ensures.begun honest_first) (c.find.ensures.unsound honest_last)

@@ -5,7 +5,7 @@ use Rattle.broker_rows.specs.ClockRow.{HasNoClock}
 use Rattle.records.specs.CallLaws.{honest_before}
 use Rattle.records.specs.Transaction.{Rows}
 use Rattle.records_sql.specs.Table.{mismatches, seen_of}
-use Rattle.database_check.specs.Findings.{OpenAsABroker}
+use Rattle.database_check.specs.Findings.{OpenAsABroker, OpenAsNone}
 use Rattle.database_check.proofs.checking.defect_of.Goals as goal
 
 pub returns-clause-sound : goal.returns-clause-sound
@@ -29,5 +29,5 @@ returns-clause-unsound g c honest =
     let first = seen_of (state g.S.Store c.in_ok-tx.tx.records.now.conn) _ _ in
     let honest_first = honest_before first (seen_of (state g.S.Store last.now.conn) _ _) _
     c.find_if_started.ensures.call.goes_on honest_last in
-    subst (λ (rows : Rows). IfSome c.in_ok-defect.defect (λ _. OpenAsABroker rows → ⊥))
+    subst (λ (rows : Rows). IfSome c.in_ok-defect.defect (OpenAsNone rows))
     (c.in_ok-tx.ensures.begun honest_first) (c.in_ok-defect.ensures.unsound honest_last)

@@ -1,17 +1,21 @@
+use Rattle.std.proofs.Common.{sym, subst}
 use Rattle.records.specs.CallLaws.{honest_before}
-use Rattle.records.specs.Transaction.{IsHonest}
+use Rattle.records.specs.Transaction.{IsHonest, Rows}
 use Rattle.records.specs.Table.{table_of}
+use Rattle.records.specs.Upgraded.{AreUpgraded}
 use Rattle.soundness.specs.Broken.{Breaks}
-use Rattle.database_check.proofs.FindingLemmas.{none_found, some_found}
-use Rattle.database_check.proofs.FindingLemmas.{opens_as_none}
+use Rattle.soundness.specs.Laws.{AreOfABroker}
+use Rattle.database_check.specs.Naming.{TellsOf}
+use Rattle.database_check.proofs.FindingLemmas.{none_found, opens_as_none, some_found}
 use Rattle.database_check.proofs.checking.find_defect.Goals as goal
 
 pub returns-in-None-clause-sound : goal.returns-in-None-clause-sound
 returns-in-None-clause-sound g c honest =
     let seen = g.T.RecordsTx.seen in
     let upgraded : IsHonest (seen c.upgrade_keys.new.tx) =
-    honest_before (seen c.upgrade_keys.new.tx) (seen c.check.new.tx) _ c.in_ok-check.ensures.call.goes_on honest in (
-      (seen c.upgrade_keys.new.tx).rows,
+    honest_before (seen c.upgrade_keys.new.tx) (seen c.check.new.tx) _ c.in_ok-check.ensures.call.goes_on honest in
+    subst (λ (rows : Rows). AreUpgraded (table_of (seen c.args.tx.now).rows) (table_of rows) × AreOfABroker rows)
+    (sym (c.in_ok-check.ensures.call.same honest)) (
       c.in_ok-upgrade_keys.ensures.rows upgraded,
       none_found c.in_ok-check.field-0 c.in-None.is (c.in_ok-check.ensures.sound honest),
     )
@@ -24,7 +28,15 @@ returns-in_ok-at-in-Some-clause-unsound g c honest =
     honest_before (seen c.check.new.tx) (seen c.at.new.tx) _ c.in_ok-at-in-Some.ensures.call.goes_on honest in
     let upgraded : IsHonest (seen c.upgrade_keys.new.tx) =
     honest_before (seen c.upgrade_keys.new.tx) (seen c.check.new.tx) _ c.in_ok-check.ensures.call.goes_on checked in
-    opens_as_none (seen c.args.tx.now).rows rows (c.in_ok-upgrade_keys.ensures.rows upgraded)
-    (c.broken_rows_are_of_no_broker.ensures rows c.in-Some.trouble
-    (some_found (Breaks (table_of rows)) c.in_ok-check.field-0 c.in-Some.trouble c.in-Some.is
-    (c.in_ok-check.ensures.broken checked)))
+    let breaks = some_found (Breaks (table_of rows)) c.in_ok-check.field-0 c.in-Some.trouble c.in-Some.is
+    (c.in_ok-check.ensures.broken checked) in
+    record {
+      none = opens_as_none (seen c.args.tx.now).rows rows (c.in_ok-upgrade_keys.ensures.rows upgraded)
+          (c.broken_rows_are_of_no_broker.ensures rows c.in-Some.trouble breaks);
+      rows = rows;
+      upgraded = c.in_ok-upgrade_keys.ensures.rows upgraded;
+      trouble = c.in-Some.trouble;
+      breaks = breaks;
+      tells = subst (λ (r : Rows). TellsOf r c.in-Some.trouble c.in_ok-at-in-Some.field-0)
+          (c.in_ok-check.ensures.call.same checked) (c.in_ok-at-in-Some.ensures.tells honest);
+    }

@@ -4,7 +4,7 @@ use Rattle.std.proofs.lemmas.Result.{IfOk-weaker}
 use Rattle.records.specs.CallLaws.{honest_before}
 use Rattle.records.specs.Transaction.{IsHonest, Rows}
 use Rattle.broker_rows.specs.ClockRow.{HasNoClock}
-use Rattle.database_check.specs.Findings.{OpenAsABroker}
+use Rattle.database_check.specs.Findings.{OpenAsABroker, OpenAsNone}
 use Rattle.database_check.proofs.FindingLemmas.{if_none}
 use Rattle.database_check.proofs.checking.find_if_started.Goals as goal
 
@@ -15,12 +15,14 @@ returns-clause-sound g c honest =
     honest_before (seen c.get.new.self) (seen c.find_defect.new.tx) _ c.find_defect.ensures.call.goes_on honest in
     subst (λ (rows : Rows). IfOk c.find_defect.result (λ defect. IfNone defect (HasNoClock rows ⊎ OpenAsABroker rows)))
     (c.in_ok-get.ensures.call.same asked)
-    (IfOk-weaker c.find_defect.result _ _ (λ defect. if_none defect inr) (c.find_defect.ensures.sound honest))
+    (IfOk-weaker c.find_defect.result _ _
+    (λ defect. if_none defect (λ opens. inr ((seen c.find_defect.new.tx).rows, opens.0, opens.1)))
+    (c.find_defect.ensures.sound honest))
 
 pub returns-clause-unsound : goal.returns-clause-unsound
 returns-clause-unsound g c honest =
     let seen = g.T.RecordsTx.seen in
     let asked : IsHonest (seen c.get.new.self) =
     honest_before (seen c.get.new.self) (seen c.find_defect.new.tx) _ c.find_defect.ensures.call.goes_on honest in
-    subst (λ (rows : Rows). IfOk c.find_defect.result (λ defect. IfSome defect (λ _. OpenAsABroker rows → ⊥)))
+    subst (λ (rows : Rows). IfOk c.find_defect.result (λ defect. IfSome defect (OpenAsNone rows)))
     (c.in_ok-get.ensures.call.same asked) (c.find_defect.ensures.unsound honest)
