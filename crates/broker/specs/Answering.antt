@@ -114,8 +114,7 @@ IsForbiddenThen moment t old new ask r =
 
 -- The client token is t, and the rows decide whether it may ask. If it may, its command is not answered if a row that
 -- it reads is damaged, unless an identifier that it needs was given out; else it is told that it may not, and nothing
--- is
--- done. Either way t has ended then, if it has no uses left.
+-- is done. Either way t has ended then, if it has no uses left.
 pub record IsAskedBy (moment : ℕ) (t : Text) (names : Names) (old new : Rows) (ask : Ask) (r : Response) :
     Type 0 where
   pub token : ask.token ≡ Some t

@@ -20,8 +20,7 @@ use Rattle.broker_rows.specs.declared.answered.Answered.{Answered}
 use Rattle.broker_rows.specs.Done.{IsDone}
 
 -- The client token is looked for. It is that of the caller, which has spent a use, and the rows represent a broker
--- then;
--- or there is no caller, and the ask is denied.
+-- then; or there is no caller, and the ask is denied.
 abbrev pub IsCaller : Broker → Option Text → Rows → Option Caller → Type 0
 IsCaller b token rows (Some c) =
     ((go : Text → Outcome) → for_caller b token go ≡ go c.token) × IsCallerOf (spend b c.token) c

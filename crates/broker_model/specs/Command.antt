@@ -29,8 +29,7 @@ use Rattle.broker_model.specs.parts.TokenCommands.{token_command}
 use Rattle.broker_model.specs.parts.WrappingCommands.{wrapping_command}
 
 -- part by part, with where it acts: a path of the caller's cubbyhole, a place of secrets, the name of a policy, the
--- name
--- of a mount, a prefix of leases, the place of a role
+-- name of a mount, a prefix of leases, the place of a role
 pub data Command : Type 0 where
   on_cubbyhole : Text → CubbyholeCommand → Command
   on_token : TokenCommand → Command

@@ -118,10 +118,9 @@ AllGiven b = (q : Text) (k : Key) → get b.secrets q ≡ Some k → AreGiven k
 -- ---- the whole
 
 -- What an operation leaves. It gives out its own identifiers or none: none with a 204 or a 404. After a 404 with a
--- reply
--- nothing has changed. What it hands out waited until then, and a text that waited is answered only so, and not if the
--- reply may be wrapped. The only token that it tells is one of its own accessor. What waits did so, or moved to a
--- wrapping token that was given out.
+-- reply nothing has changed. What it hands out waited until then, and a text that waited is answered only so, and not
+-- if the reply may be wrapped. The only token that it tells is one of its own accessor. What waits did so, or moved to
+-- a wrapping token that was given out.
 pub record Does (b : Broker) (who : Option Text) (names : Names) (command : Command) (d : Done) : Type 0 where
   pub gives_own : (d.taken ≡ []) ⊎ (d.taken ≡ (traits command).own names)
   pub none_at_204 : d.answered ≡ nothing → d.taken ≡ []

@@ -197,8 +197,8 @@ module _ {Command : Type 0} (permits : Broker → Option Text → Verb → Text 
 -- ---- operations
 
 -- The response of the origin o is handed out: it waited, its text is the answer, and it is gone; all others wait as
--- they
--- did (Vault's documentation, "Response wrapping", single use). So it is not moved to another wrapping token either.
+-- they did (Vault's documentation, "Response wrapping", single use). So it is not moved to another wrapping token
+-- either.
 pub record HandsOut (b : Broker) (d : Done) (o : Text) : Type 0 where
   pub token : Text
   pub entry : Waiting

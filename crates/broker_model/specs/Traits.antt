@@ -58,8 +58,7 @@ text_named b c (by_accessor accessor) =
 text_named b c itself = Some c
 
 -- What becomes of tokens: they stay, but for a cubbyhole or leases; one is made; one gets another end; one ends with
--- all
--- under it; or one ends alone, by its text (Vault's documentation, "Tokens").
+-- all under it; or one ends alone, by its text (Vault's documentation, "Tokens").
 pub data Fate : Type 0 where
   stay : Fate
   make : Making → TokenCreation → Fate

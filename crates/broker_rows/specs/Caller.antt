@@ -26,8 +26,7 @@ abbrev pub IsCallerOf : Broker → Caller → Type 0
 IsCallerOf b c = Some c.known ≡ option_map token_entry (get b.tokens c.token)
 
 -- The rows of the policies of these names can be read, where they are there, and these are their rules for what is
--- asked
--- for with a verb.
+-- asked for with a verb.
 pub record AreRulesAt (rows : Rows) (names : List Text) (v : Verb) (rules : Rules) : Type 0 where
   pub readable : All (IsReadable (table_of rows)) names
   pub told : (policies : Map Text) → ArePoliciesAt (table_of rows) names policies → rules ≡ rules_of policies names v

@@ -57,8 +57,7 @@ KeepsCubbyholes old new =
 -- ---- what belonged to tokens that ended, whatever the rows are
 
 -- What belonged to tokens that ended is gone: their leases, whose rows were read, and their cubbyholes. No other row
--- has
--- changed.
+-- has changed.
 pub record LeavesNothing (ended : List Text) (old new : Rows) : Type 0 where
   pub mid : Rows
   pub leases : EndsLeases (are_owned ended) (table_of old) (table_of mid)

@@ -54,8 +54,7 @@ abbrev pub ActsAs : Option Text → Broker → Rows → Result Answered RequestE
 ActsAs who b rows result m = Ends (IsDone who rows) (Represents who rows b) result m
 
 -- The call does this, where its own identifiers are new. If it is refused, the rows represent the broker that it
--- started
--- from; else the next one, in which the identifiers that it gave out are used.
+-- started from; else the next one, in which the identifiers that it gave out are used.
 abbrev pub Performs : Option Text → Context → List Text → Seen → Seen → (Broker → Result Done Refusal)
     → Result Answered RequestError → Type 0
 Performs who x own old new does result =

@@ -135,8 +135,7 @@ AreReadablePolicies rows name policy.Remove = ⊤
 -- ---- mounts
 
 -- A list reads the rows of all mounts. A mount that is disabled takes the leases below its name with it, if it may go
--- and
--- is there.
+-- and is there.
 abbrev pub AreReadableMounts : Rows → Text → MountCommand → Type 0
 AreReadableMounts rows name mount.List = All (λ e. IsMountRow e.1) (rows_under rows kind.Mount [])
 AreReadableMounts rows name (mount.Enable asked) = ⊤

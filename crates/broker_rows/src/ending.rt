@@ -25,9 +25,8 @@ use std::alloc::Global;
 use token_tree::{find, revoke};
 
 /// Drops what belonged to tokens that ended: their leases (Vault's documentation, "Lease, renew, and revoke") and their
-/// cubbyholes ("Cubbyhole secrets engine").
-/// It fails with `Memory` if memory runs out, with `Storage` if the transaction's storage failed, and with `Damaged` if
-/// the row of one of the leases is not one of a lease.
+/// cubbyholes ("Cubbyhole secrets engine"). It fails with `Memory` if memory runs out, with `Storage` if the
+/// transaction's storage failed, and with `Damaged` if the row of one of the leases is not one of a lease.
 pub fn leave_nothing<T: RecordsTx>(
     alloc: Global,
     tx: &mut T,
@@ -64,9 +63,8 @@ fn drop_cubbyholes<T: RecordsTx>(alloc: Global, tx: &mut T, ended: &[TextBuf]) -
 }
 
 /// Ends a caller that has spent its last use, with all below it and all that belonged to them (Vault's documentation,
-/// "Tokens").
-/// It fails with `Memory` if memory runs out, with `Storage` if the transaction's storage failed, and with `Damaged` if
-/// a row that it asks for cannot be read.
+/// "Tokens"). It fails with `Memory` if memory runs out, with `Storage` if the transaction's storage failed, and with
+/// `Damaged` if a row that it asks for cannot be read.
 pub fn end_spent<T: RecordsTx>(alloc: Global, tx: &mut T, caller: &str) -> Result<(), Fault>
     ensures told { IsHonest (T.seen tx.new) → (b : Broker) → Represents (Some caller.now) (T.seen tx.old).rows b
         → OnOk result (Represents None (T.seen tx.new).rows (spending.end_spent b (Some caller.now))) }

@@ -116,8 +116,7 @@ wrapping_opens wrapping.Unwrap = WithItsOwn
 wrapping_opens _ = Never
 
 -- What is stored, so that a write asks for `create` where nothing is there ("Policies", capabilities). Every other
--- write
--- asks for `update`, also where it makes something, as a token or a policy.
+-- write asks for `update`, also where it makes something, as a token or a policy.
 abbrev pub cubbyhole_stores : CubbyholeOperation → Stores
 cubbyhole_stores cubbyhole.Write = Object
 cubbyhole_stores _ = Nothing

@@ -24,9 +24,8 @@ is_skipped Write = true
 
 -- What serving leaves, whatever comes on the connections: there is one list of steps over all of them, with the moments
 -- and words that were drawn. Running out of memory never ends it, and a failure of the storage only if the store
--- failed.
--- From a hub that represents a world, whose storage has returned what was written and could be asked, no other fault
--- ends it than a failure of the storage. The storage can still be asked, unless it failed.
+-- failed. From a hub that represents a world, whose storage has returned what was written and could be asked, no other
+-- fault ends it than a failure of the storage. The storage can still be asked, unless it failed.
 pub record LeavesServed {A S : Type 0} (seen : S → Kept) (Draws : List Event → Type 0) (r : Result A Fault)
     (old new : Hub S) : Type 0 where
   pub steps : List Step

@@ -1,6 +1,5 @@
 -- What the row at a kind and key has to be, and which other rows have to be there, so that the rows are those of a
--- sound
--- broker (this project's definition).
+-- sound broker (this project's definition).
 use Rattle.std.specs.Prelude.{◌≡◌, ◌≢◌, ◌<◌, ◌≤◌, ◌++◌, ◌∷◌, [], ℕ, length, All, true, Some, None, ⊤}
 use Rattle.broker_types.specs.Text.{Text}
 use Rattle.broker_types.specs.Limits.{most_custom_metadata}

@@ -88,8 +88,8 @@ fn creation(alloc: Global, making: Making, body: &[u8]) -> Result<TokenCommand, 
 }
 
 /// Carries out a command on tokens of the caller who asks. The identifiers that it needs have been printed. It may be
-/// refused. It fails with `Memory` if memory runs out, with
-/// `Storage` if the transaction's storage failed, and with `Damaged` if a row that it asks for cannot be read.
+/// refused. It fails with `Memory` if memory runs out, with `Storage` if the transaction's storage failed, and with
+/// `Damaged` if a row that it asks for cannot be read.
 pub fn act_on_tokens<T: RecordsTx>(
     tx: &mut T,
     context: &Context<'_>,

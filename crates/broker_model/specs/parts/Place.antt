@@ -2,8 +2,7 @@
 use Rattle.broker_types.specs.Text.{Text}
 
 -- The mount, and the path there: that of a secret, of a folder, whose path is empty for the whole mount, or the name of
--- a
--- role.
+-- a role.
 pub record Place : Type 0 where
   pub mount : Text
   pub path : Text

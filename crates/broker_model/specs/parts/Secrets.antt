@@ -1,6 +1,5 @@
 -- The part of versioned secrets: what the routes of a mount of secrets mean, by a body or a version, and what they do
--- to
--- the maps (Vault's documentation, "KV secrets engine - version 2 (API)").
+-- to the maps (Vault's documentation, "KV secrets engine - version 2 (API)").
 use Rattle.std.specs.Prelude.{ℕ, List, Option, Some, None, Result, Ok}
 use Rattle.broker_types.specs.Refuse.{◌>>=◌, some_or}
 use Rattle.broker_types.specs.declared.refusal.Refusal.{Refusal}
