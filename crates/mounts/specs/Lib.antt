@@ -1,3 +1,4 @@
+pub mod CutLaws
 pub mod Forms
 pub mod FoundLaws
 pub mod Laws

@@ -23,7 +23,7 @@ use Rattle.api_json.specs.Json.{tree, without_floats, members_in}
 use Rattle.api_json.specs.Kept.{is_object}
 use Rattle.records.specs.Splits.{slash, split_once}
 use Rattle.records.specs.SplitLaws.{lacking_split}
-use Rattle.mounts.proofs.Cuts.{cut_some, cut_none}
+use Rattle.mounts.specs.CutLaws.{cut_some, cut_none}
 
 -- a text is what is before the byte, the byte and what is after it
 pub cut_at : (c : ℕ) → c < 128 → (text : Text) (r : Option (Bor Text × Bor Text)) → IsSplitOnceResult c text r

@@ -7,7 +7,7 @@ use Rattle.broker_types.specs.Text.{Text}
 use Rattle.records.specs.Rows.{padded}
 use Rattle.records.specs.Splits.{line_feed, split_once, lacks}
 use Rattle.records.specs.SplitLaws.{split-lacking, lacking_split}
-use Rattle.mounts.proofs.Cuts.{cut_some}
+use Rattle.mounts.specs.CutLaws.{cut_some}
 use Rattle.soundness.specs.Broken.{IsVersionKey}
 use Rattle.soundness.proofs.TextLemmas.{cut_exact}
 

@@ -7,8 +7,8 @@ use Rattle.std.proofs.lemmas.Str.Pattern.{starts_text}
 use Rattle.broker_types.specs.Text.{Text}
 use Rattle.records.specs.Splits.{slash, split_once, lacks}
 use Rattle.records.specs.ValueLaws.{none_of}
+use Rattle.mounts.specs.CutLaws.{cut_none, cut_some}
 use Rattle.mounts.specs.Forms.{nothing, segment, segments, form_of, form_from, is_ending, open_brace, star}
-use Rattle.mounts.proofs.Cuts.{cut_none, cut_some}
 use Rattle.mounts.proofs.routing.is_ending.Goals as goal
 
 not_zero : (n : ℕ) → (suc n == 0) ≡ false

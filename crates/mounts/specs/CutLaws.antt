@@ -48,9 +48,11 @@ split_some c (x ∷ s) h =
 -- what `split_once` of the code answers is what `split_once` of the definition does
 module _ (c : ℕ) (small : c < 128) (path : Text) (r : Option (Bor Text × Bor Text))
     (split : IsSplitOnceResult c path r) where
+  -- if it finds no such byte
   pub cut_none : r ≡ None → split_once c path ≡ None
   cut_none is = split_none c path (rw is at (split_once_first c path r split small))
 
+  -- and if it finds one
   pub cut_some : (x : Bor Text × Bor Text) → r ≡ Some x → split_once c path ≡ Some (x.0.now, x.1.now)
   cut_some x is =
       let (inside, front, back) = rw is at (split_once_first c path r split small) in
