@@ -17,9 +17,9 @@ use Rattle.records.specs.Rows.{token_len, has_slash}
 use Rattle.records.specs.Table.{Table, has_prefix, with_row, without_row, without_under, without_owned}
 use Rattle.cubbyhole.specs.Cubbyhole.{object_at}
 use Rattle.cubbyhole.specs.Laws.{HaveOneCubbyhole, if_owned}
+use Rattle.cubbyhole.specs.ObjectLaws.{key_parts, token_whole}
 use Rattle.cubbyhole.specs.Objects.{object_key, IsFiled, AreFiled, KeepsOtherOwners}
 use Rattle.cubbyhole.proofs.Filed.{key_tells, under_owned}
-use Rattle.cubbyhole.proofs.ObjectKeys.{key_parts, token_whole}
 use Rattle.cubbyhole.proofs.ObjectRows.{rows_of-objects}
 
 -- the rows that tell a broker's cubbyholes

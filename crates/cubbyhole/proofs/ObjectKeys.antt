@@ -1,37 +1,17 @@
--- The key of an object's row, and what it tells.
-use Rattle.std.specs.Prelude.{◌≡◌, ◌+◌, ◌==◌, ◌&&◌, [], ◌∷◌, ◌++◌, length, take, drop, true, false, nat_eq, T}
+-- The keys of the objects of a token and a path.
+use Rattle.std.specs.Prelude.{◌≡◌, ◌+◌, ◌&&◌, [], ◌∷◌, ◌++◌, length, take, drop, true, false, nat_eq}
 use Rattle.std.specs.List.{starts_with}
-use Rattle.std.proofs.Common.{refl, sym, ◌∙◌, ap, subst, append_assoc, get_or, eqb→eq, inl, inr}
-use Rattle.std.proofs.Math.Nat.{le_of_lt}
-use Rattle.std.proofs.Math.Seq.{take-append_seam, drop-cons}
-use Rattle.std.proofs.lemmas.Bool.{cases_lt, and_parts, false_from_ne_true, false≢true}
-use Rattle.std.proofs.lemmas.List.{take-append-drop, length-take-le, get_or_past}
+use Rattle.std.proofs.Common.{refl, sym, ◌∙◌, ap, append_assoc}
+use Rattle.std.proofs.Math.Seq.{take-append_seam}
+use Rattle.std.proofs.lemmas.Bool.{and_parts, false_from_ne_true, false≢true}
+use Rattle.std.proofs.lemmas.List.{take-append-drop}
 use Rattle.broker_types.specs.Text.{Text, same}
 use Rattle.broker_types.specs.TextLaws.{same_self, same_true}
 use Rattle.records.specs.CubbyKeyLaws.{key_token, key_path}
 use Rattle.records.specs.Rows.{token_len, has_slash}
 use Rattle.records.specs.Splits.{slash}
+use Rattle.cubbyhole.specs.ObjectLaws.{key_parts}
 use Rattle.cubbyhole.specs.Objects.{object_key}
-
--- a key with a slash in its place is that of its token and its path
-pub key_parts : (q : Text) → has_slash q ≡ true → q ≡ object_key (take token_len q) (drop (token_len + 1) q)
-key_parts q h =
-    elim (cases_lt token_len (length q)) [
-      | inl within ↦
-          let at : get_or q token_len 0 ≡ slash = eqb→eq (get_or q token_len 0) slash (subst T (sym h) tt) in
-          let front : drop token_len q ≡ slash ∷ drop (token_len + 1) q = drop-cons q token_len 0 within
-          ∙ ap (λ x. x ∷ drop (token_len + 1) q) at in
-          sym (take-append-drop token_len q) ∙ ap (λ r. take token_len q ++ r) front
-      | inr short ↦ absurd (false≢true (ap (λ v. v == slash) (sym (get_or_past q token_len 0 short)) ∙ h))
-    ]
-
--- and its token is whole
-pub token_whole : (q : Text) → has_slash q ≡ true → length (take token_len q) ≡ token_len
-token_whole q h =
-    elim (cases_lt token_len (length q)) [
-      | inl within ↦ length-take-le token_len q (le_of_lt within)
-      | inr short ↦ absurd (false≢true (ap (λ v. v == slash) (sym (get_or_past q token_len 0 short)) ∙ h))
-    ]
 
 -- a key is that of a token and a path where its token and its path are
 pub key_met : (t path q : Text) → length t ≡ token_len → has_slash q ≡ true

@@ -1,5 +1,6 @@
 pub mod Cubbyhole
 pub mod CubbyholeLaws
 pub mod Laws
+pub mod ObjectLaws
 pub mod Objects
 pub mod SoundLaws

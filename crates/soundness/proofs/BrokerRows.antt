@@ -36,7 +36,7 @@ use Rattle.records.specs.SplitLaws.{lacking_split}
 use Rattle.records.specs.Table.{Table, table_of}
 use Rattle.records.specs.Transaction.{Rows}
 use Rattle.records.proofs.Digits.{digits_are}
-use Rattle.cubbyhole.proofs.ObjectKeys.{key_parts}
+use Rattle.cubbyhole.specs.ObjectLaws.{key_parts}
 use Rattle.leases.specs.TellLaws.{AreLeases, are_leases, token_of}
 use Rattle.soundness.specs.RowRules.{IsOf, IsClock, IsTokenAt, Named, IsNamedBy, Owned, IsObjectAt, Held, IsLeaseAt}
 use Rattle.soundness.specs.RowRules.{IsCredentialOf, IsKeyAt, IsVersionAt, IsWaitingAt, IsSoundAt}
