@@ -21,8 +21,8 @@ use Rattle.records.specs.RowForms.{used_row, entry_row, accessor_row, lease_row}
 use Rattle.records.specs.Table.{Table, table_of}
 use Rattle.records.specs.Transaction.{Rows}
 use Rattle.leases.specs.TellLaws.{token_of}
+use Rattle.token_tree.specs.AccessorLaws.{names_of_row}
 use Rattle.token_tree.specs.Accessors.{names_token}
-use Rattle.token_tree.proofs.Names.{names_of_row}
 use Rattle.soundness.specs.RowRules.{Held}
 use Rattle.soundness.specs.SoundRows.{AreSound, IsHad}
 use Rattle.soundness.proofs.ReadBack as read

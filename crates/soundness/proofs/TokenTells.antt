@@ -23,8 +23,8 @@ use Rattle.records.specs.Splits.{slash}
 use Rattle.records.specs.Table.{Table, table_of}
 use Rattle.records.specs.Transaction.{Rows}
 use Rattle.cubbyhole.specs.ObjectLaws.{key_parts, token_whole}
+use Rattle.token_tree.specs.AccessorLaws.{names_of_row}
 use Rattle.token_tree.specs.Accessors.{names_token}
-use Rattle.token_tree.proofs.Names.{names_of_row}
 use Rattle.soundness.specs.RowRules.{Named, Owned, Held}
 use Rattle.soundness.specs.SoundRows.{AreSound}
 use Rattle.soundness.proofs.ReadBack as read

@@ -21,7 +21,6 @@ use Rattle.broker_types.specs.OptionLaws.{mapped}
 use Rattle.broker_types.specs.Places.{OnePlaceEach}
 use Rattle.broker_types.specs.Token.{Token}
 use Rattle.broker_types.specs.Broker.{Broker, Waiting}
-use Rattle.records.specs.declared.holder.Holder.{Holder}
 use Rattle.records.specs.declared.holder.Holder.TheVariants as holder
 use Rattle.records.specs.declared.kind.Kind.TheVariants as kind
 use Rattle.records.specs.declared.row.Row.{Row}
@@ -30,9 +29,9 @@ use Rattle.records.specs.ListingLaws.{rows_under-listing}
 use Rattle.records.specs.Parts.{of_tokens, Tells}
 use Rattle.records.specs.RowForms.{accessor_row}
 use Rattle.records.specs.Rows.{rows_of, or_else}
-use Rattle.records.specs.Spelling.{number}
 use Rattle.records.specs.Table.{table_of}
 use Rattle.records.specs.Transaction.{Rows, rows_under}
+use Rattle.token_tree.specs.AccessorLaws.{names_token_is}
 use Rattle.token_tree.specs.Accessors.{IsAccessorRow, Named, named_row, is_of_token, token_of, names_token}
 use Rattle.token_tree.specs.Accessors.{with_accessors}
 use Rattle.token_tree.specs.Tokens.{has_accessor, by_accessor, find_accessor, accessors_of}
@@ -61,15 +60,6 @@ find-append q (x ∷ xs) ys =
       | true ↦ refl
       | false ↦ refl
     ]
-
-names_token_is : (x : Named) → names_token (named_row x) ≡ is_of_token x.1
-unfolding same number
-names_token_is (t, holder.Token) = refl
-names_token_is (t, holder.WrappingToken) = refl
-
--- what the row of an accessor says
-pub names_of_row : (row : Row) (what : Holder) → row ≡ accessor_row row.owner what → names_token row ≡ is_of_token what
-names_of_row row what is = ap names_token is ∙ names_token_is (row.owner, what)
 
 -- the names that a walk collects, listed
 pub collected : (es : List (RowKey × Row)) (names : List Text)

@@ -1,3 +1,4 @@
+pub mod AccessorLaws
 pub mod Accessors
 pub mod Ended
 pub mod Endings

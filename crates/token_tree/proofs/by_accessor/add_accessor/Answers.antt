@@ -2,8 +2,8 @@ use Rattle.std.proofs.Common.{◌≡◌, [], ◌∷◌, ◌++◌, true, false, a
 use Rattle.broker_types.specs.Text.{Text}
 use Rattle.records.specs.declared.row.Row.{Row}
 use Rattle.records.specs.Kind.{RowKey}
+use Rattle.token_tree.specs.AccessorLaws.{names_of_row}
 use Rattle.token_tree.specs.Accessors.{names_token, is_of_token}
-use Rattle.token_tree.proofs.Names.{names_of_row}
 use Rattle.token_tree.proofs.by_accessor.add_accessor.Goals as goal
 
 pub returns-in_ok-push-in-Token-clause-found : goal.returns-in_ok-push-in-Token-clause-found
