@@ -17,6 +17,7 @@ use Rattle.records.specs.declared.holder.Holder.TheVariants as holder
 use Rattle.records.specs.declared.kind.Kind.{Kind}
 use Rattle.records.specs.declared.kind.Kind.TheVariants as kind
 use Rattle.records.specs.declared.row.Row.{Row}
+use Rattle.records.specs.DigitLaws.{digits_after-padded, wide}
 use Rattle.records.specs.Kind.{RowKey}
 use Rattle.records.specs.KeyEntry.{KeyEntry}
 use Rattle.records.specs.TokenEntry.{TokenEntry}
@@ -25,15 +26,14 @@ use Rattle.records.specs.Reading.{IsSomeIn}
 use Rattle.records.specs.Spelling.{number}
 use Rattle.records.specs.RowForms.{entry_row, accessor_row, cubby_row, lease_row, credential_row, key_entry_row}
 use Rattle.records.specs.RowForms.{old_key_row, version_row, waiting_row, policy_row}
+use Rattle.records.specs.RowLaws.{entry_row-injective, cubby_row-injective, lease_row-injective}
+use Rattle.records.specs.RowLaws.{key_entry_row-injective, version_row-injective, waiting_row-injective}
+use Rattle.records.specs.RowLaws.{policy_row-injective}
 use Rattle.records.specs.Rows.{padded, digits_after}
+use Rattle.records.specs.SecretNameLaws.{name_lacks}
 use Rattle.records.specs.Splits.{slash, line_feed, split_once}
 use Rattle.records.specs.SplitLaws.{split-lacking}
 use Rattle.records.specs.Table.{Table}
-use Rattle.records.proofs.Digits.{digits_after-padded, wide}
-use Rattle.records.proofs.RowLemmas.{entry_row-injective, cubby_row-injective, lease_row-injective}
-use Rattle.records.proofs.RowLemmas.{key_entry_row-injective, version_row-injective, waiting_row-injective}
-use Rattle.records.proofs.RowLemmas.{policy_row-injective}
-use Rattle.records.proofs.SecretNames.{name_lacks}
 use Rattle.soundness.specs.Broken.{IsInFormat, IsVersionKey, IsKeyOf, BreaksText, IsKeyRow, BreaksNumber, BreaksUses}
 use Rattle.soundness.specs.Broken.{BreaksParent, BreaksOwner, BreaksAccessor, BreaksCredential}
 use Rattle.soundness.specs.RowRules.{IsOf, Named, IsNamedBy, Owned, Held, IsCredentialOf}

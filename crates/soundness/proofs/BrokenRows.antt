@@ -13,9 +13,9 @@ use Rattle.records.specs.declared.row.Row.{Row}
 use Rattle.records.specs.Kind.{RowKey}
 use Rattle.records.specs.Ranges.{IsWaitingInRange}
 use Rattle.records.specs.RowForms.{waiting_row}
+use Rattle.records.specs.RowLaws.{waiting_row-injective}
 use Rattle.records.specs.Table.{Table, table_of}
 use Rattle.records.specs.Transaction.{Rows}
-use Rattle.records.proofs.RowLemmas.{waiting_row-injective}
 use Rattle.soundness.specs.Broken.{Breaks, BreaksAt, BreaksChain, BreaksMark, BreaksPlace, BreaksOrigin, HasIdentifier}
 use Rattle.soundness.specs.Broken.{RootedIn}
 use Rattle.soundness.specs.Laws.{AreOfABroker, RowsOfABrokerAreSound}

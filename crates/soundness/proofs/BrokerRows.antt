@@ -23,6 +23,7 @@ use Rattle.records.specs.declared.holder.Holder.TheVariants as holder
 use Rattle.records.specs.declared.kind.Kind.{Kind}
 use Rattle.records.specs.declared.kind.Kind.TheVariants as kind
 use Rattle.records.specs.declared.row.Row.{Row}
+use Rattle.records.specs.DigitLaws.{digits_are}
 use Rattle.records.specs.KeyEntry.{key_entry}
 use Rattle.records.specs.TokenEntry.{token_entry}
 use Rattle.records.specs.RangeLaws.{token_in_range, lease_in_range, key_in_range, version_in_range, waiting_in_range}
@@ -35,7 +36,6 @@ use Rattle.records.specs.Splits.{line_feed, split_once}
 use Rattle.records.specs.SplitLaws.{lacking_split}
 use Rattle.records.specs.Table.{Table, table_of}
 use Rattle.records.specs.Transaction.{Rows}
-use Rattle.records.proofs.Digits.{digits_are}
 use Rattle.cubbyhole.specs.ObjectLaws.{key_parts}
 use Rattle.leases.specs.TellLaws.{AreLeases, are_leases, token_of}
 use Rattle.soundness.specs.RowRules.{IsOf, IsClock, IsTokenAt, Named, IsNamedBy, Owned, IsObjectAt, Held, IsLeaseAt}

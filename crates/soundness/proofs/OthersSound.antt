@@ -17,18 +17,18 @@ use Rattle.broker_types.specs.Sound.{SoundWaiting}
 use Rattle.broker_types.specs.Broker.{Waiting}
 use Rattle.broker_model.specs.Forms.{forms}
 use Rattle.records.specs.declared.kind.Kind.TheVariants as kind
+use Rattle.records.specs.DigitLaws.{version_of_digits-padded}
 use Rattle.records.specs.EntryMapLaws.{few_listed, each_listed}
 use Rattle.records.specs.KeyEntry.{KeyEntry}
 use Rattle.records.specs.Kind.{RowKey}
 use Rattle.records.specs.RowForms.{waiting_row}
+use Rattle.records.specs.RowLaws.{waiting_row-injective}
 use Rattle.records.specs.Rows.{version_key, version_of_digits, padded}
+use Rattle.records.specs.SecretNameLaws.{name_lacks}
 use Rattle.records.specs.Splits.{line_feed, split_once}
 use Rattle.records.specs.SplitLaws.{split-lacking}
 use Rattle.records.specs.Table.{Table, table_of}
 use Rattle.records.specs.Transaction.{Rows}
-use Rattle.records.proofs.Digits.{version_of_digits-padded}
-use Rattle.records.proofs.RowLemmas.{waiting_row-injective}
-use Rattle.records.proofs.SecretNames.{name_lacks}
 use Rattle.soundness.specs.SoundRows.{AreSound, Places, IsHad}
 use Rattle.soundness.proofs.ReadBack as read
 use Rattle.soundness.proofs.TokenFacts.{had_identifier, same_key}

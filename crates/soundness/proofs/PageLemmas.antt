@@ -7,7 +7,7 @@ use Rattle.std.specs.Cmp.{eq_by_cmp_equiv, nat_cmp_total}
 use Rattle.std.specs.FinMap.{get, entries, find, is_sorted, entries_sorted}
 use Rattle.std.specs.FinMap.Entries.{is_sorted-where_key}
 use Rattle.std.specs.List.{starts_with}
-use Rattle.std.specs.Ordering.{nat_cmp, is_eq, is_ge, is_le, ordering_then}
+use Rattle.std.specs.Ordering.{is_eq, is_ge, is_le, ordering_then}
 use Rattle.std.proofs.Common.{refl, sym, ◌∙◌, ap, subst, arith}
 use Rattle.std.proofs.lemmas.Bool.{and_parts, false≢true}
 use Rattle.std.proofs.lemmas.List.{take-append-drop, take_all, length-take}
@@ -19,39 +19,13 @@ use Rattle.records.specs.declared.row.Row.{Row}
 use Rattle.records.specs.EntryLaws.{Contains-filter, kept_cases, passing_whole, found_in, in_found}
 use Rattle.records.specs.Kind.{RowKey, key_cmp, kind_number, is_of_kind}
 use Rattle.records.specs.KeyLaws.{key_cmp_total, key_cmp_exact, same_kind}
+use Rattle.records.specs.PageLaws.{not_below_none, just_above, last_of, last_got, page_finds}
 use Rattle.records.specs.SplitLaws.{eqb_self}
 use Rattle.records.specs.Table.{table_of}
 use Rattle.records.specs.Transaction.{Rows, rows_under, rows_from}
-use Rattle.records.proofs.ChildLemmas.{begins_with}
-use Rattle.records.proofs.UpgradeWalk.{last_of, last_got, page_finds}
 use Rattle.soundness.specs.SoundRows.{Places}
 use Rattle.soundness.specs.Visiting.{Grows, IsPassed, ArePassed}
 use Rattle.soundness.proofs.VisitLemmas.{still_passed}
-
--- ---- the least text above another
-
-not_below_none : (q : Text) → is_ge (text_cmp q []) ≡ true
-not_below_none [] = refl
-not_below_none (c ∷ q) = refl
-
-above_none : (c : ℕ) (q : Text) → is_ge (ordering_then (nat_cmp c 0) (text_cmp q [])) ≡ true
-above_none c q = one (nat_cmp c 0) refl
-  where
-    one : (o : Ordering) → nat_cmp c 0 ≡ o → is_ge (ordering_then o (text_cmp q [])) ≡ true
-    one Less is = let low : c < 0 = grind (arith, is) in absurd (omega (arith, low))
-    one Equal is = not_below_none q
-    one Greater is = refl
-
-pub just_above : (q k : Text) → is_ge (text_cmp q (k ++ 0 ∷ [])) ≡ not (is_le (text_cmp q k))
-just_above [] [] = refl
-just_above [] (d ∷ k) = refl
-just_above (c ∷ q) [] = above_none c q
-just_above (c ∷ q) (d ∷ k) = elim (nat_cmp c d) as
-    (λ o. is_ge (ordering_then o (text_cmp q (k ++ 0 ∷ []))) ≡ not (is_le (ordering_then o (text_cmp q k)))) [
-      | Less ↦ refl
-      | Equal ↦ just_above q k
-      | Greater ↦ refl
-    ]
 
 pub turned : (b : Bool) → not b ≡ false → b ≡ true
 turned true h = refl
@@ -95,7 +69,7 @@ module _ (rows : Rows) (k : Kind) (from : Text) (count : ℕ) (page : List (RowK
   in_list q row here at =
       Contains-filter is_from (rows_under rows k []) ((k, q), row)
       (passing_whole rows is_under (k, q) row here
-      (λ i. eqb_self (kind_number k) i && begins_with [] q q refl i)) at
+      (ap (λ v. v && starts_with nat_eq q []) (eqb_self (kind_number k)))) at
 
   pub split : page ++ drop count listed ≡ listed
   split = ap (λ es. es ++ drop count listed) is ∙ take-append-drop count listed

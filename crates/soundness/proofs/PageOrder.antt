@@ -9,7 +9,7 @@ use Rattle.std.specs.FinMap.{get, find, is_sorted}
 use Rattle.std.specs.FinMap.Entries.{below_all}
 use Rattle.std.specs.Ordering.{is_ge, is_gt, is_le, is_lt, ordering_reverse}
 use Rattle.std.proofs.Common.{refl, sym, ◌∙◌, ap, subst, get_or, arith}
-use Rattle.std.proofs.lemmas.Bool.{and_from, and_parts, false≢true}
+use Rattle.std.proofs.lemmas.Bool.{and_parts, false≢true}
 use Rattle.std.proofs.lemmas.Cmp.{upto}
 use Rattle.std.proofs.lemmas.List.Elements.{All-contains, Contains-append_left}
 use Rattle.std.proofs.lemmas.Option.{get_or_from_slice_get, none-some, same_Some}
@@ -19,10 +19,10 @@ use Rattle.records.specs.declared.row.Row.{Row}
 use Rattle.records.specs.EntryLaws.{in_found, kept_cases, passing_each}
 use Rattle.records.specs.Kind.{RowKey, key_cmp}
 use Rattle.records.specs.KeyLaws.{key_cmp_total, same_kind}
+use Rattle.records.specs.PageLaws.{just_above, last_of, last_got, page_finds, first_sorted}
 use Rattle.records.specs.Transaction.{Rows, rows_under, rows_from}
-use Rattle.records.proofs.UpgradeWalk.{last_of, last_got, page_finds}
 use Rattle.soundness.specs.Notes.{AreApart}
-use Rattle.soundness.proofs.PageLemmas.{T_true, is_from, is_under, just_above, listed, listed_sorted, one_kind, split}
+use Rattle.soundness.proofs.PageLemmas.{T_true, is_from, is_under, listed, listed_sorted, one_kind, split}
 
 -- ---- entries in the order of their keys
 
@@ -44,18 +44,6 @@ sorted_apart (x ∷ xs) rest h zero (suc j) d e before below =
     not_lower x.0 (get_or xs j e).0 (low_at x.0 xs rest (and_parts _ _ h).0 j e (omega (arith, below)))
 sorted_apart (x ∷ xs) rest h (suc i) (suc j) d e before below =
     sorted_apart xs rest (and_parts _ _ h).1 i j d e (omega (arith, before)) (omega (arith, below))
-
-first_below : (x : RowKey) (es rest : List (RowKey × Row)) → below_all key_cmp x (es ++ rest) ≡ true
-    → below_all key_cmp x es ≡ true
-first_below x [] rest h = refl
-first_below x (e ∷ es) rest h =
-    let two = and_parts _ _ h in and_from _ _ two.0 (first_below x es rest two.1)
-
--- the first of them are in order
-first_sorted : (es rest : List (RowKey × Row)) → is_sorted key_cmp (es ++ rest) ≡ true → is_sorted key_cmp es ≡ true
-first_sorted [] rest h = refl
-first_sorted (e ∷ es) rest h =
-    let two = and_parts _ _ h in and_from _ _ (first_below e.0 es rest two.0) (first_sorted es rest two.1)
 
 true_T : (b : Bool) → b ≡ true → T b
 true_T true h = tt
@@ -149,7 +137,8 @@ module _ (rows : Rows) (k : Kind) (from : Text) (count : ℕ) (page : List (RowK
         let whole : is_sorted key_cmp (b.0 ∷ b.1.0 ++ more) ≡ true =
         ap (λ es. is_sorted key_cmp (es ++ more)) (sym b.1.1) ∙ page_sorted in
         let found : find key_cmp e.0 (b.0 ∷ b.1.0) ≡ Some e.1 =
-        in_found key_cmp key_cmp_total (b.0 ∷ b.1.0) (true_T _ (first_sorted (b.0 ∷ b.1.0) more whole)) e
+        in_found key_cmp key_cmp_total (b.0 ∷ b.1.0)
+        (true_T _ (first_sorted key_cmp key_cmp_total (b.0 ∷ b.1.0) more whole)) e
         (subst (λ es. Contains es e) b.1.1 has) in
         let low : is_le (key_cmp e.0 last.0) ≡ true =
         upto_last (is_le (key_cmp e.0 last.0)) (find key_cmp e.0 (b.0 ∷ b.1.0 ++ more)) e.1

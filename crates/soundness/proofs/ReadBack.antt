@@ -22,6 +22,7 @@ use Rattle.broker_model.specs.Forms.{forms}
 use Rattle.records.specs.declared.kind.Kind.TheVariants as kind
 use Rattle.records.specs.declared.row.Row.{Row}
 use Rattle.records.specs.CubbyKeyLaws.{key_path}
+use Rattle.records.specs.DigitLaws.{digits_after-padded, wide}
 use Rattle.records.specs.KeyEntry.{KeyEntry}
 use Rattle.records.specs.TokenEntry.{TokenEntry}
 use Rattle.records.specs.Kind.{RowKey}
@@ -31,7 +32,6 @@ use Rattle.records.specs.Rows.{token_len, version_key, padded, digits_after}
 use Rattle.records.specs.Splits.{slash, line_feed}
 use Rattle.records.specs.Table.{Table, table_of}
 use Rattle.records.specs.Transaction.{Rows}
-use Rattle.records.proofs.Digits.{digits_after-padded, wide}
 use Rattle.soundness.specs.RowRules.{IsTokenAt, Named, IsNamedBy, Owned, IsObjectAt, Held, IsLeaseAt, IsCredentialOf}
 use Rattle.soundness.specs.RowRules.{IsKeyAt, IsVersionAt, IsWaitingAt}
 use Rattle.soundness.specs.SoundRows.{AreSound}

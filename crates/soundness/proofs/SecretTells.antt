@@ -14,16 +14,16 @@ use Rattle.broker_types.specs.OptionLaws.{found_or_not, mapped}
 use Rattle.broker_types.specs.Secret.{Key, Version}
 use Rattle.records.specs.declared.kind.Kind.TheVariants as kind
 use Rattle.records.specs.declared.row.Row.{Row}
+use Rattle.records.specs.DigitLaws.{version_of_digits-padded, digits_are}
 use Rattle.records.specs.EntryMapLaws.{listed_entries}
 use Rattle.records.specs.KeyEntry.{KeyEntry, key_entry}
 use Rattle.records.specs.RowForms.{key_entry_row, key_row, version_row}
 use Rattle.records.specs.Rows.{secret_rows, version_at, version_row_of, version_of_digits, version_key, padded}
+use Rattle.records.specs.SecretNameLaws.{name_lacks}
 use Rattle.records.specs.Splits.{line_feed, split_once}
 use Rattle.records.specs.SplitLaws.{split-lacking, lacking_split}
 use Rattle.records.specs.Table.{Table, table_of}
 use Rattle.records.specs.Transaction.{Rows}
-use Rattle.records.proofs.Digits.{version_of_digits-padded, digits_are}
-use Rattle.records.proofs.SecretNames.{name_lacks}
 use Rattle.soundness.specs.RowRules.{IsKeyAt}
 use Rattle.soundness.specs.SoundRows.{AreSound}
 use Rattle.soundness.proofs.ReadBack as read

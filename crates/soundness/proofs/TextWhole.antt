@@ -35,10 +35,10 @@ use Rattle.broker_types.specs.Text.{Text, same}
 use Rattle.broker_types.specs.TextLaws.{same_true}
 use Rattle.api_json.specs.Json.{tree, without_floats, members_in}
 use Rattle.api_json.specs.Kept.{is_object}
+use Rattle.records.specs.DigitLaws.{digits_model, padded_digits, digits_after-padded, length-padded}
 use Rattle.records.specs.Rows.{padded}
 use Rattle.records.specs.Splits.{slash, split_once, lacks}
 use Rattle.records.specs.SplitLaws.{split-lacking}
-use Rattle.records.proofs.Digits.{digits_model, padded_digits, digits_after-padded, length-padded}
 use Rattle.soundness.specs.Texts.{IsRoleName}
 
 -- ---- identifiers

@@ -19,12 +19,12 @@ use Rattle.records.specs.Kind.{RowKey}
 use Rattle.records.specs.KeyEntry.{KeyEntry}
 use Rattle.records.specs.Ranges.{IsTokenInRange, IsLeaseInRange, IsWaitingInRange, IsKeyInRange}
 use Rattle.records.specs.RowForms.{entry_row, token_row, lease_row, waiting_row, key_entry_row}
+use Rattle.records.specs.RowLaws.{entry_row-injective, lease_row-injective, waiting_row-injective}
+use Rattle.records.specs.RowLaws.{key_entry_row-injective}
 use Rattle.records.specs.Rows.{token_len}
 use Rattle.records.specs.Table.{Table, table_of}
 use Rattle.records.specs.TokenEntry.{TokenEntry, token_entry}
 use Rattle.records.specs.Transaction.{Rows}
-use Rattle.records.proofs.RowLemmas.{entry_row-injective, lease_row-injective, waiting_row-injective}
-use Rattle.records.proofs.RowLemmas.{key_entry_row-injective}
 use Rattle.soundness.specs.RowRules.{Held}
 use Rattle.soundness.specs.SoundRows.{AreSound, Places, IsHad}
 use Rattle.soundness.proofs.ReadBack as read

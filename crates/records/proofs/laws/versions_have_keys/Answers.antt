@@ -1,7 +1,8 @@
+use Rattle.records.specs.DigitLaws.{version_of_digits-padded, digits_are}
+use Rattle.records.specs.SecretNameLaws.{name_lacks}
 use Rattle.records.specs.Splits.{line_feed}
 use Rattle.records.specs.SplitLaws.{split-lacking}
-use Rattle.records.proofs.Digits.{version_of_digits-padded, digits_are, padded_order}
-use Rattle.records.proofs.SecretNames.{name_lacks}
+use Rattle.records.proofs.DigitOrder.{padded_order}
 use Rattle.records.proofs.laws.versions_have_keys.Goals as goal
 
 pub returns-clause-told : goal.returns-clause-told

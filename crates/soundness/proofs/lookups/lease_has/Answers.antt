@@ -3,7 +3,7 @@ use Rattle.broker_types.specs.TextLaws.{same_true}
 use Rattle.broker_types.specs.Token.{Lease}
 use Rattle.soundness.proofs.AnswerLemmas.{on_true}
 use Rattle.std.proofs.lemmas.Option.{none-some, same_Some}
-use Rattle.records.proofs.RowLemmas.{lease_row-injective}
+use Rattle.records.specs.RowLaws.{lease_row-injective}
 use Rattle.soundness.proofs.ReadLemmas.{lease_unread, same_of}
 use Rattle.soundness.proofs.lookups.lease_has.Goals as goal
 

@@ -3,9 +3,9 @@ use Rattle.std.proofs.lemmas.Option.{MatchOption-at_some, none-some, same_Some, 
 use Rattle.broker_types.specs.TextLaws.{same_true}
 use Rattle.records.specs.Ranges.{IsTokenInRange}
 use Rattle.records.specs.RowForms.{entry_row}
+use Rattle.records.specs.RowLaws.{entry_row-injective}
 use Rattle.records.specs.TokenEntry.{TokenEntry}
 use Rattle.soundness.proofs.AnswerLemmas.{on_true}
-use Rattle.records.proofs.RowLemmas.{entry_row-injective}
 use Rattle.soundness.proofs.ReadLemmas.{same_of}
 use Rattle.soundness.proofs.lookups.token_has.Goals as goal
 

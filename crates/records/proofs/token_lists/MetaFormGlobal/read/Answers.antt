@@ -3,7 +3,7 @@ use Rattle.std.specs.Prelude.{map}
 use Rattle.std.proofs.lemmas.Bool.{false≢true}
 use Rattle.broker_types.specs.Text.{Text}
 use Rattle.broker_types.specs.Sound.{is_ascending}
-use Rattle.records.proofs.Spellings.{meta_way}
+use Rattle.records.specs.SpellingLaws.{meta_way}
 use Rattle.records.proofs.FieldReads.{reads_taken, reads_refused}
 use Rattle.records.proofs.token_lists.MetaFormGlobal.read.Goals as goal
 

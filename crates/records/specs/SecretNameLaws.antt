@@ -22,22 +22,22 @@ name_byte x h = grind (arith, nat_tests)
 path_byte : (x : ℕ) → is_path_byte x ≡ true → not (x == line_feed) ≡ true
 path_byte x h = grind (arith, nat_tests)
 
+-- the name of a mount has none
 pub mount_lacks : (mount : Text) → is_mount_name mount ≡ true → lacks line_feed mount ≡ true
 mount_lacks mount h = weaker is_name_byte (λ x. not (x == line_feed)) name_byte mount
     (and_parts _ _ (and_parts _ _ (and_parts _ _ h).0).1).1
 
+-- nor has a path
 pub path_lacks : (path : Text) → is_path path ≡ true → lacks line_feed path ≡ true
 path_lacks path h = weaker is_path_byte (λ x. not (x == line_feed)) path_byte path (and_parts _ _ (and_parts _ _ h).0).1
 
-pub folder_lacks : (mount : Text) → is_mount_name mount ≡ true → lacks line_feed (mount ++ slash ∷ []) ≡ true
-folder_lacks mount h = list_all-append (λ x. not (x == line_feed)) mount (slash ∷ [])
-    ∙ (λ i. mount_lacks mount h i && true)
-
+-- nor have the two with a slash between them
 pub parts_lack : (mount path : Text) → is_mount_name mount ≡ true → is_path path ≡ true
     → lacks line_feed (mount ++ slash ∷ path) ≡ true
 parts_lack mount path h k = list_all-append (λ x. not (x == line_feed)) mount (slash ∷ path)
     ∙ (λ i. mount_lacks mount h i && path_lacks path k i)
 
+-- nor has the name of a secret, which is that
 pub name_lacks : (q : Text) → IsSecretName q → lacks line_feed q ≡ true
 name_lacks q n = ap (lacks line_feed) (n.parts ∙ append_assoc n.mount (slash ∷ []) n.path)
     ∙ parts_lack n.mount n.path n.mount_name n.is_path_text.good
