@@ -219,6 +219,19 @@ class Trial:
             self.check(name, status == wanted and to.exists() == (status == 0) and
                        said.endswith("name it by BROKERD" if wanted else ""), f"status {status}: {said}")
 
+    def find_no_log(self, token):
+        """A database that sqlite3 has closed has no log, and is copied alone."""
+        earlier, answered, *_ = self.copies[0]
+        file, to = shutil.copytree(earlier, self.folder / "closed") / self.file.name, self.folder / "no log"
+        with contextlib.closing(sqlite3.connect(file)) as database:
+            database.execute("PRAGMA user_version").fetchone()
+        self.check("the log of a closed database", not Path(f"{file}-wal").exists(), "it is there")
+        status, said = copy_by_script(self.program, file, to)
+        copied = [it.name for it in to.iterdir()] if status == 0 else []
+        self.check("no log", copied == [file.name], f"status {status}: {said}; {copied}")
+        why = what_is_wrong(self.program, to / file.name, token, answered)
+        self.check("a copy without a log", why is None, why)
+
     def find_no_broker(self):
         """Of a database without a broker there is no copy."""
         file, to = self.folder / "none.db", self.folder / "none"
@@ -259,6 +272,7 @@ def main():
         trial.judge(token)
         trial.restore(token, used, waiting)
         trial.find_program()
+        trial.find_no_log(token)
         trial.find_no_broker()
     print(f"{trial.passed} passed, {trial.failed} failed")
     return trial.failed != 0
