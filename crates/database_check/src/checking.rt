@@ -1,6 +1,6 @@
 //! A database that is checked, row by row.
 
-ghost use Rattle.std.specs.Prelude.{◌≡◌, ◌⊎◌, ◌≤◌, IsTrue, IfNone, IfOk, IfErr, IfSome, OnOk};
+ghost use Rattle.std.specs.Prelude.{◌≡◌, ◌⊎◌, ◌≤◌, Err, IsTrue, IfNone, IfOk, IfErr, IfSome, OnOk};
 ghost use Rattle.sqlite.specs.Files.{over_files};
 ghost use Rattle.sqlite.specs.WalFiles.{image_at};
 ghost use Rattle.broker_types.specs.Fault.{IsMemoryOrStorage};
@@ -11,6 +11,7 @@ ghost use Rattle.records.specs.Calls.{IsCall};
 ghost use Rattle.records.specs.Table.{table};
 ghost use Rattle.records.specs.Transaction.{IsHonest};
 ghost use Rattle.records.specs.Upgraded.{AreUpgraded};
+ghost use Rattle.records_sql.specs.Adopted.{IsKeptIn};
 ghost use Rattle.soundness.specs.Laws.{AreOfABroker};
 ghost use Rattle.database_check.specs.Findings.{IfSound, IfUnsound, KeepABroker, KeepNoBroker, OpenAsABroker};
 ghost use Rattle.database_check.specs.Findings.{OpenAsCounted, OpenAsNone};
@@ -56,6 +57,7 @@ pub fn check_records<S: Alter>(alloc: Global, records: &mut SqlRecords<S>) -> Re
         → (kept_records S.Store records.new).rows ≡ (kept_records S.Store records.old).rows }
     ensures mismatches { (kept_records S.Store records.old).mismatches
         ≤ (kept_records S.Store records.new).mismatches }
+    ensures failed { result ≡ Err Fault.Storage → IsTrue (kept_records S.Store records.new).has_failed }
     ensures faults { IfErr result IsMemoryOrStorage }
 {
     // What is rewritten in it is rolled back.
@@ -104,10 +106,15 @@ pub fn defect_of<S: Alter>(
         (HasNoClock (kept_records S.Store records.old).rows ⊎ OpenAsABroker (kept_records S.Store records.old).rows)) }
     ensures unsound { IsHonestStore (kept_records S.Store records.new) → IfOk result (λ defect.
         IfSome defect (OpenAsNone (kept_records S.Store records.old).rows)) }
+    ensures started { IsHonestStore (kept_records S.Store records.new) → IfOk result (λ defect.
+        IfSome defect (λ _. ¬ HasNoClock (kept_records S.Store records.old).rows)) }
     ensures same { IsHonestStore (kept_records S.Store records.new)
         → OnOk result ((kept_records S.Store records.new).rows ≡ (kept_records S.Store records.old).rows) }
+    ensures kept { IsHonestStore (kept_records S.Store records.new) → IsTrue (kept_records S.Store records.new).is_open
+        → (kept_records S.Store records.new).rows ≡ (kept_records S.Store records.old).rows }
     ensures mismatches { (kept_records S.Store records.old).mismatches
         ≤ (kept_records S.Store records.new).mismatches }
+    ensures failed { result ≡ Err Fault.Storage → IsTrue (kept_records S.Store records.new).has_failed }
     ensures faults { IfErr result IsMemoryOrStorage }
 {
     let defect = {
@@ -125,6 +132,8 @@ fn find_if_started<T: RecordsTx>(alloc: Global, tx: &mut T) -> Result<Option<Def
         IfNone defect (HasNoClock (T.seen tx.old).rows ⊎ OpenAsABroker (T.seen tx.old).rows)) }
     ensures unsound { IsHonest (T.seen tx.new) → IfOk result (λ defect.
         IfSome defect (OpenAsNone (T.seen tx.old).rows)) }
+    ensures started { IsHonest (T.seen tx.new) → IfOk result (λ defect.
+        IfSome defect (λ _. ¬ HasNoClock (T.seen tx.old).rows)) }
     ensures call { IsCall (T.seen tx.old) (T.seen tx.new) result IsMemoryOrStorage }
 {
     if tx.get(Kind::Clock, "")?.is_none() {
@@ -146,6 +155,9 @@ pub fn check_from<S: Start>(
         → IfSound checked.0 (KeepABroker (image_at S.Start))) }
     ensures unsound { IfOk result (λ checked. IsHonestStore (kept_records over_files checked.1)
         → IfUnsound checked.0 (KeepNoBroker (image_at S.Start))) }
+    ensures same { IfOk result (λ checked. IsHonestStore (kept_records over_files checked.1)
+        → IsTrue (kept_records over_files checked.1).is_open
+        → IsKeptIn (image_at S.Start) (kept_records over_files checked.1).rows) }
     ensures faults { IfErr result IsMemoryOrStorage }
 {
     // To open it would make the file, or the table in an empty one.

@@ -2,6 +2,7 @@
 use Rattle.std.proofs.Common.{◌≡◌, ◌≢◌, ◌⊎◌, inl, inr, ℕ, ◌≤◌, Option, Some, None, slice_index, sym, subst, ◌∙◌, arith}
 use Rattle.std.specs.FinMap.{empty, get-empty}
 use Rattle.std.specs.Prelude.{IfNone, IfSome}
+use Rattle.sqlite_trees.specs.declared.store.Store as store
 use Rattle.broker_types.specs.Broker.{Broker}
 use Rattle.broker_types.specs.First.{first_broker}
 use Rattle.broker_types.specs.Identifier.{id}
@@ -14,11 +15,14 @@ use Rattle.records.specs.TableLaws.{table_of-injective}
 use Rattle.records.specs.Transaction.{Rows}
 use Rattle.records.specs.Upgraded.{AreUpgraded}
 use Rattle.records.specs.UpgradedLaws.{clock_stays, empty_before, empty_stays, one_table}
+use Rattle.records_sql.specs.declared.sql_records.SqlRecords.{SqlRecords}
 use Rattle.broker_rows.specs.Representing.{Represents}
 use Rattle.broker_rows.specs.ClockRow.{HasNoClock}
 use Rattle.broker.specs.Kept.{Kept, IsHonestStore}
+use Rattle.broker_sql.specs.Beginning.{LacksClock}
+use Rattle.broker_sql.specs.SqlKept.{kept_records}
 use Rattle.database_check.specs.Findings.{OpenAsABroker}
-use Rattle.server.specs.Prepared.{IsOpened, IsPrepared, IsStarted}
+use Rattle.server.specs.Prepared.{CannotStart, IsOpened, IsPrepared, IsStarted}
 
 no_clock : HasNoClock empty
 no_clock = get-empty key_cmp _
@@ -113,3 +117,32 @@ module _ (records store : Kept) (adopted : IsHonestStore store
         sym (clock_stays records.rows store.rows up) ∙ lacks.0,
         (λ none. lacks.1 (empty_stays records.rows store.rows up none)),
       )
+
+-- ---- what was told of records once they were checked holds of them as they were before
+
+module _ {S : Type 0} (g : store.Ghosts S) (records checked : SqlRecords S g)
+    (less : (kept_records g records).mismatches ≤ (kept_records g checked).mismatches)
+    (same : IsHonestStore (kept_records g checked)
+    → (kept_records g checked).rows ≡ (kept_records g records).rows) where
+  pub lacked_before : LacksClock g checked → LacksClock g records
+  lacked_before it =
+      let more : (kept_records g checked).mismatches ≤ (kept_records g it.last).mismatches = it.mismatches in
+      record {
+        last = it.last;
+        mismatches = omega (arith, less, more);
+        told = λ honest.
+            let before : IsHonestStore (kept_records g checked) = omega (arith, more, honest) in
+            subst (λ (rows : Rows). HasNoClock rows × (rows ≢ empty)) (same before) (it.told honest);
+      }
+
+  pub refused_before : (words : Words) → CannotStart g checked words → CannotStart g records words
+  refused_before words it =
+      let more : (kept_records g checked).mismatches ≤ (kept_records g it.last).mismatches = it.mismatches in
+      record {
+        equal = it.equal;
+        last = it.last;
+        mismatches = omega (arith, less, more);
+        told = λ honest.
+            let before : IsHonestStore (kept_records g checked) = omega (arith, more, honest) in
+            subst (λ (rows : Rows). rows ≡ empty) (same before) (it.told honest);
+      }

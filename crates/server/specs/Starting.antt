@@ -21,6 +21,12 @@ IsFaultOfNew (Broker BadStart) = ⊤
 IsFaultOfNew Read = ⊤
 IsFaultOfNew Write = ⊤
 
+-- a fault of the broker: nothing else was read or written
+abbrev pub IsOfBroker : ConnectionFault → Type 0
+IsOfBroker (Broker fault) = ⊤
+IsOfBroker Read = ⊥
+IsOfBroker Write = ⊥
+
 -- if it is a fault, P
 abbrev pub IfFaulted : ServeError → (ConnectionFault → Type 0) → Type 0
 IfFaulted (Unsound defect) P = ⊤

@@ -3,13 +3,15 @@
 ghost use Rattle.std.specs.Prelude.{◌≡◌, ◌⊎◌, ◌≤◌, IsTrue, IfOk, IfErr, Err, None};
 ghost use Rattle.broker_types.specs.Broker.{Broker};
 ghost use Rattle.broker_types.specs.Fault.{IsMemoryOrStorage};
+ghost use Rattle.broker_rows.specs.ClockRow.{HasNoClock};
 ghost use Rattle.broker_rows.specs.Representing.{Represents};
 ghost use Rattle.broker.specs.Kept.{IsHonestStore};
 ghost use Rattle.broker_sql.specs.Beginning.{LacksClock};
 ghost use Rattle.broker_sql.specs.SqlKept.{kept_records, sql_kept};
 ghost use Rattle.database_check.specs.Findings.{OpenAsNone};
+ghost use Rattle.hub.specs.declared.serve.ConnectionFault.TheVariants as fault;
 ghost use Rattle.server.specs.Prepared.{CannotStart, IsPrepared};
-ghost use Rattle.server.specs.Starting.{IfFaulted, IfRefused, IsFaultOfNew, ReturnsWhatWasWritten};
+ghost use Rattle.server.specs.Starting.{IfFaulted, IfRefused, IsFaultOfNew, IsOfBroker, ReturnsWhatWasWritten};
 
 use crate::serve_error::ServeError;
 use broker_sql::SqlStore;
@@ -65,6 +67,11 @@ pub fn prepare_checked<S: Alter + Drop>(
         → IsTrue (sql_kept S.Store made.0).is_open) }
     ensures unsound { ReturnsWhatWasWritten S.Store
         → IfErr result (λ error. IfRefused error (OpenAsNone (kept_records S.Store records).rows)) }
+    ensures started { ReturnsWhatWasWritten S.Store
+        → IfErr result (λ error. IfRefused error (λ _. ¬ HasNoClock (kept_records S.Store records).rows)) }
+    ensures bad_start { result ≡ Err (ServeError.Faulted (fault.Broker Fault.BadStart))
+        → LacksClock S.Store records ⊎ CannotStart S.Store records words.now }
+    ensures broker { IfErr result (λ error. IfFaulted error IsOfBroker) }
     ensures faults { IfErr result (λ error. IfFaulted error IsFaultOfNew) }
 {
     match defect_of(alloc, &mut records)? {

@@ -1,8 +1,26 @@
-use Rattle.std.proofs.Common.{None}
+use Rattle.std.proofs.Common.{◌≡◌, ◌≤◌, inl, inr, None, Ok, Err, Result, sym, ap, ◌∙◌}
+use Rattle.std.proofs.lemmas.Result.{err_from_is_err_and}
+use Rattle.broker_rows.specs.ClockRow.{HasNoClock}
+use Rattle.broker_types.specs.declared.fault.Fault.{Fault}
+use Rattle.broker_types.specs.declared.fault.Fault.TheVariants.{BadStart}
 use Rattle.database_check.specs.Findings.{OpenAsNone}
 use Rattle.broker_sql.specs.SqlKept.{kept_records, sql_kept}
-use Rattle.server.proofs.PreparedLemmas.{checked_broker, if_none, if_some}
+use Rattle.hub.specs.declared.serve.ConnectionFault.TheVariants.{Broker, Read, Write}
+use Rattle.server.specs.declared.serve_error.ServeError.{ServeError}
+use Rattle.server.specs.declared.serve_error.ServeError.TheVariants.{Unsound, Faulted}
+use Rattle.server.proofs.PreparedLemmas.{checked_broker, if_none, if_some, lacked_before, refused_before}
 use Rattle.server.proofs.preparing.prepare_checked.Goals as goal
+
+abbrev error_of : {A : Type 0} → ServeError → Result A ServeError → ServeError
+error_of error (Ok x) = error
+error_of error (Err e) = e
+
+-- the broker's fault that an error is
+abbrev fault_in : ServeError → Fault
+fault_in (Unsound defect) = BadStart
+fault_in (Faulted (Broker fault)) = fault
+fault_in (Faulted Read) = BadStart
+fault_in (Faulted Write) = BadStart
 
 pub returns-in_ok-prepare-in-None-clause-sound : goal.returns-in_ok-prepare-in-None-clause-sound
 returns-in_ok-prepare-in-None-clause-sound g c honest =
@@ -19,3 +37,25 @@ returns-in-Some-clause-unsound g c always =
     if_some (OpenAsNone (kept_records g.S.Store c.args.records).rows) c.in_ok-defect.field-0 c.in-Some.defect
     c.in-Some.is (c.in_ok-defect.ensures.unsound
     (always (record { alloc = c.args.alloc; records = c.defect_of.new.records; aids = None })))
+
+pub returns-in-Some-clause-started : goal.returns-in-Some-clause-started
+returns-in-Some-clause-started g c always =
+    if_some (λ defect. ¬ HasNoClock (kept_records g.S.Store c.args.records).rows) c.in_ok-defect.field-0
+    c.in-Some.defect c.in-Some.is (c.in_ok-defect.ensures.started
+    (always (record { alloc = c.args.alloc; records = c.defect_of.new.records; aids = None })))
+
+pub returns-in_err-prepare-in-None-clause-bad_start : goal.returns-in_err-prepare-in-None-clause-bad_start
+returns-in_err-prepare-in-None-clause-bad_start g c is =
+    let left = err_from_is_err_and c.from_residual-in_err-prepare-in-None.result
+    c.from_residual-in_err-prepare-in-None.ensures.1 in
+    let faulted : Faulted (Broker c.in_err-prepare-in-None.field-0.0) ≡ Faulted (Broker BadStart) =
+    sym left.2 ∙ ap (error_of (Faulted Read)) (sym left.1 ∙ is) in
+    let same : c.in_err-prepare-in-None.field-0.0 ≡ BadStart = ap fault_in faulted in
+    let checked = c.defect_of.new.records in
+    let less : (kept_records g.S.Store c.args.records).mismatches ≤ (kept_records g.S.Store checked).mismatches =
+    c.in_ok-defect.ensures.mismatches in
+    elim (c.in_err-prepare-in-None.ensures.bad_start (ap Err same)) [
+      | inl lacks ↦ inl (lacked_before g.S.Store c.args.records checked less c.in_ok-defect.ensures.same lacks)
+      | inr cannot ↦ inr
+          (refused_before g.S.Store c.args.records checked less c.in_ok-defect.ensures.same c.args.words.now cannot)
+    ]
