@@ -2,4 +2,5 @@ pub mod Atomic
 pub mod Beginning
 pub mod Found
 pub mod HonestLaws
+pub mod Prepared
 pub mod SqlKept

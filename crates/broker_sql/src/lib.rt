@@ -4,7 +4,9 @@
 mod adopting;
 mod emptiness;
 mod laws;
+mod preparing;
 mod sql_store;
 
 pub use laws::{memory_returns_what_was_written, what_was_committed_is_found};
+pub use preparing::prepare;
 pub use sql_store::SqlStore;

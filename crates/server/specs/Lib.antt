@@ -4,7 +4,6 @@ pub mod Moments
 pub mod Noting
 pub mod Opening
 pub mod Patience
-pub mod Prepared
 pub mod Replying
 pub mod Serving
 pub mod Starting

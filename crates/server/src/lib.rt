@@ -22,7 +22,7 @@ mod waiting;
 
 pub use drawn::{DrawnWords, seeded};
 pub use listening::Listening;
-pub use preparing::{prepare, prepare_checked};
+pub use preparing::prepare_checked;
 pub use serve_error::ServeError;
 pub use serving::serve;
 pub use settings::Settings;

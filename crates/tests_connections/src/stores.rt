@@ -1,7 +1,7 @@
 //! Stores in a database in memory: how they are started, opened and made ready.
 
 use broker::Store;
-use broker_sql::SqlStore;
+use broker_sql::{SqlStore, prepare};
 use broker_types::{
     Ask, BodyBytes, Bytes, CowBytes, CowText, Fault, Moment, Path, Seconds, Status, TextBuf, Verb,
     Words, WrapTtl,
@@ -9,7 +9,6 @@ use broker_types::{
 use ram_disk::RamFile;
 use records::{Kind, RecordsTx, Row, write_clock};
 use records_sql::SqlRecords;
-use server::prepare;
 use sqlite::{FileStore, Unknown};
 use std::alloc::Global;
 use std::borrow::{CowSlice, CowStr};

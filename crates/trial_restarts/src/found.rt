@@ -2,10 +2,10 @@
 
 use crate::opening::{Writes, open, open_records};
 use crate::running::{feed, rows_of};
+use broker_sql::prepare;
 use broker_types::Fault;
 use hub::{Event, Hub};
 use replay::Start;
-use server::prepare;
 use sqlite::Files;
 use sqlite_disk::Disk;
 use std::alloc::Global;

@@ -1,9 +1,8 @@
 //! A broker in two files, opened and closed.
 
-use broker_sql::SqlStore;
+use broker_sql::{SqlStore, prepare};
 use broker_types::{Fault, Moment, Words};
 use records_sql::SqlRecords;
-use server::prepare;
 use sqlite::{Connection, FileStore, Files, Options};
 use sqlite_disk::Disk;
 use std::alloc::Global;

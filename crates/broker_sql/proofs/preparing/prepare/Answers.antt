@@ -4,8 +4,8 @@ use Rattle.std.proofs.lemmas.Bool.Decides.{eqb_tells}
 use Rattle.broker_types.specs.declared.fault.Fault.{Fault}
 use Rattle.broker_types.specs.declared.fault.Fault.TheVariants.{BadStart}
 use Rattle.broker_sql.specs.SqlKept.{kept_records, sql_kept}
-use Rattle.server.proofs.PreparedLemmas.{begun, lacking, no_rows, opened, refused}
-use Rattle.server.proofs.preparing.prepare.Goals as goal
+use Rattle.broker_sql.proofs.PreparedLemmas.{begun, lacking, no_rows, opened, refused}
+use Rattle.broker_sql.proofs.preparing.prepare.Goals as goal
 
 abbrev fault_of : {A : Type 0} → Fault → Result A Fault → Fault
 fault_of fault (Ok x) = fault
