@@ -9,8 +9,6 @@ mod failing_ends;
 #[cfg(test)]
 mod replaying;
 #[cfg(test)]
-mod rows;
-#[cfg(test)]
 mod served;
 #[cfg(test)]
 mod stopping;
