@@ -5,10 +5,9 @@ use broker::Store;
 use broker_sql::SqlStore;
 use broker_types::Fault;
 use hub::{Event, Hub};
-use ram_disk::RamFile;
 use records_sql::SqlRecords;
 use replay::Script;
-use sqlite::{Alter, FileStore, Files};
+use sqlite::{Alter, Files};
 use sqlite_disk::Disk;
 use std::alloc::Global;
 use trial_disk::{Counts, Pair, Part};
@@ -123,30 +122,42 @@ pub(crate) fn all_states(alloc: Global, script: &Script) -> Result<Vec<Rows>, Fa
     let mut states = Vec::new(alloc);
     states.push(rows_of(alloc, &mut SqlRecords::in_memory(alloc)?)?)?;
     for count in 0..=script.events.len() {
-        let hub = hub_after(alloc, script, &script.events[..count])?;
-        states.push(rows_of(alloc, &mut hub.into_store().into_records())?)?;
+        let store = SqlStore::in_memory(alloc)?;
+        states.push(rows_after(alloc, store, script, &script.events[..count])?)?;
     }
     Ok(states)
 }
 
-/// The reply to an event of a broker in a database in memory after the start and these events.
-pub(crate) fn reply_after(
+/// The rows of a store without rows after the start and these events.
+fn rows_after<S: Alter + Drop>(
     alloc: Global,
+    store: SqlStore<S>,
+    script: &Script,
+    events: &[Event],
+) -> Result<Rows, Fault> {
+    let hub = hub_after(alloc, store, script, events)?;
+    rows_of(alloc, &mut hub.into_store().into_records())
+}
+
+/// The reply to an event of a broker in a store without rows after the start and these events.
+pub(crate) fn reply_after<S: Alter + Drop>(
+    alloc: Global,
+    store: SqlStore<S>,
     script: &Script,
     events: &[Event],
     event: &Event,
 ) -> Result<Vec<u8>, Fault> {
-    let mut hub = hub_after(alloc, script, events)?;
+    let mut hub = hub_after(alloc, store, script, events)?;
     feed(&mut hub, event)
 }
 
-/// A broker in a database in memory after the start and these events.
-pub(crate) fn hub_after(
+/// A broker in a store without rows after the start and these events.
+pub(crate) fn hub_after<S: Alter + Drop>(
     alloc: Global,
+    mut store: SqlStore<S>,
     script: &Script,
     events: &[Event],
-) -> Result<Hub<SqlStore<FileStore<RamFile>>>, Fault> {
-    let mut store = SqlStore::in_memory(alloc)?;
+) -> Result<Hub<SqlStore<S>>, Fault> {
     store.start(script.start.moment, &script.start.words)?;
     let mut hub = Hub::new(alloc, store);
     feed_all(&mut hub, events, &mut 0)?;

@@ -9,6 +9,7 @@ use crate::running::{Run, all_states, reply_after};
 use crate::stops::Stop;
 use crate::tally::Tally;
 use crate::upgraded::{old_and_new, upgrade_until_stop};
+use broker_sql::SqlStore;
 use broker_types::Fault;
 use endpoints::{Sink, Source};
 use hub::Event;
@@ -113,8 +114,8 @@ impl Asked {
         let all = script.events.as_slice();
         let before = all.get(..before).unwrap_or(all);
         Ok(Asked {
-            without: reply_after(alloc, script, before, &event)?,
-            with: reply_after(alloc, script, all, &event)?,
+            without: reply_after(alloc, SqlStore::in_memory(alloc)?, script, before, &event)?,
+            with: reply_after(alloc, SqlStore::in_memory(alloc)?, script, all, &event)?,
             event,
         })
     }
@@ -136,7 +137,7 @@ impl Trial {
     ) -> Result<Trial, Fault> {
         let states = match steps {
             Steps::Script => all_states(alloc, &script)?,
-            Steps::Upgrade => old_and_new(alloc, &script)?,
+            Steps::Upgrade => old_and_new(alloc, SqlStore::in_memory(alloc)?, &script)?,
         };
         Ok(Trial {
             alloc,

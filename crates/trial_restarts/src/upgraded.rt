@@ -2,6 +2,7 @@
 
 use crate::opening::{Writes, close, open, open_records};
 use crate::running::{Run, hub_after, rows_of};
+use broker_sql::SqlStore;
 use broker_types::{Bytes, Fault, TextBuf};
 use records::{Kind, RecordsTx, Row};
 use records_sql::SqlRecords;
@@ -34,9 +35,13 @@ fn write_old<S: Alter>(alloc: Global, records: &mut SqlRecords<S>) -> Result<(),
     tx.commit()
 }
 
-/// The rows of a broker in a database in memory after the script, where keys have rows of format 1, and as they are.
-pub(crate) fn old_and_new(alloc: Global, script: &Script) -> Result<Vec<Rows>, Fault> {
-    let hub = hub_after(alloc, script, script.events.as_slice())?;
+/// The rows of a store without rows after the script, where keys have rows of format 1, and as they are.
+pub(crate) fn old_and_new<S: Alter + Drop>(
+    alloc: Global,
+    store: SqlStore<S>,
+    script: &Script,
+) -> Result<Vec<Rows>, Fault> {
+    let hub = hub_after(alloc, store, script, script.events.as_slice())?;
     let mut records = hub.into_store().into_records();
     let new = rows_of(alloc, &mut records)?;
     write_old(alloc, &mut records)?;

@@ -6,10 +6,9 @@ use broker_sql::SqlStore;
 use broker_types::Fault;
 use endpoints::{Failed, Sink};
 use hub::{Event, Hub};
-use ram_disk::RamFile;
 use records_sql::SqlRecords;
 use replay::{Exit, Script};
-use sqlite::{Alter, FileStore};
+use sqlite::Alter;
 use std::alloc::Global;
 use std::io::Eprint;
 use trial_rows::Rows;
@@ -40,17 +39,14 @@ impl Looked for ListStore {
     }
 }
 
-/// The store in a database in memory.
-type InMemory = SqlStore<FileStore<RamFile>>;
-
-impl Looked for InMemory {
+impl<S: Alter + Drop> Looked for SqlStore<S> {
     fn look(
         alloc: Global,
-        hub: Hub<InMemory>,
+        hub: Hub<SqlStore<S>>,
         script: &Script,
         count: usize,
-    ) -> Result<(Hub<InMemory>, Option<bool>), Fault> {
-        let wanted = rows_after(alloc, script, count)?;
+    ) -> Result<(Hub<SqlStore<S>>, Option<bool>), Fault> {
+        let wanted = rows_after(alloc, SqlStore::in_memory(alloc)?, script, count)?;
         let (store, rows) = rows_in(alloc, hub.into_store())?;
         Ok((Hub::new(alloc, store), Some(rows.are(&wanted))))
     }
@@ -72,9 +68,13 @@ fn rows_of<S: Alter>(alloc: Global, records: &mut SqlRecords<S>) -> Result<Rows,
     Rows::of(alloc, &mut tx)
 }
 
-/// The rows of another broker after the start and the first so many events.
-fn rows_after(alloc: Global, script: &Script, count: usize) -> Result<Rows, Fault> {
-    let mut store = SqlStore::in_memory(alloc)?;
+/// The rows of a store without rows after the start and the first so many events.
+fn rows_after<S: Alter + Drop>(
+    alloc: Global,
+    mut store: SqlStore<S>,
+    script: &Script,
+    count: usize,
+) -> Result<Rows, Fault> {
     store.start(script.start.moment, &script.start.words)?;
     let mut hub = Hub::new(alloc, store);
     for event in script.events.iter().take(count) {
@@ -105,10 +105,20 @@ pub(crate) fn retry_over_sql<R: Eprint, W: Sink>(
     script: &Script,
     writer: &mut W,
 ) -> Exit {
-    let mut store = match SqlStore::in_memory(alloc) {
-        Ok(store) => store,
-        Err(fault) => return Exit::from(fault),
-    };
+    match SqlStore::in_memory(alloc) {
+        Ok(store) => start_retrying(rt, alloc, store, script, writer),
+        Err(fault) => Exit::from(fault),
+    }
+}
+
+/// Starts a broker in a store without rows, and runs the script over it.
+fn start_retrying<R: Eprint, S: Alter + Drop, W: Sink>(
+    rt: &R,
+    alloc: Global,
+    mut store: SqlStore<S>,
+    script: &Script,
+    writer: &mut W,
+) -> Exit {
     match store.start(script.start.moment, &script.start.words) {
         Ok(_) => run_retrying(rt, alloc, Hub::new(alloc, store), script, writer),
         Err(fault) => Exit::from(fault),
