@@ -1,4 +1,5 @@
-//! Stores in a database in memory: how they are started, opened and made ready.
+//! Stores in a database in memory: how they are started, opened and made ready. What owns one is generic in its
+//! storage, which takes the prover less memory.
 
 use broker::Store;
 use broker_sql::{SqlStore, prepare};
@@ -6,10 +7,9 @@ use broker_types::{
     Ask, BodyBytes, Bytes, CowBytes, CowText, Fault, Moment, Path, Seconds, Status, TextBuf, Verb,
     Words, WrapTtl,
 };
-use ram_disk::RamFile;
 use records::{Kind, RecordsTx, Row, write_clock};
 use records_sql::SqlRecords;
-use sqlite::{FileStore, Unknown};
+use sqlite::{Alter, Unknown};
 use std::alloc::Global;
 use std::borrow::{CowSlice, CowStr};
 use std::mem::forget;
@@ -32,7 +32,7 @@ fn moment() -> Result<Moment, Fault> {
 }
 
 /// Whether a store without rows can be started once, with two words that differ.
-fn starts_once(store: &mut SqlStore<FileStore<RamFile>>) -> Result<bool, Fault> {
+fn starts_once<S: Alter>(store: &mut SqlStore<S>) -> Result<bool, Fault> {
     let words = Words([0, 1, 2, 3, 4, 5, 6, 7]);
     Ok(
         matches!(store.start(moment()?, &Words([7; 8])), Err(Fault::BadStart))
@@ -58,20 +58,19 @@ fn lookup() -> Result<Ask<'static>, Fault> {
 }
 
 /// Whether the root token is answered when it looks itself up.
-fn answers(store: &mut SqlStore<FileStore<RamFile>>) -> Result<bool, Fault> {
+fn answers<S: Alter>(store: &mut SqlStore<S>) -> Result<bool, Fault> {
     let words = Words([16, 17, 18, 19, 20, 21, 22, 23]);
     Ok(store.one(moment()?, &words, &lookup()?)?.status == Status::Success)
 }
 
-/// Whether a store in memory is started once, and then answers.
-fn answers_once_started(alloc: Global) -> Result<bool, Fault> {
-    let mut store = SqlStore::in_memory(alloc)?;
+/// Whether a store without rows is started once, and then answers.
+fn answers_once_started<S: Alter + Drop>(mut store: SqlStore<S>) -> Result<bool, Fault> {
     Ok(starts_once(&mut store)? && answers(&mut store)?)
 }
 
 #[test]
 fn a_store_is_started_once(rt: HostRuntime) -> Result<(), Fail> {
-    assert!(rt; answers_once_started(rt.alloc())?);
+    assert!(rt; answers_once_started(SqlStore::in_memory(rt.alloc())?)?);
     Ok(())
 }
 
@@ -85,8 +84,10 @@ fn row(alloc: Global, owner: &str, body: &[u8]) -> Result<Row, Fault> {
 
 /// Whether rows without that of the clock are refused. One of them was written once the transaction before had been
 /// forgotten with what it wrote.
-fn refuses_rows_without_a_clock(alloc: Global) -> Result<bool, Fault> {
-    let mut records = SqlRecords::in_memory(alloc)?;
+fn refuses_rows_without_a_clock<S: Alter + Drop>(
+    alloc: Global,
+    mut records: SqlRecords<S>,
+) -> Result<bool, Fault> {
     let mut forgotten = records.begin()?;
     forgotten.put(Kind::Clock, "", row(alloc, ROOT, &[1])?)?;
     forget(forgotten);
@@ -98,28 +99,27 @@ fn refuses_rows_without_a_clock(alloc: Global) -> Result<bool, Fault> {
 
 #[test]
 fn rows_without_a_clock_are_refused(rt: HostRuntime) -> Result<(), Fail> {
-    assert!(rt; refuses_rows_without_a_clock(rt.alloc())?);
+    let records = SqlRecords::in_memory(rt.alloc())?;
+    assert!(rt; refuses_rows_without_a_clock(rt.alloc(), records)?);
     Ok(())
 }
 
-type Records = SqlRecords<FileStore<RamFile>>;
-
 /// The records once a broker was opened over them, and whether its root token is told, if one is.
-fn prepared(
+fn prepared<S: Alter + Drop>(
     alloc: Global,
-    records: Records,
+    records: SqlRecords<S>,
     words: &Words,
-) -> Result<(Records, Option<bool>), Fault> {
+) -> Result<(SqlRecords<S>, Option<bool>), Fault> {
     let (store, told) = prepare(alloc, records, moment()?, words)?;
     let is_root = told.map(|token| token.as_str() == ROOT);
     Ok((store.into_records(), is_root))
 }
 
-/// Whether records in memory become the first broker, whose root token is told, and are opened from then on: by the
+/// Whether records without a row become the first broker, whose root token is told, and are opened from then on: by the
 /// same words, and by equal ones, which cannot start a broker.
-fn prepares_once(alloc: Global) -> Result<bool, Fault> {
+fn prepares_once<S: Alter + Drop>(alloc: Global, records: SqlRecords<S>) -> Result<bool, Fault> {
     let words = Words([0, 1, 2, 3, 4, 5, 6, 7]);
-    let (records, first) = prepared(alloc, SqlRecords::in_memory(alloc)?, &words)?;
+    let (records, first) = prepared(alloc, records, &words)?;
     let (records, again) = prepared(alloc, records, &words)?;
     let (_, equal) = prepared(alloc, records, &Words([7; 8]))?;
     Ok(first == Some(true) && again.is_none() && equal.is_none())
@@ -127,12 +127,13 @@ fn prepares_once(alloc: Global) -> Result<bool, Fault> {
 
 #[test]
 fn a_broker_is_started_once(rt: HostRuntime) -> Result<(), Fail> {
-    assert!(rt; prepares_once(rt.alloc())?);
+    let records = SqlRecords::in_memory(rt.alloc())?;
+    assert!(rt; prepares_once(rt.alloc(), records)?);
     Ok(())
 }
 
 /// Whether the records have the row of the key in format 2.
-fn has_new_key(records: &mut Records) -> Result<bool, Fault> {
+fn has_new_key<S: Alter>(records: &mut SqlRecords<S>) -> Result<bool, Fault> {
     let found = records.begin()?.get(Kind::KvKey, "secret/x")?;
     match found {
         Some(key) => {
@@ -143,8 +144,7 @@ fn has_new_key(records: &mut Records) -> Result<bool, Fault> {
 }
 
 /// Whether opening makes the row of a key in format 1 that of the same key in format 2.
-fn upgrades(alloc: Global) -> Result<bool, Fault> {
-    let mut records = SqlRecords::in_memory(alloc)?;
+fn upgrades<S: Alter + Drop>(alloc: Global, mut records: SqlRecords<S>) -> Result<bool, Fault> {
     let mut tx = records.begin()?;
     tx.put(Kind::Clock, "", write_clock(alloc, moment()?)?)?;
     tx.put(Kind::KvKey, "secret/x", row(alloc, "", OLD_KEY)?)?;
@@ -155,7 +155,8 @@ fn upgrades(alloc: Global) -> Result<bool, Fault> {
 
 #[test]
 fn keys_of_format_1_are_upgraded(rt: HostRuntime) -> Result<(), Fail> {
-    assert!(rt; upgrades(rt.alloc())?);
+    let records = SqlRecords::in_memory(rt.alloc())?;
+    assert!(rt; upgrades(rt.alloc(), records)?);
     Ok(())
 }
 
