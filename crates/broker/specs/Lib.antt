@@ -1,6 +1,5 @@
 pub mod Answering
 pub mod Askers
-pub mod Kept
 pub mod Laws
 pub mod Meant
 pub mod PermittedRows

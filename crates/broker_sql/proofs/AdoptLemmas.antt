@@ -8,8 +8,8 @@ use Rattle.records.specs.Upgraded.{AreUpgraded}
 use Rattle.records.specs.UpgradedLaws.{clock_stays, empty_stays}
 use Rattle.records_sql.specs.Adopted.{IsKeptIn}
 use Rattle.std.specs.FinMap.{empty}
+use Rattle.records.specs.Kept.{Kept, IsHonestStore}
 use Rattle.broker_rows.specs.ClockRow.{HasNoClock}
-use Rattle.broker.specs.Kept.{Kept, IsHonestStore}
 
 pub if_three : {T E : Type 0} {P Q R Z : T → Type 0} (r : Result T E) → ((x : T) → P x → Q x → R x → Z x) → IfOk r P
     → IfOk r Q → IfOk r R → IfOk r Z

@@ -6,13 +6,13 @@ use Rattle.broker_types.specs.Identifier.{id}
 use Rattle.broker_types.specs.Text.{Text}
 use Rattle.broker_types.specs.TokenText.{token_text}
 use Rattle.broker_types.specs.declared.words.Words.{Words}
+use Rattle.records.specs.Kept.{Kept, IsHonestStore}
 use Rattle.records.specs.Table.{table_of}
 use Rattle.records.specs.Transaction.{Rows}
 use Rattle.records.specs.Upgraded.{AreUpgraded}
 use Rattle.records.specs.UpgradedLaws.{clock_stays, empty_before, empty_stays}
 use Rattle.broker_rows.specs.Representing.{Represents}
 use Rattle.broker_rows.specs.ClockRow.{HasNoClock}
-use Rattle.broker.specs.Kept.{Kept, IsHonestStore}
 use Rattle.broker_sql.specs.Prepared.{IsOpened, IsStarted}
 
 -- A start is refused for its words, or for rows that are there: they are not, as long as the storage returned what was

@@ -5,15 +5,16 @@ ghost use Rattle.std.specs.FinMap as map;
 ghost use Rattle.sqlite.specs.Files.{over_files};
 ghost use Rattle.sqlite.specs.WalFiles.{image_at};
 ghost use Rattle.broker_types.specs.Fault.{IsMemoryOrStorage};
+ghost use Rattle.records.specs.Kept.{IsHonestStore};
 ghost use Rattle.records.specs.Table.{table_of};
 ghost use Rattle.records.specs.Transaction.{Rows, is_storage};
 ghost use Rattle.records.specs.Upgraded.{AreUpgraded};
 ghost use Rattle.records_sql.specs.Adopted.{IsKeptIn};
+ghost use Rattle.records_sql.specs.KeptRecords.{kept_records};
 ghost use Rattle.broker_rows.specs.ClockRow.{HasNoClock};
-ghost use Rattle.broker.specs.Kept.{IsHonestStore};
 ghost use Rattle.broker_sql.specs.Atomic.{IsAtomic};
 ghost use Rattle.broker_sql.specs.Beginning.{LacksClock, LacksClockIn, TellsStart};
-ghost use Rattle.broker_sql.specs.SqlKept.{kept_records, sql_kept};
+ghost use Rattle.broker_sql.specs.SqlKept.{sql_kept};
 
 use crate::emptiness::is_empty;
 use crate::sql_store::SqlStore;

@@ -3,8 +3,8 @@
 ghost use Rattle.std.specs.Prelude.{◌≡◌};
 ghost use Rattle.sqlite.specs.Files.{over_files};
 ghost use Rattle.sqlite_store.specs.declared.store.FileStore.{FileStore as Stored};
+ghost use Rattle.records.specs.Kept.{IsHonestStore};
 ghost use Rattle.ram_disk.specs.declared.file.RamFile.{RamFile as Memory};
-ghost use Rattle.broker.specs.Kept.{IsHonestStore};
 ghost use Rattle.broker_sql.specs.Found.{AllFindTheirRows};
 ghost use Rattle.broker_sql.specs.SqlKept.{sql_kept};
 ghost use Rattle.broker_sql.specs.declared.sql_store.SqlStore.{SqlStore as Kept};

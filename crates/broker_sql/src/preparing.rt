@@ -2,10 +2,11 @@
 
 ghost use Rattle.std.specs.Prelude.{◌≡◌, ◌⊎◌, ◌≤◌, IsTrue, IfOk, IfErr, Err};
 ghost use Rattle.broker_types.specs.Fault.{IsMemoryOrStorage};
-ghost use Rattle.broker.specs.Kept.{IsHonestStore};
+ghost use Rattle.records.specs.Kept.{IsHonestStore};
+ghost use Rattle.records_sql.specs.KeptRecords.{kept_records};
 ghost use Rattle.broker_sql.specs.Beginning.{LacksClock};
 ghost use Rattle.broker_sql.specs.Prepared.{CannotStart, IsPrepared};
-ghost use Rattle.broker_sql.specs.SqlKept.{kept_records, sql_kept};
+ghost use Rattle.broker_sql.specs.SqlKept.{sql_kept};
 
 use crate::sql_store::SqlStore;
 use broker_types::{Fault, Moment, TokenText, Words};

@@ -10,15 +10,16 @@ ghost use Rattle.broker_types.specs.First.{first_broker};
 ghost use Rattle.broker_types.specs.Identifier.{id};
 ghost use Rattle.broker_types.specs.Names.{names_of, token_word, accessor_word};
 ghost use Rattle.broker_types.specs.TokenText.{token_text};
+ghost use Rattle.records.specs.Kept.{IsHonestStore, IsReady};
 ghost use Rattle.records.specs.Transaction.{is_storage};
+ghost use Rattle.records_sql.specs.KeptRecords.{kept_records};
 ghost use Rattle.broker_model.specs.Listed.{IsListed};
 ghost use Rattle.broker_model.specs.Step.{step};
 ghost use Rattle.broker_rows.specs.ClockRow.{NeedsClock};
 ghost use Rattle.broker_rows.specs.Representing.{Represents, Gives};
 ghost use Rattle.broker.specs.Answering.{IsAnsweredBy};
-ghost use Rattle.broker.specs.Kept.{IsHonestStore, IsReady};
 ghost use Rattle.broker_sql.specs.Atomic.{IsAtomic};
-ghost use Rattle.broker_sql.specs.SqlKept.{kept_records, sql_kept};
+ghost use Rattle.broker_sql.specs.SqlKept.{sql_kept};
 
 use crate::emptiness::is_empty;
 use broker::{Aids, Store, handle_with};

@@ -10,12 +10,13 @@ ghost use Rattle.brokerd.specs.Exits.{status_after, status_of};
 
 mod command;
 
+use broker_server::{ServeError, serve_file, serve_in_memory};
 use clap::error::{Error, ErrorKind};
 use command::{Command, command_of};
 use database_check::{Finding, check_file};
 use endpoints::{Reading, Writing};
 use replay::{Exit, replay};
-use server::{ServeError, Settings, serve_file, serve_in_memory};
+use server::Settings;
 use std::io::{Eprint, Print};
 use std::process::ExitCode;
 use std::{env, io};

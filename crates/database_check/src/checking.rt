@@ -4,14 +4,14 @@ ghost use Rattle.std.specs.Prelude.{◌≡◌, ◌⊎◌, ◌≤◌, Err, IsTrue
 ghost use Rattle.sqlite.specs.Files.{over_files};
 ghost use Rattle.sqlite.specs.WalFiles.{image_at};
 ghost use Rattle.broker_types.specs.Fault.{IsMemoryOrStorage};
-ghost use Rattle.broker.specs.Kept.{IsHonestStore};
 ghost use Rattle.broker_rows.specs.ClockRow.{HasNoClock};
-ghost use Rattle.broker_sql.specs.SqlKept.{kept_records};
 ghost use Rattle.records.specs.Calls.{IsCall};
+ghost use Rattle.records.specs.Kept.{IsHonestStore};
 ghost use Rattle.records.specs.Table.{table};
 ghost use Rattle.records.specs.Transaction.{IsHonest};
 ghost use Rattle.records.specs.Upgraded.{AreUpgraded};
 ghost use Rattle.records_sql.specs.Adopted.{IsKeptIn};
+ghost use Rattle.records_sql.specs.KeptRecords.{kept_records};
 ghost use Rattle.soundness.specs.Laws.{AreOfABroker};
 ghost use Rattle.database_check.specs.Findings.{IfSound, IfUnsound, KeepABroker, KeepNoBroker, OpenAsABroker};
 ghost use Rattle.database_check.specs.Findings.{OpenAsCounted, OpenAsNone};

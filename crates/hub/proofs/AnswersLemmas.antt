@@ -3,7 +3,6 @@ use Rattle.std.proofs.Common.{arith, ◌≡◌, ◌∙◌, ℕ, ◌+◌, ◌<◌
 use Rattle.std.proofs.Common.{ap, subst, None}
 use Rattle.std.proofs.lemmas.List.{take_more, take_all}
 use Rattle.broker_rows.specs.Representing.{Represents}
-use Rattle.broker.specs.Kept.{Kept, IsHonestStore}
 use Rattle.records.specs.Transaction.{Rows}
 use Rattle.broker_types.specs.declared.fault.Fault.{Fault}
 use Rattle.hub.specs.AnyRows.{FaultsAt, NextConnections, RunConnections}
@@ -14,6 +13,7 @@ use Rattle.hub.specs.Runs.{Answers, AnswersOne, StopsAt, StopsTurns, TookTurns}
 use Rattle.hub.specs.declared.hub.Hub.{Hub}
 use Rattle.hub.specs.declared.event.Event.{Event}
 use Rattle.broker_types.specs.Sound.{Sound}
+use Rattle.records.specs.Kept.{Kept, IsHonestStore}
 use Rattle.broker_model.specs.Forms.{forms}
 use Rattle.histories.specs.History.{AreAsked, History}
 use Rattle.hub.specs.Histories.{EventsAsked}

@@ -9,7 +9,6 @@ use Rattle.broker_types.specs.declared.ask.Ask.{Ask}
 use Rattle.broker_model.specs.Step.{step}
 use Rattle.broker_rows.specs.ClockRow.{HasClock}
 use Rattle.broker_rows.specs.Representing.{Represents}
-use Rattle.broker.specs.Kept.{Kept, IsHonestStore}
 use Rattle.records.specs.Transaction.{Rows}
 use Rattle.http_layer.specs.Asked.{asked}
 use Rattle.http_layer.specs.Refusing.{RefusalParts, front_refused}
@@ -17,6 +16,7 @@ use Rattle.http_layer.specs.Closing.{closes}
 use Rattle.http_layer.specs.Front.{refused_with, whole, IsFront}
 use Rattle.http_layer.specs.HeadParts.{HeadParts}
 use Rattle.http_layer.specs.Reply.{IsReply}
+use Rattle.records.specs.Kept.{Kept, IsHonestStore}
 use Rattle.hub.specs.AnyRows.{IsRequestReply}
 use Rattle.hub.specs.World.{request_closes, request_effect}
 use Rattle.hub.specs.Feeding.{IsServed, ServesFront}

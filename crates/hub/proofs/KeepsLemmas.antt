@@ -4,7 +4,7 @@ use Rattle.std.proofs.Common.{refl, sym, ap, subst, arith}
 use Rattle.std.specs.declared.alloc.Global.{Global}
 use Rattle.broker_types.specs.declared.fault.Fault.{Fault}
 use Rattle.broker_types.specs.declared.fault.Fault.TheVariants.{Storage}
-use Rattle.broker.specs.Kept.{Kept, IsHonestStore}
+use Rattle.records.specs.Kept.{Kept, IsHonestStore}
 use Rattle.hub.specs.Feeding.{IsLater, Keeps}
 use Rattle.hub.specs.Representing.{HubRepresents, hub_store}
 use Rattle.hub.specs.Serving.{IsAllowed, IsUnanswered, KeepsStore}

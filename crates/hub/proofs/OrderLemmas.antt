@@ -11,7 +11,7 @@ use Rattle.std.proofs.lemmas.List.Folds.{concat-append}
 use Rattle.std.specs.Io.KnownBytes.{Appends, Consumes}
 use Rattle.std.specs.List.{All, concat, flat_map}
 use Rattle.std.specs.Result.{result_err}
-use Rattle.broker.specs.Kept.{Kept}
+use Rattle.records.specs.Kept.{Kept}
 use Rattle.hub.specs.Links.{number_of, unsent}
 use Rattle.hub.specs.Ordering.{EndsBy, HaveNumbers, IsAnswer, IsCaused, IsOther, IsServedLine, ServesLines, TurnsLine}
 use Rattle.hub.specs.Ordering.{number_at, replies_in, reply_by, steps_of}

@@ -12,8 +12,8 @@ use Rattle.std.specs.declared.alloc.Global.{Global}
 use Rattle.broker_types.specs.declared.fault.Fault.{Fault}
 use Rattle.broker_types.specs.declared.fault.Fault.TheVariants.{Memory}
 use Rattle.broker_types.specs.declared.words.Words.{Words}
+use Rattle.records.specs.Kept.{Kept, IsHonestStore}
 use Rattle.broker_rows.specs.Representing.{Represents}
-use Rattle.broker.specs.Kept.{Kept, IsHonestStore}
 use Rattle.records.specs.Transaction.{Rows}
 use Rattle.hub.specs.AnyRows.{FaultsAt, NextConnections, RunConnections, TurnsOpen, close_history}
 use Rattle.hub.specs.Feeding.{Keeps}

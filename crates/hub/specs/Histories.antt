@@ -4,7 +4,7 @@ use Rattle.std.specs.Option.{option_map_or}
 use Rattle.std.specs.declared.alloc.Global.{Global}
 use Rattle.broker_types.specs.Broker.{Broker}
 use Rattle.broker_types.specs.declared.fault.Fault.{Fault}
-use Rattle.broker.specs.Kept.{Kept, IsHonestStore}
+use Rattle.records.specs.Kept.{Kept, IsHonestStore}
 use Rattle.histories.specs.History.{Asking, History}
 use Rattle.hub.specs.Asking.{EventAsks, IsReplyTo}
 use Rattle.hub.specs.Representing.{HubRepresents, hub_store}

@@ -5,7 +5,7 @@ use Rattle.std.specs.Prelude.{length}
 use Rattle.std.specs.Prelude.{nat_eq}
 use Rattle.std.specs.List.{All, concat, flat_map, slice_index_or}
 use Rattle.std.specs.Io.KnownBytes.{Appends, Consumes}
-use Rattle.broker.specs.Kept.{Kept}
+use Rattle.records.specs.Kept.{Kept}
 use Rattle.hub.specs.Links.{number_of, unsent}
 use Rattle.hub.specs.Representing.{ConnectionsRepresent}
 use Rattle.hub.specs.Serving.{LeavesOthers, pieces_in}

@@ -4,7 +4,7 @@ use Rattle.std.specs.List.{slice_index_or}
 use Rattle.std.specs.declared.alloc.Global.{Global}
 use Rattle.broker_types.specs.declared.fault.Fault.{Fault}
 use Rattle.broker_types.specs.declared.fault.Fault.TheVariants.{Memory}
-use Rattle.broker.specs.Kept.{Kept}
+use Rattle.records.specs.Kept.{Kept}
 use Rattle.histories.specs.History.{AreAsked, History}
 use Rattle.hub.specs.AnyRows.{FaultsAt, RunConnections}
 use Rattle.hub.specs.Histories.{EventsAsked}

@@ -5,9 +5,9 @@ use Rattle.std.specs.Io.KnownBytes.{IsAtEnd}
 use Rattle.std.specs.List.{All, concat}
 use Rattle.broker_types.specs.Fault.{IsMemoryOrStorage, fault_number}
 use Rattle.broker_types.specs.declared.fault.Fault.TheVariants.{Storage}
-use Rattle.broker.specs.Kept.{Kept, IsHonestStore}
 use Rattle.histories.specs.History.{AreAsked, History}
 use Rattle.http_layer.specs.Front.{IsFront, need}
+use Rattle.records.specs.Kept.{Kept, IsHonestStore}
 use Rattle.hub.specs.AnyRows.{RunConnections, close_history}
 use Rattle.hub.specs.Feeding.{IsLater}
 use Rattle.hub.specs.Histories.{EventsAsked}

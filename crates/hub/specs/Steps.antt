@@ -1,7 +1,7 @@
 -- What a hub does on all of its connections, one step after another (this project's definition).
 use Rattle.std.specs.Prelude.{◌≡◌, ℕ, List, [], ◌∷◌, Option, None, ⊤, IsTrue}
 use Rattle.std.specs.List.{All, flat_map}
-use Rattle.broker.specs.Kept.{Kept, IsHonestStore}
+use Rattle.records.specs.Kept.{Kept, IsHonestStore}
 use Rattle.histories.specs.History.{AreAsked, Asking, History, left_by}
 use Rattle.hub.specs.Feeding.{IsLater}
 use Rattle.hub.specs.Histories.{EventAsked}

@@ -18,8 +18,8 @@ impl<S: Store> Hub<S> {
     ghost use Rattle.std.specs.Ordering.{nat_cmp};
     ghost use Rattle.std.specs.BTreeMap.{get};
     ghost use Rattle.broker_types.specs.Broker.{Broker};
+    ghost use Rattle.records.specs.Kept.{IsHonestStore};
     ghost use Rattle.broker_rows.specs.Representing.{Represents};
-    ghost use Rattle.broker.specs.Kept.{IsHonestStore};
     ghost use Rattle.hub.specs.AnyRows.{EventGives, EventNeedsClock};
     ghost use Rattle.hub.specs.Feeding.{Feeds, Keeps};
     ghost use Rattle.hub.specs.Listed.{IsListedReply};

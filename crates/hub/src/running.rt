@@ -1,7 +1,7 @@
 ghost use Rattle.std.specs.Prelude.{◌≡◌, ◌≢◌, ◌⊎◌, ◌<◌, IsTrue, IfOk, IfErr, MatchResult, length, take};
 ghost use Rattle.std.specs.List.{All};
 ghost use Rattle.broker_types.specs.Fault.{IsMemoryOrStorage};
-ghost use Rattle.broker.specs.Kept.{IsHonestStore};
+ghost use Rattle.records.specs.Kept.{IsHonestStore};
 ghost use Rattle.histories.specs.KeepsLaws.{KeepsLaws};
 ghost use Rattle.hub.specs.Feeding.{IsLater};
 ghost use Rattle.hub.specs.Histories.{Lawful};

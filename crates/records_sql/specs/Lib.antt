@@ -1,5 +1,6 @@
 pub mod Adopted
 pub mod Bounds
+pub mod KeptRecords
 pub mod Made
 pub mod Numbered
 pub mod Props

@@ -8,7 +8,7 @@ use Rattle.broker_types.specs.Fault.{fault_number}
 use Rattle.broker_types.specs.First.{first_broker}
 use Rattle.broker_types.specs.Names.{token_word, accessor_word}
 use Rattle.broker_types.specs.declared.fault.Fault.{Fault}
-use Rattle.broker.specs.Kept.{Kept, IsHonestStore}
+use Rattle.records.specs.Kept.{Kept, IsHonestStore}
 use Rattle.hub.specs.Representing.{ConnectionsRepresent, HubRepresents, hub_store}
 use Rattle.hub.specs.Runs.{bytes_of, HadNoRoom, StopsAt, StopsTurns}
 use Rattle.hub.specs.World.{Connections, World, Run, new_world}

@@ -1,7 +1,9 @@
 ghost use Rattle.std.specs.Prelude.{◌≡◌, ◌⊎◌, ◌+◌, ℕ, List, [], Some, IsTrue, ⊤};
 ghost use Rattle.std.specs.Io.KnownBytes.{Appends};
 ghost use Rattle.std.specs.List.{concat};
-ghost use Rattle.broker.specs.Kept.{IsHonestStore};
+ghost use Rattle.std.specs.FinMap as map;
+ghost use Rattle.records.specs.Kept.{IsHonestStore};
+ghost use Rattle.broker_sql.specs.SqlKept.{ReturnsWhatWasWritten, sql_kept};
 ghost use Rattle.hub.specs.Representing.{HubRepresents, hub_store};
 ghost use Rattle.hub.specs.Runs.{bytes_of};
 ghost use Rattle.hub.specs.World.{World};
@@ -18,6 +20,7 @@ use broker_sql::SqlStore;
 use broker_types::Fault;
 use endpoints::{Failed, Sink, Source};
 use hub::{Hub, run};
+use sqlite::Alter;
 use std::alloc::Global;
 
 /// How a replay ended.
@@ -103,10 +106,32 @@ fn run_in_memory<W: Sink>(alloc: Global, script: &Script, writer: &mut W) -> Exi
     ensures nothing { (result ≡ Faulted 4) ⊎ (result ≡ Faulted 5)
         → Appends (W.written writer.old) (W.written writer.new) [] }
 {
-    let mut store = match SqlStore::in_memory(alloc) {
-        Ok(store) => store,
-        Err(fault) => return Exit::from(fault),
-    };
+    match SqlStore::in_memory(alloc) {
+        Ok(store) => run_new(alloc, store, script, writer),
+        Err(fault) => Exit::from(fault),
+    }
+}
+
+/// Starts a broker in a store without rows, whose storage returns what was written, and runs the script over it. It is
+/// generic in the storage, since each call at the type of the one in memory takes the prover long.
+fn run_new<S: Alter + Drop, W: Sink>(
+    alloc: Global,
+    store: SqlStore<S>,
+    script: &Script,
+    writer: &mut W,
+) -> Exit
+    ensures ends { ReturnsWhatWasWritten S.Store → (sql_kept S.Store store).rows ≡ map.empty
+        → EndsBy (HasEqualWords (Some (told script.now))) ⊤ (W.has_failed writer.new) result }
+    ensures exit { IsUnfaulted result → result ≡ exit_of (told script.now) }
+    ensures ran { ReturnsWhatWasWritten S.Store → IsUnfaulted result
+        → Replayed script.now.start script.now.events.items (W.written writer.old)
+        (W.written writer.new) }
+    ensures stopped { ReturnsWhatWasWritten S.Store
+        → Stopped (Some (told script.now)) (W.written writer.old) (W.written writer.new) result }
+    ensures nothing { ReturnsWhatWasWritten S.Store → (result ≡ Faulted 4) ⊎ (result ≡ Faulted 5)
+        → Appends (W.written writer.old) (W.written writer.new) [] }
+{
+    let mut store = store;
     if let Err(fault) = store.start(script.start.moment, &script.start.words) {
         return Exit::from(fault);
     }

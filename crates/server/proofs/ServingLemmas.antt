@@ -5,7 +5,7 @@ use Rattle.std.proofs.lemmas.Bool.{cases_lt}
 use Rattle.std.proofs.lemmas.Map.{update_apart}
 use Rattle.broker_types.specs.declared.fault.Fault.{Fault}
 use Rattle.broker_types.specs.declared.fault.Fault.TheVariants.{Memory, Storage, Damaged, BadStart}
-use Rattle.broker.specs.Kept.{Kept, IsHonestStore}
+use Rattle.records.specs.Kept.{Kept, IsHonestStore}
 use Rattle.hub.specs.Feeding.{IsLater}
 use Rattle.hub.specs.Links.{number_of, unsent}
 use Rattle.hub.specs.Numbers.{IsNext}

@@ -2,7 +2,6 @@ pub mod Drawn
 pub mod LogLine
 pub mod Moments
 pub mod Noting
-pub mod Opening
 pub mod Patience
 pub mod Replying
 pub mod Serving

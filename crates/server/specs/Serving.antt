@@ -3,7 +3,7 @@ use Rattle.std.specs.Prelude.{◌≡◌, ◌≢◌, ◌<◌, ℕ, Bool, true, fa
 use Rattle.std.specs.Prelude.{None}
 use Rattle.broker_types.specs.declared.fault.Fault.{Fault}
 use Rattle.broker_types.specs.declared.fault.Fault.TheVariants.{Memory, Storage, Damaged, BadStart}
-use Rattle.broker.specs.Kept.{Kept, IsHonestStore}
+use Rattle.records.specs.Kept.{Kept, IsHonestStore}
 use Rattle.hub.specs.Representing.{ConnectionsRepresent, HubRepresents, hub_store}
 use Rattle.hub.specs.Steps.{AreKnown, Step, StepsBetween, StepsFrom, StepsTaken, before_fault}
 use Rattle.hub.specs.World.{Connections, World}

@@ -1,14 +1,19 @@
 //! The log, on standard error.
 
+ghost use Rattle.std.specs.Prelude.{◌≡◌, IfErr};
+
 use crate::log_line::{Asked, log_line};
+use crate::settings::Settings;
 use crate::system_clock::moment_now;
-use broker_types::{Ask, time_text};
+use broker_types::{Ask, Fault, time_text};
 use libc::net::{POLLOUT, poll};
 use libc::types::pollfd;
 use std::alloc::AllocError;
 use std::cell::Cell;
 use std::fmt::Display;
 use std::io::Print;
+use std::rc::Rc;
+use std::rt::HostRuntime;
 use std::time::Instant;
 
 /// The descriptor of standard error.
@@ -18,7 +23,7 @@ const STANDARD_ERROR: i32 = 2;
 /// for which there is no room now, or no memory, is dropped and counted, and the next that is written tells how many
 /// were.
 #[derive(Drop)]
-pub(crate) struct Log {
+pub struct Log {
     rt: HostRuntime,
     /// When the turn of a connection began.
     began: Cell<Option<Instant>>,
@@ -77,7 +82,7 @@ impl Log {
     // ---- the program
 
     /// Logs what becomes of the program.
-    pub(crate) fn tell<D: Display + Drop>(&self, what: D) {
+    pub fn tell<D: Display + Drop>(&self, what: D) {
         let line = self.told(what);
         self.write(line);
     }
@@ -121,6 +126,26 @@ impl Log {
         both.extend_from_slice(&line)?;
         Ok(both)
     }
+}
+
+/// The log, if there is to be one; its first line says that the program is starting. The only error is running out of
+/// memory.
+pub fn begin_log(rt: &HostRuntime, settings: &Settings<'_>) -> Result<Option<Rc<Log>>, Fault>
+    ensures { IfErr result (λ fault. fault ≡ Fault.Memory) }
+{
+    if !settings.logs {
+        return Ok(None);
+    }
+    let log = Rc::new(rt.alloc(), Log::new(*rt))?;
+    log.tell("starting");
+    Ok(Some(log))
+}
+
+/// The same log once more.
+pub(crate) fn shared(log: &Option<Rc<Log>>) -> Result<Option<Rc<Log>>, Fault>
+    ensures { IfErr result (λ fault. fault ≡ Fault.Memory) }
+{
+    Ok(log.clone()?)
 }
 
 /// Whether standard error takes a line at once, and somebody can read it.

@@ -1,7 +1,7 @@
 use Rattle.std.proofs.Common.{◌≤◌, arith}
 use Rattle.sqlite.specs.Files.{over_files}
-use Rattle.broker.specs.Kept.{IsHonestStore}
-use Rattle.broker_sql.specs.SqlKept.{kept_records}
+use Rattle.records.specs.Kept.{IsHonestStore}
+use Rattle.records_sql.specs.KeptRecords.{kept_records}
 use Rattle.database_check.proofs.FindingLemmas.{if_sound, if_unsound}
 use Rattle.database_check.proofs.checking.check_from.Goals as goal
 

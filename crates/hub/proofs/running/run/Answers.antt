@@ -8,10 +8,10 @@ use Rattle.std.proofs.lemmas.List.Elements.{All-nil, All-push}
 use Rattle.std.specs.List.{All}
 use Rattle.broker_types.specs.Fault.{IsMemoryOrStorage}
 use Rattle.std.specs.declared.alloc.Global.{Global}
+use Rattle.records.specs.Kept.{Kept}
 use Rattle.hub.specs.Listed.{IsListedReply}
 use Rattle.hub.specs.Representing.{hub_store}
 use Rattle.hub.specs.Runs.{bytes_of, Answers, TookTurns}
-use Rattle.broker.specs.Kept.{Kept}
 use Rattle.histories.specs.History.{AreAsked, History}
 use Rattle.histories.specs.KeepsLaws.{KeepsLaws}
 use Rattle.hub.specs.Histories.{RunKeeps}

@@ -1,6 +1,6 @@
 use Rattle.std.proofs.Common.{refl}
 use Rattle.broker_sql.specs.HonestLaws.{always_honest}
-use Rattle.server.proofs.starting.serve_in_memory.Goals as goal
+use Rattle.broker_server.proofs.starting.serve_in_memory.Goals as goal
 
 -- memory returns what was written
 pub returns : goal.returns

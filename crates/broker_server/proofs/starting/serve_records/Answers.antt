@@ -1,5 +1,5 @@
-use Rattle.server.proofs.PreparedLemmas.{new_broker}
-use Rattle.server.proofs.starting.serve_records.Goals as goal
+use Rattle.broker_server.proofs.PreparedLemmas.{new_broker}
+use Rattle.broker_server.proofs.starting.serve_records.Goals as goal
 
 pub returns : goal.returns
 returns g c always none =

@@ -15,7 +15,7 @@ pub enum ServeError {
 
 impl From<ConnectionFault> for ServeError {
     ghost use Rattle.std.specs.Prelude.{◌≡◌};
-    ghost use Rattle.server.specs.declared.serve_error.ServeError.TheVariants.{Faulted};
+    ghost use Rattle.broker_server.specs.declared.serve_error.ServeError.TheVariants.{Faulted};
 
     ghost from_gives = { λ fault error. error ≡ Faulted fault };
 
@@ -27,7 +27,7 @@ impl From<ConnectionFault> for ServeError {
 impl From<Fault> for ServeError {
     ghost use Rattle.std.specs.Prelude.{◌≡◌};
     ghost use Rattle.hub.specs.declared.serve.ConnectionFault.TheVariants.{Broker};
-    ghost use Rattle.server.specs.declared.serve_error.ServeError.TheVariants.{Faulted};
+    ghost use Rattle.broker_server.specs.declared.serve_error.ServeError.TheVariants.{Faulted};
 
     ghost from_gives = { λ fault error. error ≡ Faulted (Broker fault) };
 

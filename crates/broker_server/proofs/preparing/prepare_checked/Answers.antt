@@ -3,13 +3,14 @@ use Rattle.std.proofs.lemmas.Result.{err_from_is_err_and}
 use Rattle.broker_rows.specs.ClockRow.{HasNoClock}
 use Rattle.broker_types.specs.declared.fault.Fault.{Fault}
 use Rattle.broker_types.specs.declared.fault.Fault.TheVariants.{BadStart}
+use Rattle.records_sql.specs.KeptRecords.{kept_records}
 use Rattle.database_check.specs.Findings.{OpenAsNone}
-use Rattle.broker_sql.specs.SqlKept.{kept_records, sql_kept}
+use Rattle.broker_sql.specs.SqlKept.{sql_kept}
 use Rattle.hub.specs.declared.serve.ConnectionFault.TheVariants.{Broker, Read, Write}
-use Rattle.server.specs.declared.serve_error.ServeError.{ServeError}
-use Rattle.server.specs.declared.serve_error.ServeError.TheVariants.{Unsound, Faulted}
-use Rattle.server.proofs.PreparedLemmas.{checked_broker, if_none, if_some, lacked_before, refused_before}
-use Rattle.server.proofs.preparing.prepare_checked.Goals as goal
+use Rattle.broker_server.specs.declared.serve_error.ServeError.{ServeError}
+use Rattle.broker_server.specs.declared.serve_error.ServeError.TheVariants.{Unsound, Faulted}
+use Rattle.broker_server.proofs.PreparedLemmas.{checked_broker, if_none, if_some, lacked_before, refused_before}
+use Rattle.broker_server.proofs.preparing.prepare_checked.Goals as goal
 
 abbrev error_of : {A : Type 0} → ServeError → Result A ServeError → ServeError
 error_of error (Ok x) = error

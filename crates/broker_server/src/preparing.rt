@@ -2,15 +2,17 @@
 
 ghost use Rattle.std.specs.Prelude.{◌≡◌, ◌⊎◌, IsTrue, IfOk, IfErr, Err, None};
 ghost use Rattle.broker_types.specs.Broker.{Broker};
+ghost use Rattle.records.specs.Kept.{IsHonestStore};
+ghost use Rattle.records_sql.specs.KeptRecords.{kept_records};
 ghost use Rattle.broker_rows.specs.ClockRow.{HasNoClock};
 ghost use Rattle.broker_rows.specs.Representing.{Represents};
-ghost use Rattle.broker.specs.Kept.{IsHonestStore};
 ghost use Rattle.broker_sql.specs.Beginning.{LacksClock};
 ghost use Rattle.broker_sql.specs.Prepared.{CannotStart, IsPrepared};
-ghost use Rattle.broker_sql.specs.SqlKept.{kept_records, sql_kept};
+ghost use Rattle.broker_sql.specs.SqlKept.{ReturnsWhatWasWritten, sql_kept};
 ghost use Rattle.database_check.specs.Findings.{OpenAsNone};
 ghost use Rattle.hub.specs.declared.serve.ConnectionFault.TheVariants as fault;
-ghost use Rattle.server.specs.Starting.{IfFaulted, IfRefused, IsFaultOfNew, IsOfBroker, ReturnsWhatWasWritten};
+ghost use Rattle.server.specs.Starting.{IsFaultOfNew};
+ghost use Rattle.broker_server.specs.Starting.{IfFaulted, IfRefused, IsOfBroker};
 
 use crate::serve_error::ServeError;
 use broker_sql::{SqlStore, prepare};

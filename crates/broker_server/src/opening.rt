@@ -1,10 +1,10 @@
 //! What is said before a large database is opened.
 
 ghost use Rattle.std.specs.Prelude.{◌≡◌, IfOk, option_map, string_bytes};
-ghost use Rattle.server.specs.Opening.{megabytes, opening_text};
+ghost use Rattle.broker_server.specs.Opening.{megabytes, opening_text};
 
-use crate::log::Log;
 use broker_types::Fault;
+use server::Log;
 use std::alloc::{AllocError, Global};
 use std::fs;
 use std::io::Eprint;

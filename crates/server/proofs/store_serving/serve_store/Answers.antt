@@ -1,11 +1,11 @@
 use Rattle.std.proofs.Common.{◌≡◌, ◌∙◌, Err, IsTrue, None, ap, sym, subst}
 use Rattle.std.proofs.lemmas.Result.{err_from_is_err_and}
 use Rattle.broker_types.specs.declared.fault.Fault.TheVariants.{Memory, Storage}
-use Rattle.broker.specs.Kept.{Kept}
+use Rattle.records.specs.Kept.{Kept}
 use Rattle.broker_rows.specs.Representing.{Represents}
 use Rattle.hub.specs.World.{new_world}
 use Rattle.server.specs.Noting.{store_of}
-use Rattle.server.proofs.starting.serve_store.Goals as goal
+use Rattle.server.proofs.store_serving.serve_store.Goals as goal
 
 pub returns-in_err-serve : goal.returns-in_err-serve
 returns-in_err-serve g c always stands b represents =
