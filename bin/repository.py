@@ -35,6 +35,51 @@ def libraries_below(crate, crates):
     return found
 
 
+def crates_of_tests():
+    """The crates that have tests alone, and are no programs."""
+    return [name for name in read_crates() if name.startswith("tests_")]
+
+
+def copy_with_tests(to):
+    """Copies the crates of tests, and those below them, as `copy_crates` does."""
+    crates, tests = read_crates(), crates_of_tests()
+    below = set().union(*(libraries_below(name, crates) for name in tests))
+    return copy_crates(to, [name for name in crates if name in below or name in tests])
+
+
+def crates_of(program):
+    """The crates that a program is built from, itself the last."""
+    crates = read_crates()
+    return [name for name in crates if name in libraries_below(program, crates)] + [program]
+
+
+def is_built(program):
+    """Whether the program of a crate is there, and no source that it is built from is newer."""
+    made = TOP / f"crates/{program}/out/{program}"
+    if not made.is_file():
+        return False
+    read = [TOP / "crates.txt", TOP / "HANDLES"]
+    for crate in crates_of(program):
+        for part in ("src", "specs", "proofs"):
+            read += (TOP / "crates" / crate / part).rglob("*")
+    return max(path.stat().st_mtime for path in read) <= made.stat().st_mtime
+
+
+def take(program, copy, copied_at):
+    """Puts the program that was built in a copy in its place, also while an older one runs; and beside it the one that
+    Rattle's own compiler has built, if it has.
+
+    They are as old as the copy: a source that was changed since then is newer.
+    """
+    for name in (f"{program}.by-rattle", program):
+        built, made = copy / f"crates/{program}/out/{name}", TOP / f"crates/{program}/out/{name}"
+        if built.is_file():
+            made.parent.mkdir(exist_ok=True)
+            shutil.copy(built, f"{made}.new")
+            os.utime(f"{made}.new", (copied_at, copied_at))
+            os.replace(f"{made}.new", made)
+
+
 def copy_crates(to, names):
     """Copies crates to a new folder that is the top of a repository, without what was built and without their edits."""
     lines = (TOP / "crates.txt").read_text(encoding="utf-8").splitlines(keepends=True)
@@ -139,11 +184,11 @@ def applied(changes, texts, folder):
     return made
 
 
-def side_by_side():
-    """How many checks run at once: RT_JOBS, or one for each processor that has 4 GB of memory."""
+def side_by_side(memory=4_000_000):
+    """How many checks run at once: RT_JOBS, or one for each processor that has so much memory, in KB."""
     jobs = os.environ.get("RT_JOBS", "")
     if jobs.isdigit() and int(jobs) > 0:
         return int(jobs)
     lines = Path("/proc/meminfo").read_text(encoding="utf-8").splitlines()
     kilobytes = next(int(line.split()[1]) for line in lines if line.startswith("MemAvailable:"))
-    return max(1, min(len(os.sched_getaffinity(0)), kilobytes // 4_000_000))
+    return max(1, min(len(os.sched_getaffinity(0)), kilobytes // memory))
