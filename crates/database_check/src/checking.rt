@@ -164,8 +164,31 @@ pub fn check_from<S: Start>(
     if !has_bytes(rt, path) {
         return Err(Fault::Storage);
     }
-    let mut records = SqlRecords::open_from(rt, path, start)?;
-    let finding = check_records(rt.alloc(), &mut records)?;
+    match SqlRecords::open_from(rt, path, start) {
+        Ok(records) => check_opened(rt.alloc(), records),
+        Err(fault) => Err(fault),
+    }
+}
+
+/// What `check_records` finds, and the records that were checked. It is generic in the storage, since each call at the
+/// type of one over files takes the prover long.
+fn check_opened<S: Alter + Drop>(
+    alloc: Global,
+    records: SqlRecords<S>,
+) -> Result<(Finding, SqlRecords<S>), Fault>
+    ensures sound { IfOk result (λ checked. IsHonestStore (kept_records S.Store checked.1)
+        → IfSound checked.0 (OpenAsCounted (kept_records S.Store records).rows)) }
+    ensures unsound { IfOk result (λ checked. IsHonestStore (kept_records S.Store checked.1)
+        → IfUnsound checked.0 (OpenAsNone (kept_records S.Store records).rows)) }
+    ensures same { IfOk result (λ checked. IsHonestStore (kept_records S.Store checked.1)
+        → IsTrue (kept_records S.Store checked.1).is_open
+        → (kept_records S.Store checked.1).rows ≡ (kept_records S.Store records).rows) }
+    ensures mismatches { IfOk result (λ checked.
+        (kept_records S.Store records).mismatches ≤ (kept_records S.Store checked.1).mismatches) }
+    ensures faults { IfErr result IsMemoryOrStorage }
+{
+    let mut records = records;
+    let finding = check_records(alloc, &mut records)?;
     Ok((finding, records))
 }
 
