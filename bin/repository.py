@@ -189,6 +189,10 @@ def side_by_side(memory=4_000_000):
     jobs = os.environ.get("RT_JOBS", "")
     if jobs.isdigit() and int(jobs) > 0:
         return int(jobs)
+    return max(1, min(len(os.sched_getaffinity(0)), memory_available() // memory))
+
+
+def memory_available():
+    """The memory that is free or can be freed, in KB."""
     lines = Path("/proc/meminfo").read_text(encoding="utf-8").splitlines()
-    kilobytes = next(int(line.split()[1]) for line in lines if line.startswith("MemAvailable:"))
-    return max(1, min(len(os.sched_getaffinity(0)), kilobytes // memory))
+    return next(int(line.split()[1]) for line in lines if line.startswith("MemAvailable:"))
