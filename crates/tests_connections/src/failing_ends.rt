@@ -13,14 +13,14 @@ use std::test::Fail;
 
 /// A reader of three bytes a read, or a writer, which fails once, at its call of this number, counted from 1.
 #[derive(Drop)]
-struct FailingEnd<T> {
+pub(crate) struct FailingEnd<T> {
     inner: T,
     calls: usize,
     at: usize,
 }
 
 impl<T> FailingEnd<T> {
-    fn new(inner: T, at: usize) -> FailingEnd<T> {
+    pub(crate) fn new(inner: T, at: usize) -> FailingEnd<T> {
         FailingEnd {
             inner,
             calls: 0,
