@@ -1,7 +1,7 @@
 //! Connections of which one end fails once, at each of its calls in turn: what the peer got then, and what the broker
 //! took.
 
-use crate::served::{FOUND, Fixed, READ, WRITE, WRITTEN, moment};
+use crate::exchange::{FOUND, Fixed, READ, WRITE, WRITTEN, moment};
 use crate::streams::{NOT_FOUND, started};
 use broker::ListStore;
 use broker_types::{Fault, Moment, Words};

@@ -3,7 +3,7 @@
 ghost use Rattle.std.specs.Prelude.{◌≡◌};
 ghost use Rattle.hub.specs.Links.{number_of};
 
-use crate::served::{CLOSING, Counting, FOUND, Fixed, READ, WRITE, WRITTEN, moment};
+use crate::exchange::{CLOSING, Counting, FOUND, Fixed, READ, WRITE, WRITTEN, moment};
 use crate::streams::{NOT_FOUND, NOT_FOUND_CLOSING, started};
 use broker::ListStore;
 use endpoints::{NowReading, NowWriting};
