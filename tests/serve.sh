@@ -309,6 +309,8 @@ stop
 run "no command" 2 'Usage:'
 run "another command" 2 'Usage:' reply
 run "a command with too many words" 2 'Usage:' replay twice
+run "lines that cannot be read" 1 'fault 5' replay < tests
+output=/dev/full run "replies that cannot be written" 1 'fault 6' replay < tests/rows/good_lines_then_bad.replay
 run "no address" 2 '--listen <ADDR>' serve
 run "no connections" 2 '--connections <N>' serve --listen 127.0.0.1:0 --connections 0
 run "too many connections" 2 '--connections <N>' serve --listen 127.0.0.1:0 --connections 4294967296

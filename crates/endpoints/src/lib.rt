@@ -13,6 +13,3 @@ pub use writing::{Sink, Writing};
 /// A reader or a writer failed.
 #[derive(Clone, Copy, Debug, PartialEq, Eq)]
 pub struct Failed;
-
-#[cfg(test)]
-mod tests;

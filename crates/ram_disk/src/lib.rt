@@ -8,6 +8,3 @@ mod opening;
 pub use file::RamFile;
 pub use laws::ram_returns_what_was_written;
 pub use opening::open;
-
-#[cfg(test)]
-mod tests;

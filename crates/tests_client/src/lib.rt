@@ -1,12 +1,6 @@
-//! Tests of the client, of its command lines and its exchanges, and of serving sockets: of a broker and a client, or
-//! another peer, in one process, one at each end of a connection.
+//! Tests of the client's command lines: the request that each sends, and those that are no commands. Replies and
+//! exchanges are in `tests/fuzz_client.py`, `tests/hostile/refused_client.py` and `tests/serve.sh`.
 #![tactic(auto)]
 
 #[cfg(test)]
-mod both_ends;
-#[cfg(test)]
 mod commands;
-#[cfg(test)]
-mod peers;
-#[cfg(test)]
-mod standing;

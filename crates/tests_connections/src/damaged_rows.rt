@@ -1,7 +1,8 @@
 //! A damaged row in both stores: the request that reads it ends its connection with the fault, and another connection
 //! is answered.
 
-use crate::served::{READ, moment};
+use crate::exchange::{READ, moment};
+use crate::stores::{Trial, holds_in_memory};
 use crate::streams::NOT_FOUND;
 use broker::{Store, handle};
 use broker_rows::write_first_rows;
@@ -124,18 +125,36 @@ fn told_over<S: Alter + Drop>(
     Ok((hub.into_store().into_records(), is_told))
 }
 
-/// Whether the damage is told over a database without rows, and leaves the rows as they are.
-fn is_told_over_sql<S: Alter + Drop>(
+/// The rows of records.
+fn rows_of<S: Alter>(alloc: Global, records: &mut SqlRecords<S>) -> Result<Rows, Fault> {
+    Rows::of(alloc, &mut records.begin()?)
+}
+
+/// Plants the rows in records.
+fn plant_in<S: Alter>(
     alloc: Global,
-    mut records: SqlRecords<S>,
+    records: &mut SqlRecords<S>,
     moment: Moment,
-) -> Result<bool, Fault> {
+) -> Result<Rows, Fault> {
     let mut tx = records.begin()?;
-    let before = plant(alloc, &mut tx, moment)?;
+    let planted = plant(alloc, &mut tx, moment)?;
     tx.commit()?;
-    let (mut records, is_told) = told_over(alloc, records, moment)?;
-    let mut tx = records.begin()?;
-    Ok(is_told && Rows::of(alloc, &mut tx)?.are(&before))
+    Ok(planted)
+}
+
+/// The damage is told over a database, and leaves the rows as they are.
+#[derive(Drop)]
+struct TellsDamage {
+    moment: Moment,
+}
+
+impl Trial for TellsDamage {
+    fn holds<S: Alter + Drop>(&self, alloc: Global, store: SqlStore<S>) -> Result<bool, Fault> {
+        let mut records = store.into_records();
+        let before = plant_in(alloc, &mut records, self.moment)?;
+        let (mut records, is_told) = told_over(alloc, records, self.moment)?;
+        Ok(is_told && rows_of(alloc, &mut records)?.are(&before))
+    }
 }
 
 #[test]
@@ -146,7 +165,7 @@ fn damage_is_told_over_the_list(rt: HostRuntime) -> Result<(), Fail> {
 
 #[test]
 fn damage_is_told_over_sql(rt: HostRuntime) -> Result<(), Fail> {
-    let records = SqlRecords::in_memory(rt.alloc())?;
-    assert!(rt; is_told_over_sql(rt.alloc(), records, moment()?)?);
+    let damage = TellsDamage { moment: moment()? };
+    assert!(rt; holds_in_memory(rt.alloc(), &damage)?);
     Ok(())
 }

@@ -1,7 +1,7 @@
 //! Connections of which one end fails once, at each of its calls in turn: what the peer got then, and what the broker
 //! took.
 
-use crate::served::{FOUND, Fixed, READ, WRITE, WRITTEN, moment};
+use crate::exchange::{FOUND, Fixed, READ, WRITE, WRITTEN, moment};
 use crate::streams::{NOT_FOUND, started};
 use broker::ListStore;
 use broker_types::{Fault, Moment, Words};
@@ -13,14 +13,14 @@ use std::test::Fail;
 
 /// A reader of three bytes a read, or a writer, which fails once, at its call of this number, counted from 1.
 #[derive(Drop)]
-struct FailingEnd<T> {
+pub(crate) struct FailingEnd<T> {
     inner: T,
     calls: usize,
     at: usize,
 }
 
 impl<T> FailingEnd<T> {
-    fn new(inner: T, at: usize) -> FailingEnd<T> {
+    pub(crate) fn new(inner: T, at: usize) -> FailingEnd<T> {
         FailingEnd {
             inner,
             calls: 0,

@@ -1,15 +1,17 @@
-//! Tests of connections: of the bytes that come and the replies to them, of connections that are served, and of runs
-//! that are replayed. They are here because a crate with tests is proved once more for them.
+//! Tests of connections and of stores: of their ends and what fails there, of turns, of runs that a fault ends, of
+//! stores in a database, and of files in memory. Requests with their replies are in `tests/rows`.
 #![tactic(auto)]
 
 #[cfg(test)]
 mod damaged_rows;
 #[cfg(test)]
+mod ends;
+#[cfg(test)]
+mod exchange;
+#[cfg(test)]
 mod failing_ends;
 #[cfg(test)]
-mod replaying;
-#[cfg(test)]
-mod served;
+mod ram_files;
 #[cfg(test)]
 mod stopping;
 #[cfg(test)]

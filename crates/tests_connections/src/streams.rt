@@ -1,11 +1,9 @@
-//! Streams of pieces: over a broker in a list of rows, and over a store that fails.
+//! Streams of pieces over a store that fails.
 
-use crate::served::{FOUND, READ, WRITE, WRITTEN, moment};
 use broker::{ListStore, Store};
 use broker_types::{Answer, Ask, Bytes, Fault, Moment, Words};
 use hub::{Event, Hub, run};
-use std::alloc::{AllocGlobal, Global};
-use std::process::Abort;
+use std::alloc::Global;
 use std::test::Fail;
 
 pub(crate) const NOT_FOUND: &str = "HTTP/1.1 404 Not Found\r\n\
@@ -68,34 +66,6 @@ pub(crate) fn started(alloc: Global, moment: Moment) -> Result<Hub<ListStore>, F
     let token = store.start(moment, &Words([0, 1, 2, 3, 4, 5, 6, 7]))?;
     drop(token);
     Ok(Hub::new(alloc, store))
-}
-
-/// The replies to a piece with both requests, and to an empty one.
-fn expect_two_replies(
-    rt: &(impl Abort + AllocGlobal),
-    hub: &mut Hub<ListStore>,
-) -> Result<(), Fail> {
-    let alloc = rt.alloc();
-    let both = format!(in alloc; "{WRITE}{READ}")?;
-    let events = [
-        event(alloc, 1, both.as_str(), 16)?,
-        event(alloc, 1, "", 32)?,
-    ];
-    let Ok(replies) = run(alloc, hub, &events) else {
-        return Err(Fail::from("a fault"));
-    };
-    assert_eq!(rt; replies.len(), 2);
-    assert_eq!(rt; replies[0].as_slice(), WRITTEN.as_bytes());
-    assert_eq!(rt; replies[1].as_slice(), FOUND.as_bytes());
-    Ok(())
-}
-
-/// The second of two requests in one piece is answered by an empty piece. Computes `FollowsRequests`, `Unanswered`,
-/// `Effect`, `request_effect`, `front_effect`, `Turns`, `Next`, `Run`, `AnswersOne`.
-#[test]
-fn pipelined_requests(rt: HostRuntime) -> Result<(), Fail> {
-    let mut hub = started(rt.alloc(), moment()?)?;
-    expect_two_replies(&rt, &mut hub)
 }
 
 /// Computes `history_at`, `history_after`, `put_history`, `TurnsOpen`, `NextConnections`, `OpenedAs`,

@@ -3,7 +3,7 @@
 ghost use Rattle.std.specs.Prelude.{◌≡◌};
 ghost use Rattle.hub.specs.Links.{number_of};
 
-use crate::served::{CLOSING, Counting, FOUND, Fixed, READ, WRITE, WRITTEN, moment};
+use crate::exchange::{CLOSING, Counting, FOUND, Fixed, READ, WRITE, WRITTEN, moment};
 use crate::streams::{NOT_FOUND, NOT_FOUND_CLOSING, started};
 use broker::ListStore;
 use endpoints::{NowReading, NowWriting};
@@ -13,14 +13,24 @@ use std::io;
 use std::process::Abort;
 use std::test::Fail;
 
-/// A reader or a writer that would wait at every other call, the first one among them. A write takes 128 bytes at most.
+/// A reader or a writer that would wait at every other call, the first one among them. A write takes `most` bytes at
+/// most.
 #[derive(Drop)]
-struct Stuttering<T> {
+pub(crate) struct Stuttering<T> {
     inner: T,
+    most: usize,
     waits: bool,
 }
 
 impl<T> Stuttering<T> {
+    pub(crate) fn new(inner: T, most: usize) -> Stuttering<T> {
+        Stuttering {
+            inner,
+            most,
+            waits: false,
+        }
+    }
+
     fn may_go_on(&mut self) -> io::Result<()> {
         self.waits = !self.waits;
         if self.waits {
@@ -40,7 +50,7 @@ impl<R: io::Read> io::Read for Stuttering<R> {
 impl<W: io::Write> io::Write for Stuttering<W> {
     fn write(&mut self, bytes: &[u8]) -> io::Result<usize> {
         self.may_go_on()?;
-        self.inner.write(&bytes[..bytes.len().min(128)])
+        self.inner.write(&bytes[..bytes.len().min(self.most)])
     }
 
     fn flush(&mut self) -> io::Result<()> {
@@ -122,14 +132,8 @@ fn expect_parts(rt: &(impl Abort + AllocGlobal), hub: &mut Hub<ListStore>) -> Re
     let mut link = Link::new(alloc, 7);
     let input = format!(in alloc; "{WRITE}{READ}")?;
     let mut output = Vec::new(alloc);
-    let mut reader = NowReading::new(Stuttering {
-        inner: input.as_bytes(),
-        waits: false,
-    });
-    let mut writer = NowWriting::new(Stuttering {
-        inner: &mut output,
-        waits: false,
-    });
+    let mut reader = NowReading::new(Stuttering::new(input.as_bytes(), 128));
+    let mut writer = NowWriting::new(Stuttering::new(&mut output, 128));
     let mut words = Counting { next: 16 };
     let mut clock = Fixed(moment()?);
     let wanted = [

@@ -1,11 +1,9 @@
-//! Tests of values, rows, bodies and messages: what each is as text or bytes, and what is read from these. They are
-//! here because a crate with tests is proved once more for them.
+//! Tests of values, rows and bodies: what each is as text or bytes, and what is read from these. Requests and replies
+//! are in `tests/rows`.
 #![tactic(auto)]
 
 #[cfg(test)]
 mod bodies;
-#[cfg(test)]
-mod messages;
 #[cfg(test)]
 mod rows;
 #[cfg(test)]

@@ -1,12 +1,12 @@
-use crate::RamFile;
+//! Files in the memory of the program.
+
+use ram_disk::RamFile;
 use sqlite_disk::Disk;
-use std::alloc::Global;
 use std::io;
 use std::test::Fail;
 
-/// What a file has at an offset after two writes, the second past the end, and a cut.
-fn written(alloc: Global) -> io::Result<bool> {
-    let mut file = RamFile::new(alloc);
+/// Whether a file has the bytes of two writes, the second past the end, up to a cut.
+fn has_what_was_written(file: &mut RamFile) -> io::Result<bool> {
     file.write_at(1, b"bc")?;
     file.write_at(4, b"efg")?;
     file.write_at(0, b"a")?;
@@ -19,6 +19,9 @@ fn written(alloc: Global) -> io::Result<bool> {
 
 #[test]
 fn bytes_are_read_as_they_were_written(rt: HostRuntime) -> Result<(), Fail> {
-    assert!(rt; written(rt.alloc())?);
+    let mut file = RamFile::new(rt.alloc());
+    let read = has_what_was_written(&mut file);
+    drop(file);
+    assert!(rt; read?);
     Ok(())
 }
