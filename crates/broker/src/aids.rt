@@ -9,10 +9,19 @@ use std::alloc::Global;
 
 /// What is made once and asked at each request: the routers of the table of routes, and the policies that were read.
 /// None of it is a row, so a store without it answers the same.
-#[derive(Drop)]
 pub struct Aids {
     pub(crate) routers: Routers,
     pub(crate) policies: PolicyMemory,
+}
+
+/// It is no derived one, which the prover would follow field by field at each way out of a function that owns a store.
+impl Drop for Aids {
+    fn drop(self) {
+        let Aids {
+            routers: _routers,
+            policies: _policies,
+        } = self;
+    }
 }
 
 impl Aids {

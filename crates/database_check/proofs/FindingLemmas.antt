@@ -1,16 +1,14 @@
 -- What holds of what a check finds.
-use Rattle.std.proofs.Common.{◌≡◌, Option, Some, None, subst}
-use Rattle.std.specs.Prelude.{IfNone}
-use Rattle.database_check.specs.Findings.{IfSound}
-use Rattle.database_check.specs.declared.checking.Finding.{Finding}
-use Rattle.std.proofs.Common.{◌∙◌}
-use Rattle.std.specs.Prelude.{IfSome}
+use Rattle.std.proofs.Common.{◌≡◌, ◌≤◌, ◌∙◌, Option, Some, None, Result, Ok, Err, subst, arith}
+use Rattle.std.specs.Prelude.{IfNone, IfSome, IfOk}
+use Rattle.records.specs.Kept.{Kept, IsHonestStore}
 use Rattle.records.specs.Table.{table_of}
 use Rattle.records.specs.Transaction.{Rows}
 use Rattle.records.specs.Upgraded.{AreUpgraded}
 use Rattle.records.specs.UpgradedLaws.{one_table}
 use Rattle.soundness.specs.Laws.{AreOfABroker}
-use Rattle.database_check.specs.Findings.{IfUnsound, OpenAsABroker}
+use Rattle.database_check.specs.Findings.{IfSound, IfUnsound, OpenAsABroker}
+use Rattle.database_check.specs.declared.checking.Finding.{Finding}
 use Rattle.database_check.specs.declared.checking.Finding.TheVariants.{Sound, Unsound}
 use Rattle.database_check.specs.declared.counts.Counts.{Counts}
 use Rattle.database_check.specs.declared.defect.Defect.{Defect}
@@ -37,6 +35,15 @@ pub if_unsound : {P Q : Defect → Type 0} (finding : Finding) → ((defect : De
     → IfUnsound finding P → IfUnsound finding Q
 if_unsound (Sound counts) f p = tt
 if_unsound (Unsound defect) f p = f defect p
+
+-- what follows of records that were opened, if those which were checked are honest
+pub of_opened : {X E : Type 0} {P Q : X → Type 0} (kept : X → Kept) (opened : Kept) (r : Result X E)
+    → IfOk r (λ x. opened.mismatches ≤ (kept x).mismatches) → (IsHonestStore opened → (x : X) → P x → Q x)
+    → IfOk r (λ x. IsHonestStore (kept x) → P x) → IfOk r (λ x. IsHonestStore (kept x) → Q x)
+of_opened kept opened (Err fault) less f p = tt
+of_opened kept opened (Ok x) less f p = λ honest.
+    let before : IsHonestStore opened = omega (arith, less, honest) in
+    f before x (p honest)
 
 -- where what they are rewritten to is of no sound broker, an opening makes no rows of one of them
 pub opens_as_none : (old rows : Rows) → AreUpgraded (table_of old) (table_of rows) → (AreOfABroker rows → ⊥)

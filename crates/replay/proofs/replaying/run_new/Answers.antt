@@ -8,19 +8,19 @@ use Rattle.replay.proofs.StoppedLemmas.{stopped_from, stopped_none}
 use Rattle.replay.proofs.WritingLemmas.{Appends-none}
 use Rattle.replay.proofs.replaying.run_new.Goals as goal
 
-pub returns-in-Err-start-clause-stopped : goal.returns-in-Err-start-clause-stopped
-returns-in-Err-start-clause-stopped g c always =
-    stopped_none (Some (told c.args.script.now)) (g.W.Sink.written c.args.writer.now) c.from-in-Err-start.result
+pub returns-in-Err-clause-stopped : goal.returns-in-Err-clause-stopped
+returns-in-Err-clause-stopped g c always =
+    stopped_none (Some (told c.args.script.now)) (g.W.Sink.written c.args.writer.now) c.from.result
 
-pub returns-in-Err-start-clause-ends : goal.returns-in-Err-start-clause-ends
-returns-in-Err-start-clause-ends g c always empty =
+pub returns-in-Err-clause-ends : goal.returns-in-Err-clause-ends
+returns-in-Err-clause-ends g c always empty =
     let honest = always c.start.new.self in
     subst (EndsBy (HasEqualWords (Some (told c.args.script.now))) ⊤ (g.W.Sink.has_failed c.args.writer.now))
-    (sym c.from-in-Err-start.ensures)
-    (ends_by_start c.in-Err-start.fault (HasEqualWords (Some (told c.args.script.now)))
+    (sym c.from.ensures)
+    (ends_by_start c.in-Err.fault (HasEqualWords (Some (told c.args.script.now)))
     (g.W.Sink.has_failed c.args.writer.now)
-    c.in-Err-start.ensures.faults
-    (λ bad. elim (c.in-Err-start.ensures.bad_start honest (ap Err bad)) [
+    c.in-Err.ensures.faults
+    (λ bad. elim (c.in-Err.ensures.bad_start honest (ap Err bad)) [
       | inl rows ↦ absurd (rows empty)
       | inr equal ↦ equal
     ]))
@@ -54,8 +54,8 @@ returns-clause-stopped g c always =
 
 -- ---- faults before the first event
 
-pub returns-in-Err-start-clause-nothing : goal.returns-in-Err-start-clause-nothing
-returns-in-Err-start-clause-nothing g c = λ always early. Appends-none (g.W.Sink.written c.args.writer.now)
+pub returns-in-Err-clause-nothing : goal.returns-in-Err-clause-nothing
+returns-in-Err-clause-nothing g c = λ always early. Appends-none (g.W.Sink.written c.args.writer.now)
 
 pub returns-clause-nothing : goal.returns-clause-nothing
 returns-clause-nothing g c = λ always early.
