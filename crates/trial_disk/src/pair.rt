@@ -45,15 +45,7 @@ impl Pair {
         }
     }
 
-    /// The two files, which outlive what is done with them.
-    pub fn lend(&mut self) -> Files<Lent<'_, RamFile>> {
-        Files {
-            log: Lent::new(&mut self.log),
-            db: Lent::new(&mut self.database),
-        }
-    }
-
-    /// The same, where one of them answers so many calls, and then fails each.
+    /// The two files, which outlive what is done with them. One of them answers so many calls, and then fails each.
     pub fn lend_until(&mut self, part: Part, calls: u64) -> Files<Fuse<Lent<'_, RamFile>>> {
         let (log_calls, database_calls) = match part {
             Part::Log => (calls, u64::MAX),

@@ -1,13 +1,13 @@
 //! The broker that is found in files.
 
-use crate::opening::{Writes, open, open_records};
+use crate::opening::{OverRecords, Until, Writes, over_files};
 use crate::running::{feed, rows_of};
 use broker_sql::prepare;
 use broker_types::Fault;
 use hub::{Event, Hub};
+use records_sql::SqlRecords;
 use replay::Start;
-use sqlite::Files;
-use sqlite_disk::Disk;
+use sqlite::Alter;
 use std::alloc::Global;
 use trial_disk::Pair;
 use trial_rows::Rows;
@@ -34,7 +34,13 @@ pub(crate) fn rows_found(
     let [first, second, ..] = states else {
         return Ok(None);
     };
-    match prepared(alloc, files.lend(), writes, start) {
+    match over_files(
+        alloc,
+        &mut files,
+        Until::NEVER,
+        writes,
+        &mut Preparing { start },
+    ) {
         Ok(
             Found {
                 rows,
@@ -54,22 +60,31 @@ pub(crate) fn rows_found(
     }
 }
 
-/// The rows in files, prepared with the moment and the words of a start.
-fn prepared<D: Disk + Drop>(
-    alloc: Global,
-    files: Files<D>,
-    writes: Writes,
-    start: &Start,
-) -> Result<Found, Fault> {
-    let mut records = open_records(alloc, files, writes)?;
-    let rows = rows_of(alloc, &mut records)?;
-    let (store, root) = prepare(alloc, records, start.moment, &start.words)?;
-    let mut records = store.into_records();
-    Ok(Found {
-        rows,
-        is_new: root.is_some(),
-        prepared: rows_of(alloc, &mut records)?,
-    })
+/// The rows, and what is made of them by the moment and the words of a start.
+#[derive(Drop)]
+struct Preparing<'s> {
+    start: &'s Start,
+}
+
+impl<'s> OverRecords for Preparing<'s> {
+    type Came = Found;
+
+    fn run<S: Alter + Drop>(
+        &mut self,
+        alloc: Global,
+        mut records: SqlRecords<S>,
+    ) -> Result<(SqlRecords<S>, Found), Fault> {
+        let rows = rows_of(alloc, &mut records)?;
+        let (store, root) = prepare(alloc, records, self.start.moment, &self.start.words)?;
+        let mut records = store.into_records();
+        let prepared = rows_of(alloc, &mut records)?;
+        let found = Found {
+            rows,
+            is_new: root.is_some(),
+            prepared,
+        };
+        Ok((records, found))
+    }
 }
 
 /// The reply to an event of the broker in files. It fails as the broker does.
@@ -79,16 +94,32 @@ pub(crate) fn reply_found(
     writes: Writes,
     event: &Event,
 ) -> Result<Vec<u8>, Fault> {
-    reply_over(alloc, files.lend(), writes, event)
+    over_files(
+        alloc,
+        &mut files,
+        Until::NEVER,
+        writes,
+        &mut Replying { event },
+    )
 }
 
-/// The same, over files that are lent.
-fn reply_over<D: Disk + Drop>(
-    alloc: Global,
-    files: Files<D>,
-    writes: Writes,
-    event: &Event,
-) -> Result<Vec<u8>, Fault> {
-    let (store, _) = open(alloc, files, writes, event.moment, &event.words)?;
-    feed(&mut Hub::new(alloc, store), event)
+/// The reply to an event.
+#[derive(Drop)]
+struct Replying<'e> {
+    event: &'e Event,
+}
+
+impl<'e> OverRecords for Replying<'e> {
+    type Came = Vec<u8>;
+
+    fn run<S: Alter + Drop>(
+        &mut self,
+        alloc: Global,
+        records: SqlRecords<S>,
+    ) -> Result<(SqlRecords<S>, Vec<u8>), Fault> {
+        let (store, _) = prepare(alloc, records, self.event.moment, &self.event.words)?;
+        let mut hub = Hub::new(alloc, store);
+        let reply = feed(&mut hub, self.event)?;
+        Ok((hub.into_store().into_records(), reply))
+    }
 }

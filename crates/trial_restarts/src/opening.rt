@@ -1,12 +1,13 @@
-//! A broker in two files, opened and closed.
+//! Two files, opened and closed, and what is done over their records.
 
-use broker_sql::{SqlStore, prepare};
-use broker_types::{Fault, Moment, Words};
+ghost use Rattle.std.specs.Prelude.{⊤, IfOk};
+
+use broker_types::Fault;
 use records_sql::SqlRecords;
-use sqlite::{Connection, FileStore, Files, Options};
+use sqlite::{Alter, Connection, FileStore, Files, Options};
 use sqlite_disk::Disk;
 use std::alloc::Global;
-use trial_disk::Pair;
+use trial_disk::{Pair, Part};
 
 /// What a crash may make of a write.
 #[derive(Clone, Copy, Debug, PartialEq, Eq)]
@@ -41,9 +42,100 @@ impl Writes {
     }
 }
 
-/// The records of two files; files that are empty are given a table without rows. It fails with `Storage` if a file
-/// fails or has no such rows, and with `Memory` if memory runs out.
-pub(crate) fn open_records<D: Disk + Drop>(
+/// What is done over records, whatever their storage is.
+///
+/// Only the functions of this module name a storage: each one that calls what is generic at this type, also at that of
+/// files whose own type is not known, takes the prover some 20 seconds.
+pub(crate) trait OverRecords {
+    /// What comes of it.
+    type Came: Drop;
+
+    /// What is known of that.
+    ghost fits: { Self.Came → Type 0 } = { λ _. ⊤ };
+
+    /// Whether the files of the records are closed then: the log is copied into the database file.
+    const CLOSES: bool = false;
+
+    /// Does this, and gives the records back. It fails as they do, or as a broker over them does; they are gone then.
+    fn run<S: Alter + Drop>(
+        &mut self,
+        alloc: Global,
+        records: SqlRecords<S>,
+    ) -> Result<(SqlRecords<S>, Self::Came), Fault>
+        ensures { IfOk result (λ done. fits done.1) };
+}
+
+/// After how many of its calls a file fails each.
+#[derive(Clone, Copy, Debug, PartialEq, Eq)]
+pub(crate) struct Until {
+    pub(crate) part: Part,
+    pub(crate) calls: u64,
+}
+
+impl Until {
+    /// More calls than there are.
+    pub(crate) const NEVER: Until = Until {
+        part: Part::Log,
+        calls: u64::MAX,
+    };
+}
+
+/// Does this over the records of two files; files that are empty are given a table without rows. It fails with `Storage`
+/// if a file fails or has no such rows, with `Memory` if memory runs out, and as what is done.
+pub(crate) fn over_files<T: OverRecords>(
+    alloc: Global,
+    files: &mut Pair,
+    until: Until,
+    writes: Writes,
+    task: &mut T,
+) -> Result<T::Came, Fault>
+    ensures { IfOk result T.OverRecords.fits }
+{
+    over(
+        alloc,
+        files.lend_until(until.part, until.calls),
+        writes,
+        task,
+    )
+}
+
+/// Does this over a database in memory.
+pub(crate) fn in_memory<T: OverRecords>(alloc: Global, task: &mut T) -> Result<T::Came, Fault> {
+    came_of(alloc, SqlRecords::in_memory(alloc)?, task)
+}
+
+/// Does this, and lets the records go.
+fn came_of<S: Alter + Drop, T: OverRecords>(
+    alloc: Global,
+    records: SqlRecords<S>,
+    task: &mut T,
+) -> Result<T::Came, Fault>
+    ensures { IfOk result T.OverRecords.fits }
+{
+    let (_, came) = task.run(alloc, records)?;
+    Ok(came)
+}
+
+/// Does this over files that are lent.
+fn over<D: Disk + Drop, T: OverRecords>(
+    alloc: Global,
+    files: Files<D>,
+    writes: Writes,
+    task: &mut T,
+) -> Result<T::Came, Fault>
+    ensures { IfOk result T.OverRecords.fits }
+{
+    let records = open(alloc, files, writes)?;
+    if !T::CLOSES {
+        return came_of(alloc, records, task);
+    }
+    let (records, came) = task.run(alloc, records)?;
+    close(records)?;
+    Ok(came)
+}
+
+/// The records of two files.
+fn open<D: Disk + Drop>(
     alloc: Global,
     files: Files<D>,
     writes: Writes,
@@ -57,22 +149,8 @@ pub(crate) fn open_records<D: Disk + Drop>(
     }
 }
 
-/// The store of two files, and whether a broker was started in it, since there were no rows. It fails as `prepare`
-/// does.
-pub(crate) fn open<D: Disk + Drop>(
-    alloc: Global,
-    files: Files<D>,
-    writes: Writes,
-    moment: Moment,
-    words: &Words,
-) -> Result<(SqlStore<FileStore<D>>, bool), Fault> {
-    let records = open_records(alloc, files, writes)?;
-    let (store, root) = prepare(alloc, records, moment, words)?;
-    Ok((store, root.is_some()))
-}
-
 /// Copies the log into the database file, and closes both. The only error is `Storage`, if a file fails.
-pub(crate) fn close<D: Disk + Drop>(records: SqlRecords<FileStore<D>>) -> Result<(), Fault> {
+fn close<D: Disk + Drop>(records: SqlRecords<FileStore<D>>) -> Result<(), Fault> {
     match records.into_connection().close() {
         Ok(()) => Ok(()),
         Err(_) => Err(Fault::Storage),

@@ -1,18 +1,16 @@
 //! The lines of a replay over files that are opened for each request, and closed after it.
 
-ghost use Rattle.std.specs.Prelude.{IfOk};
-ghost use Rattle.broker_types.specs.Answer.{HasRoom, response_of};
-ghost use Rattle.broker_model.specs.Listed.{IsListed};
-
-use crate::opening::{Writes, close, open};
+use crate::opening::{OverRecords, Until, Writes, over_files};
 use crate::reading::script_of;
+use crate::running::Steps;
 use broker::Store;
+use broker_sql::prepare;
 use broker_types::{Answer, Ask, Fault, Moment, Words};
 use endpoints::{Sink, Source};
 use hub::Hub;
-use replay::{Exit, Script, run_script};
-use sqlite::Files;
-use sqlite_disk::Disk;
+use records_sql::SqlRecords;
+use replay::{Exit, Script, Start, run_script};
+use sqlite::Alter;
 use std::alloc::Global;
 use trial_disk::Pair;
 
@@ -37,10 +35,16 @@ impl Reopened {
         }
     }
 
-    /// Makes the first broker, as `prepare` does.
-    fn start(&mut self, moment: Moment, words: &Words) -> Result<(), Fault> {
-        let files = self.files.lend();
-        start(self.alloc, files, self.writes, moment, words)
+    /// Makes the first broker.
+    fn start(&mut self, start: &Start) -> Result<(), Fault> {
+        let mut steps = Steps::new(start, &[]);
+        over_files(
+            self.alloc,
+            &mut self.files,
+            Until::NEVER,
+            self.writes,
+            &mut steps,
+        )
     }
 }
 
@@ -51,8 +55,14 @@ impl Store for Reopened {
     ghost seen = { λ r. record { rows = map.empty; mismatches = 1; has_failed = r.has_failed; is_open = false } };
 
     fn one(&mut self, moment: Moment, words: &Words, ask: &Ask<'_>) -> Result<Answer, Fault> {
-        let files = self.files.lend();
-        let answered = answer(self.alloc, files, self.writes, moment, words, ask);
+        let mut request = Request { moment, words, ask };
+        let answered = over_files(
+            self.alloc,
+            &mut self.files,
+            Until::NEVER,
+            self.writes,
+            &mut request,
+        );
         self.has_failed = matches!(answered, Err(Fault::Storage));
         answered
     }
@@ -62,40 +72,36 @@ impl Store for Reopened {
     }
 }
 
-/// Makes the first broker in files. It fails with `BadStart` if there is one.
-fn start<D: Disk + Drop>(
-    alloc: Global,
-    files: Files<D>,
-    writes: Writes,
+/// A request of the broker that is in files.
+#[derive(Drop)]
+struct Request<'r, 'a> {
     moment: Moment,
-    words: &Words,
-) -> Result<(), Fault> {
-    let (store, is_new) = open(alloc, files, writes, moment, words)?;
-    if !is_new {
-        return Err(Fault::BadStart);
-    }
-    close(store.into_records())
+    words: &'r Words,
+    ask: &'r Ask<'a>,
 }
 
-/// Answers one request over files. It fails with `BadStart` if there is no broker in them.
-fn answer<D: Disk + Drop>(
-    alloc: Global,
-    files: Files<D>,
-    writes: Writes,
-    moment: Moment,
-    words: &Words,
-    ask: &Ask<'_>,
-) -> Result<Answer, Fault>
-    ensures room { IfOk result HasRoom }
-    ensures listed { IfOk result (λ a. IsListed (response_of a)) }
-{
-    let (mut store, is_new) = open(alloc, files, writes, moment, words)?;
-    if is_new {
-        return Err(Fault::BadStart);
+impl<'r, 'a> OverRecords for Request<'r, 'a> {
+    ghost use Rattle.broker_types.specs.Answer.{HasRoom, response_of};
+    ghost use Rattle.broker_model.specs.Listed.{IsListed};
+
+    type Came = Answer;
+
+    ghost fits = { λ a. HasRoom a × IsListed (response_of a) };
+
+    const CLOSES: bool = true;
+
+    fn run<S: Alter + Drop>(
+        &mut self,
+        alloc: Global,
+        records: SqlRecords<S>,
+    ) -> Result<(SqlRecords<S>, Answer), Fault> {
+        let (mut store, root) = prepare(alloc, records, self.moment, self.words)?;
+        if root.is_some() {
+            return Err(Fault::BadStart);
+        }
+        let answer = store.one(self.moment, self.words, self.ask)?;
+        Ok((store.into_records(), answer))
     }
-    let answered = store.one(moment, words, ask)?;
-    close(store.into_records())?;
-    Ok(answered)
 }
 
 /// Runs the lines of the source over a broker in files, which are opened for each request and closed after it, and
@@ -115,7 +121,7 @@ pub(crate) fn replay_reopened<R: Source, W: Sink>(
 /// Starts a broker in new files, and runs the script over it.
 fn run_reopened<W: Sink>(alloc: Global, writes: Writes, script: &Script, writer: &mut W) -> Exit {
     let mut store = Reopened::new(alloc, writes);
-    if let Err(fault) = store.start(script.start.moment, &script.start.words) {
+    if let Err(fault) = store.start(&script.start) {
         return Exit::from(fault);
     }
     run_script(alloc, &mut Hub::new(alloc, store), script, writer)

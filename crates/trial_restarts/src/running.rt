@@ -1,14 +1,13 @@
 //! A run of a script, step by step: the start, then each event, and the close of the files.
 
-use crate::opening::{Writes, close, open};
+use crate::opening::{OverRecords, Until, Writes, in_memory, over_files};
 use broker::Store;
-use broker_sql::SqlStore;
+use broker_sql::{SqlStore, prepare};
 use broker_types::Fault;
 use hub::{Event, Hub};
 use records_sql::SqlRecords;
-use replay::Script;
-use sqlite::{Alter, Files};
-use sqlite_disk::Disk;
+use replay::{Script, Start};
+use sqlite::Alter;
 use std::alloc::Global;
 use trial_disk::{Counts, Pair, Part};
 use trial_rows::Rows;
@@ -38,14 +37,12 @@ impl Run {
         alloc: Global,
         script: &Script,
         writes: Writes,
-        part: Part,
-        calls: u64,
+        until: Until,
     ) -> Result<Run, Fault> {
         let mut files = writes.new_files(alloc);
-        let mut answered = 0;
-        let lent = files.lend_until(part, calls);
-        let ended = run_over(alloc, lent, writes, script, &mut answered);
-        Run::over(files, answered, ended)
+        let mut steps = Steps::of(script);
+        let ended = over_files(alloc, &mut files, until, writes, &mut steps);
+        Run::over(files, steps.answered, ended)
     }
 
     /// The run over files whose steps ended so after so many answers. It fails as they did, but for `Storage`, which is
@@ -73,25 +70,6 @@ impl Run {
     }
 }
 
-/// Starts a broker in files, feeds it the events, and closes the files. It counts the steps that were answered.
-fn run_over<D: Disk + Drop>(
-    alloc: Global,
-    files: Files<D>,
-    writes: Writes,
-    script: &Script,
-    answered: &mut usize,
-) -> Result<(), Fault> {
-    let start = &script.start;
-    let (store, is_new) = open(alloc, files, writes, start.moment, &start.words)?;
-    if !is_new {
-        return Err(Fault::BadStart);
-    }
-    *answered = 1;
-    let mut hub = Hub::new(alloc, store);
-    feed_all(&mut hub, script.events.as_slice(), answered)?;
-    close(hub.into_store().into_records())
-}
-
 /// Feeds the events in turn, and counts those that were answered.
 fn feed_all<S: Store>(
     hub: &mut Hub<S>,
@@ -117,49 +95,129 @@ pub(crate) fn rows_of<S: Alter>(alloc: Global, records: &mut SqlRecords<S>) -> R
     Rows::of(alloc, &mut tx)
 }
 
+/// The start of a broker, and events that it is fed.
+#[derive(Clone, Copy)]
+pub(crate) struct Steps<'s> {
+    start: &'s Start,
+    events: &'s [Event],
+    /// How many steps were answered.
+    answered: usize,
+}
+
+impl<'s> Steps<'s> {
+    /// None was answered so far.
+    pub(crate) fn new(start: &'s Start, events: &'s [Event]) -> Steps<'s> {
+        Steps {
+            start,
+            events,
+            answered: 0,
+        }
+    }
+
+    /// All of a script.
+    pub(crate) fn of(script: &'s Script) -> Steps<'s> {
+        Steps::new(&script.start, script.events.as_slice())
+    }
+
+    /// The start, and so many events of a script, or all if it has fewer.
+    pub(crate) fn first(script: &'s Script, count: usize) -> Steps<'s> {
+        let all = script.events.as_slice();
+        Steps::new(&script.start, all.get(..count).unwrap_or(all))
+    }
+
+    /// The broker over records without rows once these steps were taken. It fails with `BadStart` if there are rows.
+    pub(crate) fn take<S: Alter + Drop>(
+        &mut self,
+        alloc: Global,
+        records: SqlRecords<S>,
+    ) -> Result<Hub<SqlStore<S>>, Fault> {
+        let (store, root) = prepare(alloc, records, self.start.moment, &self.start.words)?;
+        if root.is_none() {
+            return Err(Fault::BadStart);
+        }
+        self.answered = 1;
+        let mut hub = Hub::new(alloc, store);
+        feed_all(&mut hub, self.events, &mut self.answered)?;
+        Ok(hub)
+    }
+}
+
+impl<'s> OverRecords for Steps<'s> {
+    type Came = ();
+
+    const CLOSES: bool = true;
+
+    fn run<S: Alter + Drop>(
+        &mut self,
+        alloc: Global,
+        records: SqlRecords<S>,
+    ) -> Result<(SqlRecords<S>, ()), Fault> {
+        let hub = self.take(alloc, records)?;
+        Ok((hub.into_store().into_records(), ()))
+    }
+}
+
+/// All rows, before any step.
+#[derive(Drop)]
+struct FirstRows;
+
+impl OverRecords for FirstRows {
+    type Came = Rows;
+
+    fn run<S: Alter + Drop>(
+        &mut self,
+        alloc: Global,
+        mut records: SqlRecords<S>,
+    ) -> Result<(SqlRecords<S>, Rows), Fault> {
+        let rows = rows_of(alloc, &mut records)?;
+        Ok((records, rows))
+    }
+}
+
+/// All rows after steps.
+#[derive(Drop)]
+struct RowsAfter<'s>(Steps<'s>);
+
+impl<'s> OverRecords for RowsAfter<'s> {
+    type Came = Rows;
+
+    fn run<S: Alter + Drop>(
+        &mut self,
+        alloc: Global,
+        records: SqlRecords<S>,
+    ) -> Result<(SqlRecords<S>, Rows), Fault> {
+        let hub = self.0.take(alloc, records)?;
+        FirstRows.run(alloc, hub.into_store().into_records())
+    }
+}
+
 /// The rows before the start, after it, and after each event, of a broker in a database in memory.
 pub(crate) fn all_states(alloc: Global, script: &Script) -> Result<Vec<Rows>, Fault> {
     let mut states = Vec::new(alloc);
-    states.push(rows_of(alloc, &mut SqlRecords::in_memory(alloc)?)?)?;
+    states.push(in_memory(alloc, &mut FirstRows)?)?;
     for count in 0..=script.events.len() {
-        let store = SqlStore::in_memory(alloc)?;
-        states.push(rows_after(alloc, store, script, &script.events[..count])?)?;
+        states.push(in_memory(alloc, &mut RowsAfter(Steps::first(script, count)))?)?;
     }
     Ok(states)
 }
 
-/// The rows of a store without rows after the start and these events.
-fn rows_after<S: Alter + Drop>(
-    alloc: Global,
-    store: SqlStore<S>,
-    script: &Script,
-    events: &[Event],
-) -> Result<Rows, Fault> {
-    let hub = hub_after(alloc, store, script, events)?;
-    rows_of(alloc, &mut hub.into_store().into_records())
+/// The reply to an event after steps.
+#[derive(Drop)]
+pub(crate) struct ReplyAfter<'s> {
+    pub(crate) steps: Steps<'s>,
+    pub(crate) event: &'s Event,
 }
 
-/// The reply to an event of a broker in a store without rows after the start and these events.
-pub(crate) fn reply_after<S: Alter + Drop>(
-    alloc: Global,
-    store: SqlStore<S>,
-    script: &Script,
-    events: &[Event],
-    event: &Event,
-) -> Result<Vec<u8>, Fault> {
-    let mut hub = hub_after(alloc, store, script, events)?;
-    feed(&mut hub, event)
-}
+impl<'s> OverRecords for ReplyAfter<'s> {
+    type Came = Vec<u8>;
 
-/// A broker in a store without rows after the start and these events.
-pub(crate) fn hub_after<S: Alter + Drop>(
-    alloc: Global,
-    mut store: SqlStore<S>,
-    script: &Script,
-    events: &[Event],
-) -> Result<Hub<SqlStore<S>>, Fault> {
-    store.start(script.start.moment, &script.start.words)?;
-    let mut hub = Hub::new(alloc, store);
-    feed_all(&mut hub, events, &mut 0)?;
-    Ok(hub)
+    fn run<S: Alter + Drop>(
+        &mut self,
+        alloc: Global,
+        records: SqlRecords<S>,
+    ) -> Result<(SqlRecords<S>, Vec<u8>), Fault> {
+        let mut hub = self.steps.take(alloc, records)?;
+        let reply = feed(&mut hub, self.event)?;
+        Ok((hub.into_store().into_records(), reply))
+    }
 }

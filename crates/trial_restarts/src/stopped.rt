@@ -3,13 +3,12 @@
 
 use crate::ending::End;
 use crate::found::{reply_found, rows_found};
-use crate::opening::Writes;
+use crate::opening::{Until, Writes, in_memory};
 use crate::reading::whole_script_of;
-use crate::running::{Run, all_states, reply_after};
+use crate::running::{ReplyAfter, Run, Steps, all_states};
 use crate::stops::Stop;
 use crate::tally::Tally;
-use crate::upgraded::{old_and_new, upgrade_until_stop};
-use broker_sql::SqlStore;
+use crate::upgraded::{OldAndNew, upgrade_until_stop};
 use broker_types::Fault;
 use endpoints::{Sink, Source};
 use hub::Event;
@@ -30,7 +29,7 @@ struct Asked {
 
 /// What is done over the files.
 #[derive(Clone, Copy, Debug, PartialEq, Eq)]
-enum Steps {
+enum Over {
     /// The start, each event, and the close.
     Script,
     /// The opening after all of these, once the keys have rows of format 1, and the close.
@@ -42,7 +41,7 @@ enum Steps {
 struct Trial {
     alloc: Global,
     writes: Writes,
-    steps: Steps,
+    over: Over,
     script: Script,
     /// The rows before the first step, and after each step but the close.
     states: Vec<Rows>,
@@ -57,7 +56,7 @@ pub(crate) fn run_stopped<R: Source>(
     reader: &mut R,
 ) -> Result<Tally, End> {
     let script = whole_script_of(alloc, reader)?;
-    let trial = Trial::new(alloc, writes, Steps::Script, script, None)?;
+    let trial = Trial::new(alloc, writes, Over::Script, script, None)?;
     trial.run()
 }
 
@@ -80,7 +79,7 @@ pub(crate) fn run_again<R: Source, W: Sink>(
     if written.is_err() || writer.push(asked.with.as_slice()).is_err() {
         return Err(End::Replayed(Exit::Faulted(6)));
     }
-    let trial = Trial::new(alloc, writes, Steps::Script, script, Some(asked))?;
+    let trial = Trial::new(alloc, writes, Over::Script, script, Some(asked))?;
     Ok(trial.run()?.last_step())
 }
 
@@ -104,18 +103,24 @@ pub(crate) fn run_upgraded<R: Source, W: Sink>(
     if writer.push(asked.with.as_slice()).is_err() {
         return Err(End::Replayed(Exit::Faulted(6)));
     }
-    let trial = Trial::new(alloc, writes, Steps::Upgrade, script, Some(asked))?;
+    let trial = Trial::new(alloc, writes, Over::Upgrade, script, Some(asked))?;
     trial.run()
 }
 
 impl Asked {
     /// The replies to an event after so many events of the script, and after all of it.
     fn of(alloc: Global, script: &Script, before: usize, event: Event) -> Result<Asked, Fault> {
-        let all = script.events.as_slice();
-        let before = all.get(..before).unwrap_or(all);
+        let mut without = ReplyAfter {
+            steps: Steps::first(script, before),
+            event: &event,
+        };
+        let mut with = ReplyAfter {
+            steps: Steps::of(script),
+            event: &event,
+        };
         Ok(Asked {
-            without: reply_after(alloc, SqlStore::in_memory(alloc)?, script, before, &event)?,
-            with: reply_after(alloc, SqlStore::in_memory(alloc)?, script, all, &event)?,
+            without: in_memory(alloc, &mut without)?,
+            with: in_memory(alloc, &mut with)?,
             event,
         })
     }
@@ -131,18 +136,18 @@ impl Trial {
     fn new(
         alloc: Global,
         writes: Writes,
-        steps: Steps,
+        over: Over,
         script: Script,
         asked: Option<Asked>,
     ) -> Result<Trial, Fault> {
-        let states = match steps {
-            Steps::Script => all_states(alloc, &script)?,
-            Steps::Upgrade => old_and_new(alloc, SqlStore::in_memory(alloc)?, &script)?,
+        let states = match over {
+            Over::Script => all_states(alloc, &script)?,
+            Over::Upgrade => in_memory(alloc, &mut OldAndNew(Steps::of(&script)))?,
         };
         Ok(Trial {
             alloc,
             writes,
-            steps,
+            over,
             script,
             states,
             asked,
@@ -151,7 +156,7 @@ impl Trial {
 
     /// Stops runs at each call on either file, and tells what was met.
     fn run(&self) -> Result<Tally, End> {
-        let whole = self.until_stop(Part::Log, u64::MAX)?;
+        let whole = self.until_stop(Until::NEVER)?;
         if whole.is_stopped {
             return Err(End::from(Fault::Storage));
         }
@@ -161,16 +166,10 @@ impl Trial {
         Ok(tally)
     }
 
-    fn until_stop(&self, part: Part, calls: u64) -> Result<Run, Fault> {
-        match self.steps {
-            Steps::Script => Run::until_stop(self.alloc, &self.script, self.writes, part, calls),
-            Steps::Upgrade => upgrade_until_stop(
-                self.alloc,
-                &self.script,
-                self.writes,
-                part,
-                calls,
-            ),
+    fn until_stop(&self, until: Until) -> Result<Run, Fault> {
+        match self.over {
+            Over::Script => Run::until_stop(self.alloc, &self.script, self.writes, until),
+            Over::Upgrade => upgrade_until_stop(self.alloc, &self.script, self.writes, until),
         }
     }
 
@@ -179,7 +178,7 @@ impl Trial {
     fn stop_at_each(&self, part: Part, tally: &mut Tally) -> Result<(), End> {
         let mut before = None;
         for calls in 0..u64::MAX {
-            let mut run = self.until_stop(part, calls)?;
+            let mut run = self.until_stop(Until { part, calls })?;
             if run.is_stopped {
                 tally.count_stop(part, before, run.progress);
             }
@@ -199,8 +198,8 @@ impl Trial {
 
     /// Whether the broker that is found after a run is to be looked at.
     fn is_asked(&self, run: &Run) -> bool {
-        match (&self.asked, self.steps) {
-            (Some(_), Steps::Script) => run.progress.answered >= self.script.events.len(),
+        match (&self.asked, self.over) {
+            (Some(_), Over::Script) => run.progress.answered >= self.script.events.len(),
             _ => true,
         }
     }

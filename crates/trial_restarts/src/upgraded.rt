@@ -1,16 +1,15 @@
 //! Files in which the keys have rows of format 1, and their opening, which rewrites these rows.
 
-use crate::opening::{Writes, close, open, open_records};
-use crate::running::{Run, hub_after, rows_of};
-use broker_sql::SqlStore;
+use crate::opening::{OverRecords, Until, Writes, over_files};
+use crate::running::{Run, Steps, rows_of};
+use broker_sql::prepare;
 use broker_types::{Bytes, Fault, TextBuf};
 use records::{Kind, RecordsTx, Row};
 use records_sql::SqlRecords;
 use replay::{Script, Start};
-use sqlite::{Alter, Files};
-use sqlite_disk::Disk;
+use sqlite::Alter;
 use std::alloc::Global;
-use trial_disk::{Pair, Part};
+use trial_disk::Pair;
 use trial_rows::Rows;
 
 /// How long a row of format 1 is: its first byte, and three numbers.
@@ -35,45 +34,54 @@ fn write_old<S: Alter>(alloc: Global, records: &mut SqlRecords<S>) -> Result<(),
     tx.commit()
 }
 
-/// The rows of a store without rows after the script, where keys have rows of format 1, and as they are.
-pub(crate) fn old_and_new<S: Alter + Drop>(
-    alloc: Global,
-    store: SqlStore<S>,
-    script: &Script,
-) -> Result<Vec<Rows>, Fault> {
-    let hub = hub_after(alloc, store, script, script.events.as_slice())?;
-    let mut records = hub.into_store().into_records();
-    let new = rows_of(alloc, &mut records)?;
-    write_old(alloc, &mut records)?;
-    let mut states = Vec::new(alloc);
-    states.push(rows_of(alloc, &mut records)?)?;
-    states.push(new)?;
-    Ok(states)
+/// The rows after steps, where keys have rows of format 1, and as they are.
+#[derive(Drop)]
+pub(crate) struct OldAndNew<'s>(pub(crate) Steps<'s>);
+
+impl<'s> OverRecords for OldAndNew<'s> {
+    type Came = Vec<Rows>;
+
+    fn run<S: Alter + Drop>(
+        &mut self,
+        alloc: Global,
+        records: SqlRecords<S>,
+    ) -> Result<(SqlRecords<S>, Vec<Rows>), Fault> {
+        let hub = self.0.take(alloc, records)?;
+        let mut records = hub.into_store().into_records();
+        let new = rows_of(alloc, &mut records)?;
+        write_old(alloc, &mut records)?;
+        let old = rows_of(alloc, &mut records)?;
+        Ok((records, Vec::from_array(alloc, [old, new])?))
+    }
+}
+
+/// The writing of rows of keys in format 1.
+#[derive(Drop)]
+struct WriteOld;
+
+impl OverRecords for WriteOld {
+    type Came = ();
+
+    const CLOSES: bool = true;
+
+    fn run<S: Alter + Drop>(
+        &mut self,
+        alloc: Global,
+        mut records: SqlRecords<S>,
+    ) -> Result<(SqlRecords<S>, ()), Fault> {
+        write_old(alloc, &mut records)?;
+        Ok((records, ()))
+    }
 }
 
 /// The files that a run of the script leaves, where keys have rows of format 1.
 fn old_files(alloc: Global, script: &Script, writes: Writes) -> Result<Pair, Fault> {
-    let Run {
-        mut files,
-        progress: _,
-        is_stopped,
-    } = Run::until_stop(alloc, script, writes, Part::Log, u64::MAX)?;
-    if is_stopped {
+    let mut run = Run::until_stop(alloc, script, writes, Until::NEVER)?;
+    if run.is_stopped {
         return Err(Fault::Storage);
     }
-    write_old_in(alloc, files.lend(), writes)?;
-    Ok(files)
-}
-
-/// Writes the rows of keys in files in format 1, and closes the files.
-fn write_old_in<D: Disk + Drop>(
-    alloc: Global,
-    files: Files<D>,
-    writes: Writes,
-) -> Result<(), Fault> {
-    let mut records = open_records(alloc, files, writes)?;
-    write_old(alloc, &mut records)?;
-    close(records)
+    over_files(alloc, &mut run.files, Until::NEVER, writes, &mut WriteOld)?;
+    Ok(run.files)
 }
 
 /// The opening of such files, one of which answers so many calls, and then fails each. It fails as the steps do, but
@@ -82,28 +90,40 @@ pub(crate) fn upgrade_until_stop(
     alloc: Global,
     script: &Script,
     writes: Writes,
-    part: Part,
-    calls: u64,
+    until: Until,
 ) -> Result<Run, Fault> {
     let mut files = old_files(alloc, script, writes)?;
-    let mut answered = 0;
-    let lent = files.lend_until(part, calls);
-    let ended = open_and_close(alloc, lent, writes, &script.start, &mut answered);
-    Run::over(files, answered, ended)
+    let mut opening = Opening {
+        start: &script.start,
+        answered: 0,
+    };
+    let ended = over_files(alloc, &mut files, until, writes, &mut opening);
+    Run::over(files, opening.answered, ended)
 }
 
-/// Opens the broker in files, and closes the files. It counts the steps that were answered.
-fn open_and_close<D: Disk + Drop>(
-    alloc: Global,
-    files: Files<D>,
-    writes: Writes,
-    start: &Start,
-    answered: &mut usize,
-) -> Result<(), Fault> {
-    let (store, is_new) = open(alloc, files, writes, start.moment, &start.words)?;
-    if is_new {
-        return Err(Fault::BadStart);
+/// The opening of the broker in files.
+#[derive(Drop)]
+struct Opening<'s> {
+    start: &'s Start,
+    /// How many steps were answered.
+    answered: usize,
+}
+
+impl<'s> OverRecords for Opening<'s> {
+    type Came = ();
+
+    const CLOSES: bool = true;
+
+    fn run<S: Alter + Drop>(
+        &mut self,
+        alloc: Global,
+        records: SqlRecords<S>,
+    ) -> Result<(SqlRecords<S>, ()), Fault> {
+        let (store, root) = prepare(alloc, records, self.start.moment, &self.start.words)?;
+        if root.is_some() {
+            return Err(Fault::BadStart);
+        }
+        self.answered = 1;
+        Ok((store.into_records(), ()))
     }
-    *answered = 1;
-    close(store.into_records())
 }

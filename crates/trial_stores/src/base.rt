@@ -7,11 +7,10 @@ ghost use Rattle.broker_model.specs.Listed.{IsListed};
 use broker::handle;
 use broker_rows::write_first_rows;
 use broker_types::{Answer, Ask, Fault, Moment, Words};
-use ram_disk::RamFile;
 use records::{ListRecords, RecordsTx};
 use records_sql::SqlRecords;
 use replay::Start;
-use sqlite::{Alter, FileStore};
+use sqlite::Alter;
 use std::alloc::Global;
 use trial_rows::{FailingTx, Rows};
 
@@ -136,11 +135,10 @@ pub(crate) struct SqlBase<S: Alter> {
     records: SqlRecords<S>,
 }
 
-impl SqlBase<FileStore<RamFile>> {
-    /// No rows, in memory. It fails with `Storage` if the database cannot be made.
-    pub(crate) fn new(alloc: Global) -> Result<SqlBase<FileStore<RamFile>>, Fault> {
-        let records = SqlRecords::in_memory(alloc)?;
-        Ok(SqlBase { alloc, records })
+impl<S: Alter> SqlBase<S> {
+    /// The rows of these records.
+    pub(crate) fn new(alloc: Global, records: SqlRecords<S>) -> SqlBase<S> {
+        SqlBase { alloc, records }
     }
 }
 

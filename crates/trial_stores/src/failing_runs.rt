@@ -1,15 +1,58 @@
 //! The lines of a replay over a store whose transactions fail.
 
-use crate::base::Base;
+use crate::base::{Base, SqlBase};
 use crate::ending::End;
 use crate::failing::{Failing, Tally, Way};
+use crate::memory::{OverSql, in_memory};
 use crate::reading::script_exit;
+use broker_sql::SqlStore;
 use broker_types::Fault;
 use endpoints::{Failed, Sink};
 use hub::{Event, Hub};
 use replay::{Exit, Script};
+use sqlite::Alter;
 use std::alloc::Global;
 use std::io::Eprint;
+
+/// Does what `run_failing` does, over a database in memory.
+pub(crate) fn run_failing_in_memory<R: Eprint, W: Sink>(
+    rt: &R,
+    alloc: Global,
+    way: Way,
+    script: &Script,
+    writer: &mut W,
+) -> End {
+    match in_memory(
+        alloc,
+        &mut FailingRun {
+            rt,
+            way,
+            script,
+            writer,
+        },
+    ) {
+        Ok(end) => end,
+        Err(fault) => End::from(fault),
+    }
+}
+
+/// A run of a script over rows, of which calls fail in a way.
+#[derive(Drop)]
+struct FailingRun<'t, R: Eprint, W: Sink> {
+    rt: &'t R,
+    way: Way,
+    script: &'t Script,
+    writer: &'t mut W,
+}
+
+impl<'t, R: Eprint, W: Sink> OverSql for FailingRun<'t, R, W> {
+    type Came = End;
+
+    fn run<S: Alter + Drop>(&mut self, alloc: Global, store: SqlStore<S>) -> Result<End, Fault> {
+        let base = SqlBase::new(alloc, store.into_records());
+        Ok(run_failing(self.rt, alloc, base, self.way, self.script, self.writer))
+    }
+}
 
 /// Starts a broker in rows, runs the script over them while calls fail in this way, and writes the replies. Each event
 /// that met a fault is told on standard error, and at the end how many calls failed.

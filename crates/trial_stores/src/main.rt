@@ -10,17 +10,18 @@ mod base;
 mod ending;
 mod failing;
 mod failing_runs;
+mod memory;
 mod numbers;
 mod reading;
 mod retrying;
 mod running;
 mod task;
 
-use base::{ListBase, SqlBase};
+use base::ListBase;
 use ending::End;
 use endpoints::{Reading, Sink, Source, Writing};
 use failing::Way;
-use failing_runs::run_failing;
+use failing_runs::{run_failing, run_failing_in_memory};
 use numbers::write_numbers;
 use reading::script_of;
 use replay::{Exit, replay};
@@ -96,10 +97,7 @@ fn fail<P: Eprint, R: Source, W: Sink>(
     };
     match over {
         Over::List => run_failing(rt, alloc, ListBase::new(alloc), way, &script, writer),
-        Over::Sql => match SqlBase::new(alloc) {
-            Ok(base) => run_failing(rt, alloc, base, way, &script, writer),
-            Err(fault) => End::from(fault),
-        },
+        Over::Sql => run_failing_in_memory(rt, alloc, way, &script, writer),
     }
 }
 

@@ -1,5 +1,6 @@
 //! The lines of a replay, where a request that met a fault is sent once more.
 
+use crate::memory::{OverSql, in_memory};
 use crate::reading::script_exit;
 use broker::{ListStore, Store};
 use broker_sql::SqlStore;
@@ -46,7 +47,7 @@ impl<S: Alter + Drop> Looked for SqlStore<S> {
         script: &Script,
         count: usize,
     ) -> Result<(Hub<SqlStore<S>>, Option<bool>), Fault> {
-        let wanted = rows_after(alloc, SqlStore::in_memory(alloc)?, script, count)?;
+        let wanted = in_memory(alloc, &mut RowsAfter { script, count })?;
         let (store, rows) = rows_in(alloc, hub.into_store())?;
         Ok((Hub::new(alloc, store), Some(rows.are(&wanted))))
     }
@@ -68,20 +69,28 @@ fn rows_of<S: Alter>(alloc: Global, records: &mut SqlRecords<S>) -> Result<Rows,
     Rows::of(alloc, &mut tx)
 }
 
-/// The rows of a store without rows after the start and the first so many events.
-fn rows_after<S: Alter + Drop>(
-    alloc: Global,
-    mut store: SqlStore<S>,
-    script: &Script,
+/// The rows after the start and the first so many events of a script.
+#[derive(Drop)]
+struct RowsAfter<'s> {
+    script: &'s Script,
     count: usize,
-) -> Result<Rows, Fault> {
-    store.start(script.start.moment, &script.start.words)?;
-    let mut hub = Hub::new(alloc, store);
-    for event in script.events.iter().take(count) {
-        feed(&mut hub, event, 0)?;
+}
+
+impl<'s> OverSql for RowsAfter<'s> {
+    type Came = Rows;
+
+    fn run<S: Alter + Drop>(
+        &mut self,
+        alloc: Global,
+        mut store: SqlStore<S>,
+    ) -> Result<Rows, Fault> {
+        store.start(self.script.start.moment, &self.script.start.words)?;
+        let mut hub = Hub::new(alloc, store);
+        for event in self.script.events.iter().take(self.count) {
+            feed(&mut hub, event, 0)?;
+        }
+        rows_of(alloc, &mut hub.into_store().into_records())
     }
-    let (_, rows) = rows_in(alloc, hub.into_store())?;
-    Ok(rows)
 }
 
 /// Starts a broker in a list of rows, and runs the script over it.
@@ -105,23 +114,31 @@ pub(crate) fn retry_over_sql<R: Eprint, W: Sink>(
     script: &Script,
     writer: &mut W,
 ) -> Exit {
-    match SqlStore::in_memory(alloc) {
-        Ok(store) => start_retrying(rt, alloc, store, script, writer),
+    match in_memory(alloc, &mut Retrying { rt, script, writer }) {
+        Ok(exit) => exit,
         Err(fault) => Exit::from(fault),
     }
 }
 
-/// Starts a broker in a store without rows, and runs the script over it.
-fn start_retrying<R: Eprint, S: Alter + Drop, W: Sink>(
-    rt: &R,
-    alloc: Global,
-    mut store: SqlStore<S>,
-    script: &Script,
-    writer: &mut W,
-) -> Exit {
-    match store.start(script.start.moment, &script.start.words) {
-        Ok(_) => run_retrying(rt, alloc, Hub::new(alloc, store), script, writer),
-        Err(fault) => Exit::from(fault),
+/// The start of a broker, and a run of the script over it.
+#[derive(Drop)]
+struct Retrying<'t, R: Eprint, W: Sink> {
+    rt: &'t R,
+    script: &'t Script,
+    writer: &'t mut W,
+}
+
+impl<'t, R: Eprint, W: Sink> OverSql for Retrying<'t, R, W> {
+    type Came = Exit;
+
+    fn run<S: Alter + Drop>(
+        &mut self,
+        alloc: Global,
+        mut store: SqlStore<S>,
+    ) -> Result<Exit, Fault> {
+        store.start(self.script.start.moment, &self.script.start.words)?;
+        let hub = Hub::new(alloc, store);
+        Ok(run_retrying(self.rt, alloc, hub, self.script, self.writer))
     }
 }
 
