@@ -80,8 +80,8 @@ impl Until {
     };
 }
 
-/// Does this over the records of two files; files that are empty are given a table without rows. It fails with `Storage`
-/// if a file fails or has no such rows, with `Memory` if memory runs out, and as what is done.
+/// Does this over the records of two files; files that are empty are given a table without rows. It fails with
+/// `Storage` if a file fails or has no such rows, with `Memory` if memory runs out, and as what is done.
 pub(crate) fn over_files<T: OverRecords>(
     alloc: Global,
     files: &mut Pair,

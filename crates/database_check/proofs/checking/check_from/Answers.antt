@@ -26,5 +26,5 @@ returns-in-Ok-clause-same g c =
     let opened = kept_records over_files c.in-Ok.records in
     of_opened (λ checked. kept_records over_files checked.1) opened _ c.check_opened.ensures.mismatches
     (λ before checked same is.
-        subst (λ (rows : Rows). IsKeptIn (image_at g.S.Start) rows) (sym (same is)) (c.in-Ok.ensures.found before))
+    subst (λ (rows : Rows). IsKeptIn (image_at g.S.Start) rows) (sym (same is)) (c.in-Ok.ensures.found before))
     c.check_opened.ensures.same
