@@ -46,11 +46,12 @@ class Function:
     is_in_cycle: bool
 
     def paths(self, homes):
-        """The names that the prover may have for the function, but for the crate: none where a trait declares it. A
-        method stands in the module of its type, which `homes` has by type, or that of a trait where it is written."""
-        if self.block and not self.block.startswith("impl"):
-            return []
+        """The names that the prover may have for the function, but for the crate: none where a trait declares it, or
+        for a type without a name, as `()`. A method stands in the module of its type, which `homes` has by type, or
+        that of a trait where it is written."""
         owner = block_name(self.block)
+        if self.block and not (owner and self.block.startswith("impl")):
+            return []
         here = module_of(self.file)
         modules = {here, homes.get(owner_of(self.block), here)}
         return ["::".join(it for it in (module, owner, self.name) if it) for module in sorted(modules)]
@@ -86,6 +87,8 @@ def block_name(head):
     generic, rest = generics_of(head.removeprefix("impl"))
     trait, _, type_given = re.sub(r"\bwhere\b.*", "", rest).rpartition(" for ")
     of_type, of_trait = WORD.findall(type_given), [it for it in WORD.findall(trait) if it not in generic]
+    if not of_type:
+        return ""
     if all(it in generic for it in of_type[1:]):
         of_type = of_type[:1]
     return "+".join(of_type) + "".join(of_trait)
