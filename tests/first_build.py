@@ -72,7 +72,7 @@ class Checkout:
         self.environment.pop("RT_JOBS", None)
 
     def start(self, *words, environment=None):
-        return subprocess.Popen([sys.executable, self.top / "bin/run-program", *words], stdin=subprocess.DEVNULL,
+        return subprocess.Popen([self.top / "bin/run-program", *words], stdin=subprocess.DEVNULL,
                                 stdout=subprocess.PIPE, stderr=subprocess.PIPE, text=True,
                                 env=environment or self.environment, preexec_fn=heed_interrupts)
 
@@ -162,8 +162,8 @@ def lacks_the_toolchain(checkout):
     """Without the toolchain one line says what to do."""
     tools = Path(checkout.environment["PATH"].partition(":")[0])
     (tools / "rt").unlink()
-    (tools / "python3").symlink_to(sys.executable)
-    (tools / "env").symlink_to(shutil.which("env"))
+    for name in ("cut", "dirname", "readlink", "tac"):
+        (tools / name).symlink_to(shutil.which(name))
     status, output, told = checkout.run("tiny", environment={**checkout.environment, "PATH": str(tools)})
     yield "no toolchain", status == 1 and output == "" and len(told.splitlines()) == 1 and "bin/package" in told
 

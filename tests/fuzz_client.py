@@ -3,7 +3,7 @@
 
     python3 tests/fuzz_client.py [--replies N] [--minutes M] [--seed S] [PROGRAM]
 
-PROGRAM is the built client; without it `bin/client` builds the one of the repository. Real replies are changed: bits,
+PROGRAM is the built client; without it the one of the repository is built. Real replies are changed: bits,
 bytes, slices, line ends, status lines, fields, lengths of heads and bodies, and the place where they end. They come in
 pieces. What is right is judged by `Rule`, which was written from that page and from the grammar of `httparse` (RFC
 9112, sections 4 and 5), apart from the client. Each reason for a bad reply has to be met, and each way to be read. As a
@@ -378,7 +378,7 @@ def main():
     parser.add_argument("program", nargs="?")
     arguments = parser.parse_args()
     if arguments.program is None:
-        subprocess.run([TOP / "bin/client", "--help"], stdout=subprocess.DEVNULL)
+        subprocess.run([TOP / "bin/run-program", "--build", "client"])
     program = os.path.abspath(arguments.program or TOP / "crates/client/out/client")
     until = time.monotonic() + 60 * arguments.minutes
     found, rounds = Found(), 0

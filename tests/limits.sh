@@ -5,8 +5,8 @@
 set -u
 cd "$(dirname "$0")/.."
 
-# The first use builds the program.
-if [ -z "${BROKERD:-}" ] && ! bin/brokerd --help > /dev/null; then
+# The program of the release, or one that is built, is put in its place.
+if [ -z "${BROKERD:-}" ] && ! bin/run-program --build brokerd; then
     echo "0 passed, 1 failed"
     exit 1
 fi

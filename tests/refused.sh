@@ -24,13 +24,17 @@ count() {
     fi
 }
 
-# The first use builds the programs.
-for script in "${BROKERD:-bin/brokerd}" "${CLIENT:-bin/client}" "${TRIAL_STORES:-tests/trial_stores}"; do
-    if ! "$script" --help > /dev/null; then
+# Builds a program if need be, unless another was named: build NAME OTHER
+build() {
+    if [ -z "$2" ] && ! bin/run-program --build "$1"; then
         echo "0 passed, 1 failed"
         exit 1
     fi
-done
+}
+
+build brokerd "${BROKERD:-}"
+build client "${CLIENT:-}"
+build trial_stores "${TRIAL_STORES:-}"
 brokerd=${BROKERD:-crates/brokerd/out/brokerd}
 client=${CLIENT:-crates/client/out/client}
 trial_stores=${TRIAL_STORES:-crates/trial_stores/out/trial_stores}

@@ -281,8 +281,8 @@ with sqlite3.connect('$file') as database:
     run "a folder that is not there" 1 'fault 2' serve --listen 127.0.0.1:0 --db "$found/none/broker.db"
 }
 
-# The first use builds the program.
-if [ -z "${BROKERD:-}" ] && ! bin/brokerd --help > /dev/null; then
+# The program of the release, or one that is built, is put in its place.
+if [ -z "${BROKERD:-}" ] && ! bin/run-program --build brokerd; then
     fail "brokerd" "it cannot be built"
     finish
 fi
