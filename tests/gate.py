@@ -5,6 +5,7 @@ it runs, counts and ends.
 The last line is 'N passed, M failed'.
 """
 
+import hashlib
 import os
 import re
 import shutil
@@ -33,7 +34,8 @@ fi
 for crate in $(sed -n 's/^\\([a-z_]*\\):.*/\\1/p' crates.txt); do
     [ -e "$TOLD/$crate" ] && . "$TOLD/$crate"
     mkdir -p "crates/$crate/out"
-    cp /bin/true "crates/$crate/out/$crate"
+    cp "${built:-/bin/true}" "crates/$crate/out/$crate"
+    built=
     echo "rt: $crate proved"
 done
 echo '5 passed, 0 failed'
@@ -93,6 +95,18 @@ class Checkout:
     def tell(self, name, text):
         """Has a crate or a script do something else."""
         (self.told / name).write_text(text + "\n")
+
+    def release(self):
+        """Makes a release of what `rt` builds."""
+        (self.top / "release").mkdir()
+        built_from = "version 1.2.3\ndate 2026-11-30\ncommit 0\nkit rattle-kit-13f logic 0\n"
+        for name in PROGRAMS[:2]:
+            file = self.top / f"release/{name}"
+            subprocess.run(["strip", "--strip-all", "-o", file, "/bin/true"], check=True)
+            words = [self.top / "bin/run-program", "--digest", name]
+            digest = subprocess.run(words, capture_output=True, text=True, check=True).stdout.strip()
+            built_from += f"{name} {digest} {hashlib.sha256(file.read_bytes()).hexdigest()}\n"
+        (self.top / "release/BUILT_FROM").write_text(built_from)
 
     def start(self, *words):
         return subprocess.Popen([sys.executable, self.top / "bin/test", *words], stdin=subprocess.DEVNULL, text=True,
@@ -221,7 +235,7 @@ def runs_programs(checkout):
     """Only the scripts, over programs that are there."""
     status, said, last = checkout.run("--programs")
     yield "no program", (status, last) == (1, "0 passed, 1 failed")
-    yield "what builds them", all(f"bin/run-program --build {it} " in said for it in PROGRAMS)
+    yield "what builds them", all(f"bin/run-program --build {it} " in said for it in PROGRAMS[:2])
     for name in PROGRAMS:
         checkout.write(checkout.top / f"crates/{name}/out/{name}", "#!/bin/sh\n")
     status, said, last = checkout.run("--programs")
@@ -229,13 +243,46 @@ def runs_programs(checkout):
     yield "what it says", "nothing was proved" in said and not checkout.ran("rt") and not checkout.ran("edits")
     later = time.time() + 5
     os.utime(checkout.top / "crates/low/src/lib.rt", (later, later))
-    yield "older programs", "brokerd is older than its sources" in checkout.run("--programs")[1]
+    yield "older programs", "brokerd: it is older than its sources, and " in checkout.run("--programs")[1]
     yield "no other option", checkout.run("--programs", "--anew")[0] == 2
+
+
+def runs_the_release(checkout):
+    """Without a built program the scripts run with those of the release, but for those that call others."""
+    checkout.release()
+    (checkout.room / "tools/rt").unlink()
+    status, said, last = checkout.run("--programs")
+    yield "the last line", (status, last) == (0, f"{2 * (len(checkout.scripts) - 3)} passed, 0 failed, 3 skipped")
+    skipped = ("tests/stores.sh", "tests/restarts.sh", "tests/refused.sh")
+    yield "what is not run", all(f"bin/test: {it} is not run: trial_" in said for it in skipped)
+    yield "what is run in part", "tests/fuzz.py crates/brokerd/out/brokerd replay" in checkout.ran("scripts")
+    made, released = (checkout.top / it for it in ("crates/client/out/client", "release/client"))
+    yield "the programs", made.read_bytes() == released.read_bytes()
+    made.unlink()
+    released.write_bytes(b"other")
+    status, said, last = checkout.run("--programs")
+    yield "another program", (status, last) == (1, "0 passed, 1 failed") and "what release/BUILT_FROM says" in said
+
+
+def compares(checkout):
+    """What was built has to be what was released, where that is of the same code."""
+    checkout.release()
+    status, said, last = checkout.run()
+    yield "the last line", (status, last) == (0, f"{checkout.passes(others=-2)}, 0 failed")
+    yield "the same bytes", all(f" bytes as release/{it}\n" in said for it in PROGRAMS[:2])
+    checkout.tell("brokerd", "built=/bin/false")
+    status, said, last = checkout.run()
+    yield "other bytes", (status, last) == (1, f"{checkout.passes(others=-1)}, 1 failed")
+    yield "what differs", "of release/brokerd, though its sources are those of release 1.2.3" in said
+    (checkout.top / "crates/low/src/lib.rt").write_text("// changed\n#[test]\nfn a\n")
+    status, said, last = checkout.run()
+    yield "other sources", status == 0 and said.count("its sources are not those of release 1.2.3") == 2
 
 
 def main():
     passed, failed = 0, 0
-    for case in (passes, fails, fails_to_prove, fails_tests, skips, stops, runs_programs):
+    cases = (passes, fails, fails_to_prove, fails_tests, skips, stops, runs_programs, runs_the_release, compares)
+    for case in cases:
         with tempfile.TemporaryDirectory() as room:
             for name, well in case(Checkout(Path(room))):
                 passed, failed = passed + bool(well), failed + (not well)
