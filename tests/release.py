@@ -51,9 +51,10 @@ int main(int count, char **words) {
 """
 
 
-def heed_interrupts():
-    """A shell lets what it runs in the background ignore SIGINT."""
-    signal.signal(signal.SIGINT, signal.SIG_DFL)
+def heed_signals():
+    """A shell lets what it runs in the background ignore SIGINT, and `nohup` lets it ignore SIGHUP."""
+    for number in (signal.SIGINT, signal.SIGHUP):
+        signal.signal(number, signal.SIG_DFL)
 
 
 class Checkout:
@@ -123,7 +124,7 @@ class Checkout:
 
     def start(self, *words, path=("coreutils",), **how):
         return subprocess.Popen([self.top / words[0], *words[1:]], stdout=subprocess.PIPE, text=True,
-                                env=self.environment(path), preexec_fn=heed_interrupts, **how)
+                                env=self.environment(path), preexec_fn=heed_signals, **how)
 
     def run(self, *words, path=("coreutils",)):
         """The status of a script, what it printed, and what it told on standard error."""

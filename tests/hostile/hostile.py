@@ -22,18 +22,18 @@ Child = collections.namedtuple("Child", "number written output error status")
 
 
 def compiler():
-    """The command of the toolchain's C compiler."""
+    """What calls a C compiler: that of the toolchain, or $CC, or cc, without a toolchain."""
     rt = shutil.which("rt")
     if rt is None:
-        raise SystemExit("hostile: the Rattle toolchain is missing: there is no command 'rt'")
-    return Path(rt).resolve().parent.parent / "toolchain/bin/clang"
+        return [os.environ.get("CC", "cc")]
+    return [Path(rt).resolve().parent.parent / "toolchain/bin/clang", "-fuse-ld=lld"]
 
 
 def build(folder):
     """The library, built in a folder."""
     library = Path(folder) / "hostile.so"
-    subprocess.run([compiler(), "-O2", "-Wall", "-Wextra", "-Werror", "-ffreestanding", "-fno-builtin", "-fPIC",
-                    "-shared", "-nostdlib", "-fuse-ld=lld", "-o", library, HERE / "hostile.c"], check=True)
+    subprocess.run([*compiler(), "-O2", "-Wall", "-Wextra", "-Werror", "-ffreestanding", "-fno-builtin", "-fPIC",
+                    "-shared", "-nostdlib", "-o", library, HERE / "hostile.c"], check=True)
     return library
 
 
