@@ -1,4 +1,4 @@
-use Rattle.std.proofs.Common.{◌≡◌, ◌<◌, ◌-◌, false, [], List, length, slice_get, Some, refl, sym, ap, ◌∙◌, rules}
+use Rattle.std.proofs.Common.{◌≡◌, ◌<◌, ◌-◌, false, [], List, length, slice_get, Some, refl, sym, ap, arith, ◌∙◌, rules}
 use Rattle.std.specs.Prelude.{take, string_bytes}
 use Rattle.broker_types.specs.Text.{Text}
 use Rattle.records.specs.CallLaws.{honest_before, goes_further}
@@ -36,7 +36,7 @@ returns-then-len-clause-set g c honest =
     ∙ (λ i. take 16 (rows_from (c.loop.invariant.same early i) c.args.kind prefix (c.as_str.ensures.value i))) in
     let now : c.push_children.new.names.items ≡ push_each names (found_in prefix (keys_of page)) =
     c.in_ok-push_children.ensures ∙ ap (λ es. push_each names (found_in prefix (keys_of es))) c.deref.ensures.value in
-    let short : length page < 16 = search rules in
+    let short : length page < 16 = omega (arith, c.if-len.true, c.len.ensures) in
     now ∙ sym (walk_ends rows c.args.kind prefix from 16 names page is short) ∙ c.loop.invariant.walk early
     ∙ listed_children rows c.args.kind prefix prefix
 
@@ -65,7 +65,7 @@ loop-preserved g c =
           let now : c.push_children.new.names.items ≡ push_each names (found_in prefix (keys_of page)) =
           c.in_ok-push_children.ensures
           ∙ ap (λ es. push_each names (found_in prefix (keys_of es))) c.deref.ensures.value in
-          let some : 0 < length page = search rules in
+          let some : 0 < length page = omega (arith, c.if-len.false, c.len.ensures) in
           let on = walk_goes_on rows c.args.kind prefix from 16 names page is some in
           let last : slice_get c.deref-in-loop.result.now (length c.deref-in-loop.result.now - 1) ≡ Some on.0 =
           ap (λ (ts : List Text). slice_get ts (length ts - 1)) (c.deref-in-loop.ensures.value ∙ now) ∙ on.1 in
