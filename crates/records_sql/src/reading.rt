@@ -111,13 +111,8 @@ pub(crate) fn entries_under(
         list.items ≡ filter (λ e. starts_with nat_eq e.0.1 prefix.now) (map (entry_in kind) rows.now)) }
     ensures faults { IfErr result IsMemoryOrStorage }
 {
-    let mut list = Vec::new(alloc);
-    for row in rows {
-        let entry = entry_of(kind, row)?;
-        if begins_with(entry.key.as_str(), prefix) {
-            list.push(entry)?;
-        }
-    }
+    let mut list = entries_of(alloc, kind, rows)?;
+    list.retain(|entry| begins_with(entry.key.as_str(), prefix));
     Ok(list)
 }
 

@@ -7,6 +7,7 @@ ghost use Rattle.sqlite_value.specs.Value.{owned};
 ghost use Rattle.records_sql.specs.Bounds.{bound_value};
 ghost use Rattle.sqlite.specs.State.{HasCleanDisk, Executes, Survives, CommitsBy, CommitsShowing, Shown, FailsToQuery};
 ghost use Rattle.sqlite.specs.Held.{state};
+ghost use Rattle.sqlite.specs.Values.{bound};
 ghost use Rattle.records.specs.Kind.{kind_number};
 ghost use Rattle.records_sql.specs.Texts.{get_text, put_text, remove_text, under_text, owner_text, due_text};
 ghost use Rattle.records_sql.specs.Texts.{from_text, upto_text};
@@ -19,12 +20,19 @@ ghost use Rattle.records_sql.specs.Texts.{from_params, upto_params};
 use broker_types::Moment;
 use records::{Kind, Row};
 use sqlite::types::{ToSql, ValueRef};
-use sqlite::{Alter, Connection, Error, Row as SqlRow, params};
+use sqlite::{Alter, Connection, Error, Row as SqlRow};
 
 fn number(kind: Kind) -> u32
     ensures { result ≡ kind_number kind }
 {
     u32::from(kind.number())
+}
+
+/// The parameters that name a row: its kind, and a key.
+fn key_params<'k>(kind: Kind, key: &'k str) -> [ValueRef<'k>; 2]
+    ensures { bound result ≡ key_params (kind, key.entry.now) }
+{
+    [ToSql::to_sql(number(kind)), ToSql::to_sql(key)]
 }
 
 pub(crate) fn get<S: Alter>(
@@ -43,8 +51,25 @@ pub(crate) fn get<S: Alter>(
 {
     conn.query_all(
         "SELECT owner, due, body FROM broker_rows WHERE kind = ?1 AND key = ?2",
-        params![number(kind), key],
+        &key_params(kind, key),
     )
+}
+
+/// The parameters of a row that is put.
+fn put_params<'r>(kind: Kind, key: &'r str, row: &'r Row) -> [ValueRef<'r>; 5]
+    ensures { bound result ≡ put_params (kind, key.entry.now) row.entry.now }
+{
+    let due: Option<i64> = match row.due {
+        None => None,
+        Some(due) => Some(due.seconds() as i64),
+    };
+    [
+        ToSql::to_sql(number(kind)),
+        ToSql::to_sql(key),
+        ToSql::to_sql(row.owner.as_str()),
+        ToSql::to_sql(due),
+        ToSql::to_sql(row.body.as_slice()),
+    ]
 }
 
 /// Puts a row by an upsert (SQLite's "UPSERT"), which touches the row at this kind and key alone. `INSERT OR REPLACE`
@@ -61,19 +86,9 @@ pub(crate) fn put<S: Alter>(
     ensures survives { Survives (state S.Store conn.old) (state S.Store conn.new) (CommitsBy put_text (put_params
         (kind, key.now) row.now) (state S.Store conn.old)) }
 {
-    let due: Option<i64> = match row.due {
-        None => None,
-        Some(due) => Some(due.seconds() as i64),
-    };
     conn.execute(
         "INSERT INTO broker_rows (kind, key, owner, due, body) VALUES (?1, ?2, ?3, ?4, ?5) ON CONFLICT (kind, key) DO UPDATE SET owner = excluded.owner, due = excluded.due, body = excluded.body",
-        params![
-            number(kind),
-            key,
-            row.owner.as_str(),
-            due,
-            row.body.as_slice()
-        ],
+        &put_params(kind, key, row),
     )
 }
 
@@ -89,7 +104,7 @@ pub(crate) fn remove<S: Alter>(
 {
     conn.execute(
         "DELETE FROM broker_rows WHERE kind = ?1 AND key = ?2",
-        params![number(kind), key],
+        &key_params(kind, key),
     )
 }
 
@@ -109,8 +124,15 @@ pub(crate) fn by_owner<S: Alter>(
 {
     conn.query_all(
         "SELECT key, owner, due, body FROM broker_rows WHERE kind = ?1 AND owner = ?2 ORDER BY key",
-        params![number(kind), owner],
+        &key_params(kind, owner),
     )
+}
+
+/// The parameter that says by when rows are due.
+fn due_params<'m>(moment: Moment) -> [ValueRef<'m>; 1]
+    ensures { bound result ≡ due_params moment }
+{
+    [ToSql::to_sql(moment.seconds() as i64)]
 }
 
 /// Rows that are due. The lower bound, which each due row meets, gives the index its first row; else a search begins
@@ -127,10 +149,9 @@ pub(crate) fn due_until<S: Alter>(
     ensures survives { Survives (state S.Store conn.old) (state S.Store conn.new) (CommitsShowing due_text
         (due_params moment) (state S.Store conn.old)) }
 {
-    let seconds = moment.seconds() as i64;
     conn.query_all(
         "SELECT kind, key, owner, due, body FROM broker_rows WHERE due >= 0 AND due <= ?1 ORDER BY due, kind, key",
-        params![seconds],
+        &due_params(moment),
     )
 }
 
@@ -160,6 +181,17 @@ fn bound_value<'b>(bound: Option<&'b [u8]>) -> ValueRef<'b>
     }
 }
 
+/// The parameters that name rows of a kind: a key, and a bound.
+fn under_params<'k>(kind: Kind, from: &'k str, above: Option<&'k [u8]>) -> [ValueRef<'k>; 3]
+    ensures { bound result ≡ under_params (kind, from.entry.now) (option_copied above.entry) }
+{
+    [
+        ToSql::to_sql(number(kind)),
+        ToSql::to_sql(from),
+        bound_value(above),
+    ]
+}
+
 /// Rows of a kind with keys from the prefix up to the bound. Not all of them begin with the prefix.
 pub(crate) fn under<S: Alter>(
     conn: &mut Connection<S>,
@@ -178,12 +210,25 @@ pub(crate) fn under<S: Alter>(
 {
     conn.query_all(
         "SELECT key, owner, due, body FROM broker_rows WHERE kind = ?1 AND key >= ?2 AND key < ?3 ORDER BY key",
-        &[
-            ToSql::to_sql(number(kind)),
-            ToSql::to_sql(prefix),
-            bound_value(bound),
-        ],
+        &under_params(kind, prefix, bound),
     )
+}
+
+/// The same, and at most how many of them.
+fn from_params<'k>(
+    kind: Kind,
+    from: &'k str,
+    above: Option<&'k [u8]>,
+    count: u32,
+) -> [ValueRef<'k>; 4]
+    ensures { bound result ≡ from_params (kind, from.entry.now) (option_copied above.entry) count }
+{
+    [
+        ToSql::to_sql(number(kind)),
+        ToSql::to_sql(from),
+        bound_value(above),
+        ToSql::to_sql(count),
+    ]
 }
 
 /// The first rows of a kind with keys from one key up to the bound, at most so many.
@@ -205,13 +250,19 @@ pub(crate) fn under_from<S: Alter>(
 {
     conn.query_all(
         "SELECT key, owner, due, body FROM broker_rows WHERE kind = ?1 AND key >= ?2 AND key < ?3 ORDER BY key LIMIT ?4",
-        &[
-            ToSql::to_sql(number(kind)),
-            ToSql::to_sql(from),
-            bound_value(bound),
-            ToSql::to_sql(count),
-        ],
+        &from_params(kind, from, bound, count),
     )
+}
+
+/// The parameters that name rows of a kind: a key, and the last.
+fn upto_params<'k>(kind: Kind, from: &'k str, last: &'k str) -> [ValueRef<'k>; 3]
+    ensures { bound result ≡ upto_params (kind, from.entry.now) last.entry.now }
+{
+    [
+        ToSql::to_sql(number(kind)),
+        ToSql::to_sql(from),
+        ToSql::to_sql(last),
+    ]
 }
 
 /// Rows of a kind with keys from the prefix up to the last key. Not all of them begin with the prefix.
@@ -232,7 +283,7 @@ pub(crate) fn under_upto<S: Alter>(
 {
     conn.query_all(
         "SELECT key, owner, due, body FROM broker_rows WHERE kind = ?1 AND key >= ?2 AND key <= ?3 ORDER BY key",
-        params![number(kind), prefix, last],
+        &upto_params(kind, prefix, last),
     )
 }
 
