@@ -11,6 +11,8 @@ ghost use Rattle.broker_model.specs.Traits.{names_needed};
 ghost use Rattle.broker_rows.specs.Operating.{ArePrinted, IsWellFormed};
 ghost use Rattle.broker.specs.Meant.{meant, IsInRange, IsWellPlaced};
 
+mod acting;
+
 use broker_model::{
     CubbyholeCommand, IssuedCommand, LeaseCommand, MountCommand, Needs, PolicyCommand,
     SecretCommand, TokenCommand, WrappingCommand,
@@ -26,7 +28,6 @@ use system_operations::{
 use token_operations::read_token_command;
 
 /// The commands, part by part.
-#[derive(Drop)]
 pub(crate) enum Command<'r> {
     /// At a path of the caller's cubbyhole.
     OnCubbyhole(&'r str, CubbyholeCommand),
@@ -44,6 +45,22 @@ pub(crate) enum Command<'r> {
     OnIssued(Place<'r>, IssuedCommand),
     /// On responses that wait.
     OnWrapping(WrappingCommand),
+}
+
+/// It is no derived one, which the prover would follow through each part of each command at each way out.
+impl Drop for Command<'_> {
+    fn drop(self) {
+        match self {
+            Command::OnCubbyhole(_path, _command) => {}
+            Command::OnToken(_command) => {}
+            Command::OnSecret(_place, _command) => {}
+            Command::OnPolicy(_name, _command) => {}
+            Command::OnMount(_name, _command) => {}
+            Command::OnLease(_prefix, _command) => {}
+            Command::OnIssued(_place, _command) => {}
+            Command::OnWrapping(_command) => {}
+        }
+    }
 }
 
 /// Reads what an ask of this route means. What its body or its version brings is refused with 400, if it is wrong. The

@@ -8,31 +8,24 @@ ghost use Rattle.broker_types.specs.RequestError.{Ends, EndsErr};
 ghost use Rattle.broker_types.specs.Text.{Text};
 ghost use Rattle.broker_types.specs.Used.{are_new};
 ghost use Rattle.records.specs.Calls.{OnAnswer, OnRefused, IsRequestCall, IsRequestReading};
-ghost use Rattle.records.specs.Ranges.{IsTokenInRange};
 ghost use Rattle.records.specs.Transaction.{IsHonest};
 ghost use Rattle.broker_model.specs.Act as model;
-ghost use Rattle.broker_model.specs.Serving as serving;
 ghost use Rattle.broker_model.specs.Serving.{acted, needed_by, operated};
 ghost use Rattle.broker_model.specs.Step.{traits};
-ghost use Rattle.broker_rows.specs.Caller.{AreItsRules, IsCallerAt};
 ghost use Rattle.broker_rows.specs.Ending.{KeepsUses};
-ghost use Rattle.broker_rows.specs.Operating.{ActsAs, ArePrinted, Performs, PerformsBy};
+ghost use Rattle.broker_rows.specs.Operating.{ActsAs, ArePrinted};
 ghost use Rattle.broker_rows.specs.Representing.{Represents};
-ghost use Rattle.broker.specs.Answering.{IsReadableBy, IsReadableCommand, IsReadableIfNew, IsReadableOpenly};
+ghost use Rattle.broker.specs.Answering.{IsReadableBy, IsReadableIfNew};
 ghost use Rattle.broker.specs.Askers.{BeginsFor, IsAskerAt, IsAskerInRange, who_of};
 ghost use Rattle.broker.specs.Meant.{meant, IsInRange, IsWellPlaced};
 ghost use Rattle.broker.specs.Stages.{IsServed};
 
-use crate::answers::PERMISSION_DENIED;
 use crate::command::{Command, has_wrap_ttl, is_wrapped, needed_identifiers};
 use crate::order::wrap::{Wrapping, wrap};
 use broker_model::operations_are_proper;
 use broker_rows::{Answered, Asker, Context, are_new};
 use broker_types::{Ask, Reason, Refusal, RequestError, TextBuf};
 use records::RecordsTx;
-use secret_operations::{act_on_cubbyholes, act_on_issued, act_on_secrets};
-use system_operations::{act_on_leases, act_on_mounts, act_on_policies, act_on_wrappings};
-use token_operations::act_on_tokens;
 
 /// Does what a command of an ask means, if the identifiers that it needs are new, and if it has the wrap TTL that it
 /// must have. The identifiers are printed here, once.
@@ -166,72 +159,7 @@ fn act<T: RecordsTx>(
     ensures call { IsRequestCall (T.seen tx.old) (T.seen tx.new) result IsNotBadStart }
 {
     match asker {
-        None => act_openly(tx, context, own, command),
-        Some(asker) => act_for(tx, context, asker, own, command),
-    }
-}
-
-/// Carries out a command of an open ask. Without a caller all others are denied.
-fn act_openly<T: RecordsTx>(
-    tx: &mut T,
-    context: &Context<'_>,
-    own: &[TextBuf],
-    command: Command<'_>,
-) -> Result<Answered, RequestError>
-    requires own { ArePrinted own.now ((traits (meant command)).own (names_of context.now.words)) }
-    ensures told { Performs None context.now
-        ((traits (meant command.entry)).own (names_of context.now.words)) (T.seen tx.old) (T.seen tx.new)
-        (λ b. model.act_openly b (names_of context.now.words) (meant command.entry)) result }
-    ensures readable { IsHonest (T.seen tx.new)
-        → OnAnswer result (IsReadableOpenly (T.seen tx.old).rows (meant command.entry)) }
-    ensures uses { IsHonest (T.seen tx.new)
-        → OnAnswer result (KeepsUses (T.seen tx.old).rows (T.seen tx.new).rows) }
-    ensures call { IsRequestCall (T.seen tx.old) (T.seen tx.new) result IsNotBadStart }
-{
-    match command {
-        Command::OnWrapping(command) => act_on_wrappings(tx, context, own, command),
-        _ => Err(RequestError::Refused(PERMISSION_DENIED)),
-    }
-}
-
-/// Carries out a command of the caller who asks.
-fn act_for<T: RecordsTx>(
-    tx: &mut T,
-    context: &Context<'_>,
-    asker: &Asker<'_>,
-    own: &[TextBuf],
-    command: Command<'_>,
-) -> Result<Answered, RequestError>
-    requires in_range { IsInRange (meant command) }
-    requires known { IsTokenInRange asker.now.caller.known }
-    requires own { ArePrinted own.now ((traits (meant command)).own (names_of context.now.words)) }
-    ensures told { IsWellPlaced (meant command.entry) → AreItsRules (T.seen tx.old).rows asker.now
-        → PerformsBy asker.now.caller context.now
-        ((traits (meant command.entry)).own (names_of context.now.words)) (T.seen tx.old) (T.seen tx.new)
-        (λ b. model.act_for b asker.now.caller.token (names_of context.now.words) (meant command.entry)) result }
-
-    // Whatever the rows are: it is neither answered nor refused if a row that the command reads is damaged. That of the
-    // caller was read before.
-    ensures readable { IsHonest (T.seen tx.new) → IsCallerAt (T.seen tx.old).rows asker.now.caller
-        → OnAnswer result (IsReadableCommand (T.seen tx.old).rows asker.now.caller.token (meant command.entry)) }
-
-    // And no token has lost its last use.
-    ensures uses { IsHonest (T.seen tx.new) → IsCallerAt (T.seen tx.old).rows asker.now.caller
-        → OnAnswer result (KeepsUses (T.seen tx.old).rows (T.seen tx.new).rows) }
-    ensures call { IsRequestCall (T.seen tx.old) (T.seen tx.new) result IsNotBadStart }
-{
-    match command {
-        Command::OnCubbyhole(path, command) => {
-            act_on_cubbyholes(tx, context, asker.caller.token, path, command)
-        }
-        Command::OnToken(command) => act_on_tokens(tx, context, asker, own, command),
-        Command::OnSecret(place, command) => act_on_secrets(tx, context, &place, command),
-        Command::OnPolicy(name, command) => act_on_policies(tx, context, name, command),
-        Command::OnMount(name, command) => act_on_mounts(tx, context, name, command),
-        Command::OnLease(prefix, command) => act_on_leases(tx, context, prefix, command),
-        Command::OnIssued(place, command) => {
-            act_on_issued(tx, context, &asker.caller, own, &place, command)
-        }
-        Command::OnWrapping(command) => act_on_wrappings(tx, context, own, command),
+        None => command.act_openly(tx, context, own),
+        Some(asker) => command.act_for(tx, context, asker, own),
     }
 }
