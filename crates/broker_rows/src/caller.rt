@@ -6,12 +6,21 @@ use records::TokenRecord;
 use std::marker::Model;
 
 /// The caller of a request.
-#[derive(Drop)]
 pub struct Caller<'r> {
     /// Its token.
     pub token: &'r str,
     /// What the row of its token says, once a use is spent.
     pub known: TokenRecord,
+}
+
+/// It is no derived one, which the prover would follow through the record at each way out.
+impl Drop for Caller<'_> {
+    fn drop(self) {
+        let Caller {
+            token: _token,
+            known: _known,
+        } = self;
+    }
 }
 
 impl<'r> Model for Caller<'r> {
@@ -35,12 +44,20 @@ impl Caller<'_> {
 }
 
 /// Who asks: a caller that may, and what its policies say.
-#[derive(Drop)]
 pub struct Asker<'r> {
     /// The caller.
     pub caller: Caller<'r>,
     /// What its policies say, as it was read when it was permitted to ask.
     pub rules: Rules,
+}
+
+impl Drop for Asker<'_> {
+    fn drop(self) {
+        let Asker {
+            caller: _caller,
+            rules: _rules,
+        } = self;
+    }
 }
 
 impl<'r> Model for Asker<'r> {
