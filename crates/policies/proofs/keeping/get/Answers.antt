@@ -1,7 +1,7 @@
 use Rattle.std.proofs.Common.{sym, ◌∙◌, Option}
 use Rattle.broker_types.specs.Map.{get}
 use Rattle.broker_types.specs.Text.{Text}
-use Rattle.records.specs.CallLaws.{not_damaged, each_fault}
+use Rattle.records.specs.CallLaws.{not_damaged, fault_then, each_fault}
 use Rattle.records.specs.Table.{table}
 use Rattle.policies.proofs.PolicyTold.{text_told, short_texts, each_ok}
 use Rattle.policies.proofs.keeping.get.Goals as goal
@@ -19,3 +19,13 @@ returns-clause-wants g c honest is_object policies sound are =
     each_fault (not_damaged
     (λ damaged. damaged honest (get policies name) (short_texts is_object policies sound name) (are name)))
     c.kept_text.result c.kept_text.ensures.call.faults
+
+pub returns-clause-call : goal.returns-clause-call
+returns-clause-call g c =
+    let call = c.kept_text.ensures.call in
+    record {
+      same = call.same;
+      faults = each_fault (fault_then (λ damaged honest text short at.
+          damaged honest text short (at (sym c.is_root.ensures ∙ c.if-is_root.false)))) c.kept_text.result call.faults;
+      goes_on = call.goes_on;
+    }
