@@ -198,3 +198,12 @@ returns-clause-told g c are honest b starts fresh =
     (starts.begins.here caller refl) policies_are in
     rw (create_made b caller names making asked x.0 x.1 c.in_ok-check.field-0 may)
     (c.put.ensures.told (Some caller) token honest b starts.begins new entry can refl refl)
+
+pub returns-clause-rows : goal.returns-clause-rows
+returns-clause-rows g c = c.put.ensures.rows
+
+pub returns-clause-refused : goal.returns-clause-refused
+returns-clause-refused g c = c.put.ensures.refused
+
+pub returns-clause-call : goal.returns-clause-call
+returns-clause-call g c = c.put.ensures.call

@@ -1,10 +1,10 @@
-use Rattle.std.proofs.Common.{◌≡◌, Ok, sym, ◌∙◌, ap, subst}
+use Rattle.std.proofs.Common.{◌≡◌, false, Ok, sym, ◌∙◌, ap, subst}
 use Rattle.broker_types.specs.Identifier.{id}
 use Rattle.broker_types.specs.Evolves.{IsNew}
 use Rattle.broker_types.specs.Names.{names_of}
 use Rattle.broker_types.specs.Places.{token_identifier}
 use Rattle.broker_types.specs.TokenText.{token_text}
-use Rattle.records.specs.CallLaws.{honest_before}
+use Rattle.records.specs.CallLaws.{goes_further, honest_before}
 use Rattle.records.specs.Parts.{Tells, of_tokens}
 use Rattle.records.specs.RowForms.{used_row}
 use Rattle.records.specs.Table.{Table, table_of, with_row}
@@ -83,3 +83,14 @@ returns-clause-uses g c honest unspent =
     ∙ ap (λ (rows : Table). with_row rows kind.Used i used_row) (c.in_ok-use_up.ensures.rows once) in
     made_keep (seen c.args.tx.now).rows (seen c.create.new.tx).rows (seen c.use_up-2.new.tx).rows c.as_str-2.result.now
     i c.as_str-3.result.now c.args.token c.requires unspent (c.in_ok-create.ensures.rows made) marks
+
+pub returns-clause-call : goal.returns-clause-call
+returns-clause-call g c =
+    let seen = g.T.RecordsTx.seen in
+    record {
+      faults = tt;
+      goes_on = goes_further (seen c.args.tx.now) (seen c.use_up.new.tx) (seen c.use_up-2.new.tx) false
+          (goes_further (seen c.args.tx.now) (seen c.create.new.tx) (seen c.use_up.new.tx) false
+          c.in_ok-create.ensures.call.goes_on c.in_ok-use_up.ensures.call.goes_on)
+          c.in_ok-use_up-2.ensures.call.goes_on;
+    }
