@@ -1,5 +1,6 @@
 use Rattle.std.proofs.Common.{Some, refl, sym, ap, ◌∙◌}
 use Rattle.std.specs.Prelude.{option_and_then}
+use Rattle.std.proofs.lemmas.Result.{err_from_is_err_and}
 use Rattle.broker_types.specs.Map.{get}
 use Rattle.broker_types.specs.OptionLaws.{mapped, mapped_none}
 use Rattle.records.specs.declared.holder.Holder.TheVariants as holder
@@ -65,3 +66,16 @@ returns-in-WrappingToken-clause-found g c honest =
       row ∙ ap Some (c.in_ok-holder.ensures.exact.1 ∙ ap (accessor_row c.in-Some.kept.owner) c.in-WrappingToken.is),
       refl,
     )
+
+pub returns-in_err-holder-clause-call : goal.returns-in_err-holder-clause-call
+returns-in_err-holder-clause-call g c =
+    let p = err_from_is_err_and c.from_residual-in_err-holder.result c.from_residual-in_err-holder.ensures.1 in
+    rw (p.1, p.2, c.in_err-holder.ensures.damaged) (record {
+      same = λ _. tt;
+      faults = λ honest named at.
+          let x = mapped named_row named c.in-Some.kept
+          (sym at ∙ sym (c.in_ok-kept.ensures.found honest) ∙ c.in-Some.is) in
+          let again = c.in_err-holder.ensures.again x.0.1 tt
+          (x.2 ∙ ap (λ t. accessor_row t x.0.1) (ap (λ (r : Row). r.owner) (sym x.2))) in cc;
+      goes_on = c.in_ok-kept.ensures.call.goes_on;
+    })

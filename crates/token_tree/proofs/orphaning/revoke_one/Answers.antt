@@ -1,9 +1,9 @@
-use Rattle.std.proofs.Common.{rules, ◌≡◌, [], ◌∷◌, ap, sym, ◌∙◌, refl, subst}
+use Rattle.std.proofs.Common.{◌≡◌, [], ◌∷◌, ap, sym, ◌∙◌, refl, subst}
 use Rattle.std.proofs.lemmas.Option.{none-some}
 use Rattle.std.proofs.lemmas.Result.{err_from_is_err_and}
 use Rattle.records.specs.Parts.{of_tokens, KeepsOthers}
 use Rattle.records.specs.Table.{table_of}
-use Rattle.records.specs.CallLaws.{honest_before, fault_then, not_damaged}
+use Rattle.records.specs.CallLaws.{honest_before, goes_further, fault_then, not_damaged}
 use Rattle.records.specs.ValueLaws.{none_of}
 use Rattle.records.specs.declared.kind.Kind.TheVariants as kind
 use Rattle.records.specs.Transaction.{IsHonest, rows_under, rows_owned}
@@ -11,6 +11,7 @@ use Rattle.token_tree.specs.Orphaned.{without_parent}
 use Rattle.token_tree.specs.TokenRows.{IsDamagedToken}
 use Rattle.token_tree.specs.Removed.{without_token, IsTokenRow}
 use Rattle.token_tree.proofs.Ends.{readable}
+use Rattle.token_tree.proofs.Faults.{read_fault}
 use Rattle.token_tree.proofs.Found.{lone_without, lone_readable, readable_lone, owned_orphans}
 use Rattle.token_tree.proofs.Orphans.{revoked_one, revoked_one_each, orphaned_unknown, orphaned_none, is_token}
 use Rattle.token_tree.proofs.Orphans.{parents_keep}
@@ -140,7 +141,9 @@ returns-clause-call g c =
           parents_keep t (rows_under rows kind.Token []) (seen c.remove_token.new.tx).rows k q h
           ∙ ap (λ m. table_of m k q) is_mid ∙ others_stay (t ∷ []) (rows_under rows kind.Token []) rows k q h);
       faults = tt;
-      goes_on = search rules;
+      goes_on = goes_further _ _ _ _ (goes_further _ _ _ _
+          (goes_further _ _ _ _ c.in_ok-row.ensures.call.goes_on c.in_ok-children.ensures.call.goes_on)
+          c.in_ok-remove_token.ensures.call.goes_on) c.in_ok-orphan_children.ensures.call.goes_on;
     }
 
 pub returns-clause-rows : goal.returns-clause-rows
@@ -193,8 +196,51 @@ returns-in_err-remove_token-clause-call g c =
     damage_alone rows t c.in-Some.row is (rows_under rows kind.Token []) (t ∷ []) refl refl (λ all. damage
     (subst (λ key. IsTokenRow ((kind.Token, key), c.in-Some.row)) (sym c.in_ok-copied.ensures)
     (readable_lone rows t c.in-Some.row is all))) in
-    record {
-      others = search rules;
-      faults = rw (p.1, p.2) (fault_then worse _ c.in_err-remove_token.ensures.call.faults);
-      goes_on = search rules;
-    }
+    rw (p.1, p.2) (record {
+      others = λ _. tt;
+      faults = fault_then worse _ c.in_err-remove_token.ensures.call.faults;
+      goes_on = goes_further _ _ _ _
+          (goes_further _ _ _ _ c.in_ok-row.ensures.call.goes_on c.in_ok-children.ensures.call.goes_on)
+          c.in_err-remove_token.ensures.call.goes_on;
+    })
+
+pub returns-in_err-children-clause-call : goal.returns-in_err-children-clause-call
+returns-in_err-children-clause-call g c =
+    let p = err_from_is_err_and c.from_residual-in_err-children.result c.from_residual-in_err-children.ensures.1 in
+    rw (p.1, p.2) (record {
+      others = λ _. tt;
+      faults = read_fault _ _ c.in_err-children.ensures.call.faults;
+      goes_on = goes_further _ _ _ _ c.in_ok-row.ensures.call.goes_on c.in_err-children.ensures.call.goes_on;
+    })
+
+pub returns-in_err-copied-clause-call : goal.returns-in_err-copied-clause-call
+returns-in_err-copied-clause-call g c =
+    let p = err_from_is_err_and c.from_residual-in_err-copied.result c.from_residual-in_err-copied.ensures.1 in
+    rw (p.1, p.2) (record {
+      others = λ _. tt;
+      faults = tt;
+      goes_on = goes_further _ _ _ _ c.in_ok-row.ensures.call.goes_on c.in_ok-children.ensures.call.goes_on;
+    })
+
+pub returns-in_err-orphan_children-clause-call : goal.returns-in_err-orphan_children-clause-call
+returns-in_err-orphan_children-clause-call g c =
+    let p = err_from_is_err_and c.from_residual-in_err-orphan_children.result
+    c.from_residual-in_err-orphan_children.ensures.1 in
+    let read = goes_further _ _ _ _ c.in_ok-row.ensures.call.goes_on c.in_ok-children.ensures.call.goes_on in
+    let removed = goes_further _ _ _ _ read c.in_ok-remove_token.ensures.call.goes_on in
+    rw (p.1, p.2) (record {
+      others = λ _. tt;
+      faults = read_fault _ _ c.in_err-orphan_children.ensures.call.faults;
+      goes_on = goes_further _ _ _ _ removed c.in_err-orphan_children.ensures.call.goes_on;
+    })
+
+pub returns-in_err-vec-clause-call : goal.returns-in_err-vec-clause-call
+returns-in_err-vec-clause-call g c =
+    let p = err_from_is_err_and c.from_residual-in_err-vec.result c.from_residual-in_err-vec.ensures.1 in
+    let read = goes_further _ _ _ _ c.in_ok-row.ensures.call.goes_on c.in_ok-children.ensures.call.goes_on in
+    let removed = goes_further _ _ _ _ read c.in_ok-remove_token.ensures.call.goes_on in
+    rw (p.1, p.2) (record {
+      others = λ _. tt;
+      faults = tt;
+      goes_on = goes_further _ _ _ _ removed c.in_ok-orphan_children.ensures.call.goes_on;
+    })

@@ -1,4 +1,4 @@
-use Rattle.std.proofs.Common.{Some, sym, ap, ◌∙◌, subst}
+use Rattle.std.proofs.Common.{◌≡◌, Some, sym, ap, ◌∙◌, subst, inl, inr}
 use Rattle.std.specs.Prelude.{option_map}
 use Rattle.std.proofs.lemmas.Result.{err_from_is_err_and}
 use Rattle.broker_types.specs.Fault.{IsMemoryOrStorage}
@@ -9,6 +9,8 @@ use Rattle.broker_types.specs.OptionLaws.{mapped, mapped_none}
 use Rattle.records.specs.ValueLaws.{none_of}
 use Rattle.records.specs.RangeLaws.{token_in_range}
 use Rattle.token_tree.proofs.Singles.{token_row_at}
+use Rattle.broker_types.specs.declared.fault.Fault.TheVariants as fault
+use Rattle.records.specs.RowForms.{entry_row}
 use Rattle.token_tree.proofs.single.find.Goals as goal
 
 pub returns-in_default-clause-told : goal.returns-in_default-clause-told
@@ -36,3 +38,21 @@ returns-clause-told g c honest forms b stands =
     ap Some (c.in_ok-read_token.ensures.again (token_entry x.0)
     (token_in_range forms b.tokens stands.sound c.args.token.now x.0 x.1) x.2)
     ∙ sym (ap (option_map token_entry) x.1)
+
+pub returns-in_err-read_token-clause-call : goal.returns-in_err-read_token-clause-call
+returns-in_err-read_token-clause-call g c =
+    let p = err_from_is_err_and c.from_residual-in_err-read_token.result c.from_residual-in_err-read_token.ensures.1 in
+    elim c.in_err-read_token.ensures.faults [
+      | inl memory ↦
+          rw (p.1, p.2, memory) (record { same = λ _. tt; faults = tt; goes_on = c.in_ok-kept.ensures.call.goes_on })
+      | inr damaged ↦
+          rw (p.1, p.2, damaged) (record {
+            same = λ _. tt;
+            faults = λ honest entry good at.
+                let x = mapped entry_row entry c.in-Some.kept
+                (sym at ∙ sym (c.in_ok-kept.ensures.found honest) ∙ c.in-Some.is) in
+                let memory : c.in_err-read_token.field-0.0 ≡ fault.Memory =
+                c.in_err-read_token.ensures.again x.0 (good x.0 x.1) x.2 in cc;
+            goes_on = c.in_ok-kept.ensures.call.goes_on;
+          })
+    ]
