@@ -27,13 +27,15 @@ no_version = (0, record { created = 0; deleted = None; secret = None })
 abbrev key_and_row : RowKey × Row → Text × Row
 key_and_row e = (e.0.1, e.1)
 
+pub as_long : (name : Text) (es : List (RowKey × Row)) (vs : List (ℕ × Version)) → AreEntriesOf name es vs
+    → length es ≡ length vs
+as_long name es vs are =
+    sym (length-map es key_and_row) ∙ ap length are.entries ∙ length-map vs (version_entry name)
+
 module _ (name : Text) (es : List (RowKey × Row)) (vs : List (ℕ × Version)) (are : AreEntriesOf name es vs) (i : ℕ)
     (within : i < length es) where
   pub as_far : i < length vs
-  as_far =
-      let long : length es ≡ length vs = sym (length-map es key_and_row) ∙ ap length are.entries
-      ∙ length-map vs (version_entry name) in
-      omega (arith, long, within)
+  as_far = omega (arith, as_long name es vs are, within)
 
   pub numbered_at : IsNumbered (get_or vs i no_version)
   numbered_at = are.each i no_version as_far

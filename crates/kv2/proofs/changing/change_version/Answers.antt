@@ -1,7 +1,10 @@
-use Rattle.std.proofs.Common.{◌≡◌, ◌<◌, ◌^◌, ◌∷◌, [], None, ap, sym, subst, ◌∙◌, arith}
+use Rattle.std.proofs.Common.{◌≡◌, ◌<◌, ◌^◌, ◌∷◌, [], None, ap, sym, subst, ◌∙◌, is_ok, arith}
+use Rattle.std.proofs.lemmas.Bool.{false≢true}
 use Rattle.std.proofs.lemmas.Result.{on_ok_weaker}
 use Rattle.records.specs.declared.kind.Kind.TheVariants as kind
 use Rattle.records.specs.CallLaws.{honest_before}
+use Rattle.records.specs.Ranges.{IsVersionInRange}
+use Rattle.records.specs.RowForms.{version_row}
 use Rattle.records.specs.Rows.{version_key}
 use Rattle.records.specs.Table.{Table, table_of, with_row}
 use Rattle.records.specs.TableLaws.{table_of-insert}
@@ -10,6 +13,7 @@ use Rattle.records.specs.ValueLaws.{none_of, ok_inj}
 use Rattle.kv2.specs.Changes.{change_of}
 use Rattle.kv2.specs.SecretRows.{AreChanged}
 use Rattle.kv2.proofs.ChangeLemmas.{stays_in_range}
+use Rattle.kv2.proofs.Found.{some_is}
 use Rattle.kv2.proofs.Changed.{missing_changed, row_changed}
 use Rattle.kv2.proofs.changing.change_version.Goals as goal
 
@@ -45,3 +49,12 @@ returns-clause-rows g c honest timely =
     ∙ (λ i. with_row (table_of (c.in_ok-kept.ensures.call.same first i)) kind.KvVersion ((c.as_str-2.ensures.value
     ∙ c.in_ok-key.ensures) i) (c.in_ok-row.ensures i)))) one)
     (c.put.ensures.rows honest)
+
+pub returns-in_err-read_version-clause-faults : goal.returns-in_err-read_version-clause-faults
+returns-in_err-read_version-clause-faults g c honest v has =
+    let old = table_of (g.T.RecordsTx.seen c.args.tx.now).rows in
+    let at = ap (old kind.KvVersion) (sym (c.as_str.ensures.value ∙ c.in_ok-key.ensures))
+    ∙ sym (c.in_ok-kept.ensures.found honest) ∙ c.in-Some.is in
+    let x = some_is IsVersionInRange version_row (old kind.KvVersion (version_key c.args.name.now c.args.number))
+    c.in-Some.kept at v has in
+    absurd (false≢true (ap is_ok (c.in_err-read_version.ensures.again x.0 x.2 x.3)))

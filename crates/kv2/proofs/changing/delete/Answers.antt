@@ -1,4 +1,4 @@
-use Rattle.std.proofs.Common.{sym, ◌∷◌, [], subst, ◌∙◌, option_map, rules}
+use Rattle.std.proofs.Common.{ℕ, sym, ◌∷◌, [], subst, ◌∙◌, option_map}
 use Rattle.std.proofs.lemmas.Result.{on_ok_weaker}
 use Rattle.broker_types.specs.Map.{get}
 use Rattle.broker_types.specs.Secret.{Key}
@@ -6,7 +6,8 @@ use Rattle.broker_types.specs.Text.{Text}
 use Rattle.records.specs.KeyEntry.{key_entry}
 use Rattle.records.specs.Parts.{of_secrets, Tells}
 use Rattle.records.specs.Table.{table, table_of}
-use Rattle.kv2.specs.SecretRows.{HasKey, AreReadableVersions, KeepsOtherNames, current_of}
+use Rattle.kv2.specs.SecretRows.{HasKey, IsReadableKey, AreReadableVersions, AreChanged, KeepsOtherNames}
+use Rattle.kv2.specs.SecretRows.{current_of}
 use Rattle.kv2.specs.Secrets.{secret_name, with_key}
 use Rattle.kv2.specs.Versions.{with_changed, soft_deleted}
 use Rattle.kv2.proofs.ChangeCalls.{its_key, its_versions, current_told}
@@ -23,7 +24,7 @@ returns-clause-call g c =
           (c.as_str.ensures.value ∙ c.in_ok-name.ensures) keeps)
           (c.change_current.ensures.others honest c.seconds-now.ensures.within);
       faults = c.change_current.ensures.call.faults;
-      goes_on = search rules;
+      goes_on = c.change_current.ensures.call.goes_on;
     }
 
 pub returns-clause-told : goal.returns-clause-told
@@ -72,3 +73,22 @@ returns-clause-faults g c honest k has versions =
     let is = c.as_str.ensures.value ∙ c.in_ok-name.ensures in
     c.change_current.ensures.faults honest k (subst (λ (q : Text). HasKey old q k) (sym is) has)
     (subst (λ (q : Text). AreReadableVersions old q (current_of k)) (sym is) versions)
+
+pub returns-clause-rows : goal.returns-clause-rows
+returns-clause-rows g c honest k has =
+    let seen = g.T.RecordsTx.seen in
+    let old = table_of (seen c.args.tx.now).rows in
+    let new = table_of (seen c.change_current.new.tx).rows in
+    let is = c.as_str.ensures.value ∙ c.in_ok-name.ensures in
+    on_ok_weaker c.change_current.result
+    (subst (λ (p : ℕ × Text). AreChanged (soft_deleted p.0) (current_of k) p.1 old new)
+    (λ i. (c.seconds-now.ensures.value i, is i)))
+    (c.change_current.ensures.rows honest c.seconds-now.ensures.within k
+    (subst (λ (q : Text). HasKey old q k) (sym is) has))
+
+pub returns-clause-readable : goal.returns-clause-readable
+returns-clause-readable g c honest =
+    let old = table_of (g.T.RecordsTx.seen c.args.tx.now).rows in
+    on_ok_weaker c.change_current.result
+    (subst (λ (q : Text). IsReadableKey old q) (c.as_str.ensures.value ∙ c.in_ok-name.ensures))
+    (c.change_current.ensures.readable honest)

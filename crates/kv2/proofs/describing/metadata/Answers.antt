@@ -8,7 +8,7 @@ use Rattle.records.specs.Table.{table_of}
 use Rattle.records.specs.Transaction.{IsHonest, Rows}
 use Rattle.records.specs.ValueLaws.{none_of}
 use Rattle.kv2.specs.InRange.{IsMetadataInRange}
-use Rattle.kv2.specs.SecretRows.{HasKey, AreVersions}
+use Rattle.kv2.specs.SecretRows.{HasKey, AreVersions, IsMetadataOf}
 use Rattle.kv2.specs.Secrets.{secret_name}
 use Rattle.kv2.proofs.DescribeCalls.{key_told, describe_none, describe_some}
 use Rattle.kv2.proofs.Digits.{KeyLaws}
@@ -108,3 +108,33 @@ returns-clause-call g c =
           (seen c.find_versions.new.tx) false c.in_ok-key.ensures.call.goes_on
           c.in_ok-versions.ensures.call.goes_on;
     }
+
+pub returns-in_err-versions-clause-call : goal.returns-in_err-versions-clause-call
+returns-in_err-versions-clause-call g c =
+    let p = err_from_is_err_and c.from_residual-in_err-versions.result c.from_residual-in_err-versions.ensures.1 in
+    rw (p.1, p.2) (record {
+      same = λ _. tt;
+      faults = c.in_err-versions.ensures.call.faults;
+      goes_on = goes_further _ _ _ _ c.in_ok-key.ensures.call.goes_on c.in_err-versions.ensures.call.goes_on;
+    })
+
+pub returns-in_err-key-clause-faults : goal.returns-in_err-key-clause-faults
+returns-in_err-key-clause-faults g c honest o is =
+    let rows = (g.T.RecordsTx.seen c.args.tx.now).rows in
+    let p = err_from_is_err_and c.from_residual-in_err-key.result c.from_residual-in_err-key.ensures.1 in
+    rw (p.1, p.2) (c.in_err-key.ensures.faults honest is.0
+    (subst (λ q. HasKey (table_of rows) q is.0) (sym (c.as_str.ensures.value ∙ c.in_ok-name.ensures)) is.1))
+
+pub returns-in_err-versions-clause-faults : goal.returns-in_err-versions-clause-faults
+returns-in_err-versions-clause-faults g c honest o is =
+    let seen = g.T.RecordsTx.seen in
+    let rows = (seen c.args.tx.now).rows in
+    let first : IsHonest (seen c.find_key.new.tx) = honest_before _ _ _ c.find_versions.ensures.call.goes_on honest in
+    let p = err_from_is_err_and c.from_residual-in_err-versions.result c.from_residual-in_err-versions.ensures.1 in
+    let found = c.in_ok-key.ensures.found first is.0
+    (subst (λ q. HasKey (table_of rows) q is.0) (sym (c.as_str.ensures.value ∙ c.in_ok-name.ensures)) is.1) in
+    let m = subst (λ k. IsMetadataOf rows (secret_name c.args.mount.now c.args.path.now) k o)
+    (sym found ∙ c.in-Some.is) is.2 in
+    rw (p.1, p.2) (c.in_err-versions.ensures.told honest m.0
+    (subst (λ (z : Rows). AreVersions z c.as_str-2.result.now m.0) (sym (c.in_ok-key.ensures.call.same first))
+    (subst (λ q. AreVersions rows q m.0) (sym (c.as_str-2.ensures.value ∙ c.in_ok-name.ensures)) m.1)))

@@ -1,9 +1,9 @@
-use Rattle.std.proofs.Common.{◌≡◌, ◌++◌, ◌∷◌, [], ap, sym, ◌∙◌, get_or, Err}
-use Rattle.std.proofs.lemmas.List.{map_more, map_push}
+use Rattle.std.proofs.Common.{◌≡◌, ◌++◌, ◌∷◌, [], ap, sym, subst, ◌∙◌, get_or, map, take, Err, arith}
+use Rattle.std.proofs.lemmas.List.{map_more, map_push, take_all}
 use Rattle.std.proofs.lemmas.Result.{err_from_is_err_and}
 use Rattle.kv2.specs.Metadata.{version_metadata}
-use Rattle.kv2.specs.SecretRows.{versions_prefix}
-use Rattle.kv2.proofs.EntryLists.{no_version, as_far, numbered_at, entry_at, one_more}
+use Rattle.kv2.specs.SecretRows.{versions_prefix, AreEntriesOf}
+use Rattle.kv2.proofs.EntryLists.{no_version, as_long, as_far, numbered_at, entry_at, one_more}
 use Rattle.kv2.proofs.describing.versions_in.Goals as goal
 
 pub returns-in_err-version-clause-told : goal.returns-in_err-version-clause-told
@@ -41,3 +41,17 @@ loop-entry-preserved c =
             ∙ sym (map_push version_metadata old.exact.0 one.0),
       );
     }
+
+pub returns-clause-told : goal.returns-clause-told
+returns-clause-told c vs are =
+    c.loop-entry.invariant.told vs are ∙ ap (map version_metadata) (take_all c.loop-entry.entry-index vs
+    (omega (arith, as_long c.args.name.now c.args.listed.now vs are, c.loop-entry-test.false)))
+
+pub returns-clause-exact : goal.returns-clause-exact
+returns-clause-exact c =
+    let name = c.args.name.now in
+    let listed = c.args.listed.now in
+    let old = c.loop-entry.invariant.exact in
+    let all : take c.loop-entry.entry-index listed ≡ listed =
+    take_all c.loop-entry.entry-index listed (omega (arith, c.loop-entry-test.false)) in
+    (old.0, subst (λ es. AreEntriesOf name es old.0) all old.1, old.2)

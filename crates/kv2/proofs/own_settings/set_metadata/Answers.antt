@@ -3,7 +3,7 @@ use Rattle.std.proofs.lemmas.Result.{on_ok_weaker, err_from_is_err_and}
 use Rattle.broker_types.specs.Map.{get}
 use Rattle.broker_types.specs.Text.{Text}
 use Rattle.records.specs.declared.kind.Kind.TheVariants as kind
-use Rattle.records.specs.CallLaws.{honest_before}
+use Rattle.records.specs.CallLaws.{honest_before, goes_further}
 use Rattle.records.specs.KeyEntry.{key_entry}
 use Rattle.records.specs.Parts.{of_secrets, Tells}
 use Rattle.records.specs.RowForms.{key_entry_row}
@@ -77,7 +77,7 @@ returns-clause-call g c =
           (described_keeps name old c.args.now c.args.given found))
           (returns-clause-rows g c honest found has);
       faults = search rules;
-      goes_on = search rules;
+      goes_on = goes_further _ _ _ _ c.in_ok-found.ensures.call.goes_on c.put.ensures.call.goes_on;
     }
 
 pub returns-in_err-found-clause-wants : goal.returns-in_err-found-clause-wants
@@ -89,3 +89,10 @@ returns-in_err-found-clause-wants g c honest forms b sound told =
     rw (p.1, p.2) (c.in_err-found.ensures.faults honest k
     (subst (λ (q : Text). HasKey old q k) (sym (c.as_str.ensures.value ∙ c.in_ok-name.ensures))
     (has_key forms b sound old told name)))
+
+pub returns-in_err-found-clause-faults : goal.returns-in_err-found-clause-faults
+returns-in_err-found-clause-faults g c honest k has =
+    let old = table_of (g.T.RecordsTx.seen c.args.tx.now).rows in
+    let p = err_from_is_err_and c.from_residual-in_err-found.result c.from_residual-in_err-found.ensures.1 in
+    rw (p.1, p.2) (c.in_err-found.ensures.faults honest k
+    (subst (λ (q : Text). HasKey old q k) (sym (c.as_str.ensures.value ∙ c.in_ok-name.ensures)) has))

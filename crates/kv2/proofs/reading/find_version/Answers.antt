@@ -1,11 +1,12 @@
-use Rattle.std.proofs.Common.{ap, sym, subst, ◌∙◌, Some}
+use Rattle.std.proofs.Common.{ap, sym, subst, ◌∙◌, is_ok, Some}
+use Rattle.std.proofs.lemmas.Bool.{false≢true}
 use Rattle.records.specs.declared.kind.Kind.TheVariants as kind
 use Rattle.records.specs.Ranges.{IsVersionInRange}
 use Rattle.records.specs.RowForms.{version_row}
 use Rattle.records.specs.Rows.{version_key}
 use Rattle.records.specs.Table.{table_of}
 use Rattle.kv2.specs.SecretRows.{HasVersion}
-use Rattle.kv2.proofs.Found.{some_read}
+use Rattle.kv2.proofs.Found.{some_is, some_read}
 use Rattle.kv2.proofs.reading.find_version.Goals as goal
 
 pub returns-clause-exact : goal.returns-clause-exact
@@ -19,3 +20,12 @@ returns-clause-exact g c honest =
     subst (λ v. HasVersion old name number (Some v)) (sym c.in_ok-version.ensures)
     (some_read IsVersionInRange version_row (old kind.KvVersion (version_key name number)) c.in-Some.kept
     c.in_ok-found.found at read.0 read.1)
+
+pub returns-in_err-found-clause-faults : goal.returns-in_err-found-clause-faults
+returns-in_err-found-clause-faults g c honest v has =
+    let old = table_of (g.T.RecordsTx.seen c.args.tx.now).rows in
+    let at = ap (old kind.KvVersion) (sym (c.as_str.ensures.value ∙ c.in_ok-key.ensures))
+    ∙ sym (c.in_ok-kept.ensures.found honest) ∙ c.in-Some.is in
+    let x = some_is IsVersionInRange version_row (old kind.KvVersion (version_key c.args.name.now c.args.number))
+    c.in-Some.kept at v has in
+    absurd (false≢true (ap is_ok (c.in_err-found.ensures.again x.0 x.2 x.3)))

@@ -1,11 +1,11 @@
 use Rattle.std.proofs.Common.{◌<◌, ◌^◌, ap, sym, subst, ◌∙◌, arith, option_map}
 use Rattle.std.proofs.lemmas.Result.{err_from_is_err_and}
-use Rattle.records.specs.CallLaws.{honest_before}
+use Rattle.records.specs.CallLaws.{honest_before, goes_further}
 use Rattle.records.specs.KeyEntry.{KeyEntry}
 use Rattle.records.specs.Table.{table_of}
 use Rattle.records.specs.Transaction.{IsHonest}
 use Rattle.records.specs.ValueLaws.{none_of}
-use Rattle.kv2.specs.SecretRows.{HasVersion}
+use Rattle.kv2.specs.SecretRows.{HasKey, HasVersion, IsReadOf}
 use Rattle.kv2.specs.Versions.{asked_number, numbered}
 use Rattle.kv2.proofs.Digits.{KeyLaws}
 use Rattle.broker_types.specs.Map.{get}
@@ -79,3 +79,37 @@ returns-in_err-found-clause-wants g c honest forms b sound told =
     (ap table_of (sym (c.in_ok-key.ensures.call.same first)))
     (subst (λ q. HasVersion old q c.asked_number-asked.result r.0)
     (c.as_str.ensures.value ∙ sym c.as_str-2.ensures.value) r.1)))
+
+pub returns-in_err-key-clause-faults : goal.returns-in_err-key-clause-faults
+returns-in_err-key-clause-faults g c honest o is =
+    let old = table_of (g.T.RecordsTx.seen c.args.tx.now).rows in
+    let p = err_from_is_err_and c.from_residual-in_err-key.result c.from_residual-in_err-key.ensures.1 in
+    rw (p.1, p.2) (c.in_err-key.ensures.faults honest is.0
+    (subst (λ q. HasKey old q is.0) (sym (c.as_str.ensures.value ∙ c.in_ok-name.ensures)) is.1))
+
+pub returns-in_err-found-clause-faults : goal.returns-in_err-found-clause-faults
+returns-in_err-found-clause-faults g c honest o is =
+    let seen = g.T.RecordsTx.seen in
+    let old = table_of (seen c.args.tx.now).rows in
+    let name = secret_name c.args.mount.now c.args.path.now in
+    let first : IsHonest (seen c.find_key.new.tx) = honest_before _ _ _ c.find_version.ensures.call.goes_on honest in
+    let p = err_from_is_err_and c.from_residual-in_err-found.result c.from_residual-in_err-found.ensures.1 in
+    let key = c.in_ok-key.ensures.found first is.0
+    (subst (λ q. HasKey old q is.0) (sym (c.as_str.ensures.value ∙ c.in_ok-name.ensures)) is.1) in
+    let v = subst (λ k. IsReadOf old name c.args.number k o) (sym key ∙ c.in-Some.is) is.2 in
+    let asked = c.asked_number-asked.ensures
+    ∙ ap (λ (e : KeyEntry). asked_number e.current c.args.number) c.key.view_is in
+    rw (p.1, p.2) (c.in_err-found.ensures.faults honest v.0
+    (subst (λ q. HasVersion q c.as_str-2.result.now c.asked_number-asked.result v.0)
+    (ap table_of (sym (c.in_ok-key.ensures.call.same first)))
+    (subst (λ q. HasVersion old q c.asked_number-asked.result v.0)
+    (sym (c.as_str-2.ensures.value ∙ c.in_ok-name.ensures)) (subst (λ n. HasVersion old name n v.0) (sym asked) v.1))))
+
+pub returns-in_err-found-clause-call : goal.returns-in_err-found-clause-call
+returns-in_err-found-clause-call g c =
+    let p = err_from_is_err_and c.from_residual-in_err-found.result c.from_residual-in_err-found.ensures.1 in
+    rw (p.1, p.2) (record {
+      same = λ _. tt;
+      faults = c.in_err-found.ensures.call.faults;
+      goes_on = goes_further _ _ _ _ c.in_ok-key.ensures.call.goes_on c.in_err-found.ensures.call.goes_on;
+    })

@@ -3,7 +3,7 @@ use Rattle.std.proofs.lemmas.Result.{on_ok_weaker, err_from_is_err_and}
 use Rattle.broker_types.specs.Map.{get}
 use Rattle.broker_types.specs.Broker.{Mount}
 use Rattle.records.specs.declared.kind.Kind.TheVariants as kind
-use Rattle.records.specs.CallLaws.{honest_before}
+use Rattle.records.specs.CallLaws.{honest_before, goes_further}
 use Rattle.records.specs.Parts.{of_mounts, Tells}
 use Rattle.records.specs.RowForms.{mount_row}
 use Rattle.records.specs.Table.{Table, table, table_of, with_row}
@@ -62,7 +62,7 @@ returns-clause-call g c =
           (settings_keep c.args.mount.now old _))
           (returns-clause-rows g c honest c.in_ok-found.field-0 (c.in_ok-found.ensures.exact first));
       faults = search rules;
-      goes_on = search rules;
+      goes_on = goes_further _ _ _ _ c.in_ok-found.ensures.call.goes_on c.put.ensures.call.goes_on;
     }
 
 pub returns-clause-told : goal.returns-clause-told
@@ -79,3 +79,12 @@ returns-in_err-found-clause-wants g c honest b sound told =
     let p = err_from_is_err_and c.from_residual.result c.from_residual.ensures.1 in
     rw (p.1, p.2) (c.in_err-found.ensures.faults honest (get b.mounts c.args.mount.now)
     (has_mount b sound (table_of (g.T.RecordsTx.seen c.args.tx.now).rows) told c.args.mount.now))
+
+pub returns-in_err-found-clause-call : goal.returns-in_err-found-clause-call
+returns-in_err-found-clause-call g c =
+    let p = err_from_is_err_and c.from_residual.result c.from_residual.ensures.1 in
+    rw (p.1, p.2) (record {
+      others = λ _. tt;
+      faults = c.in_err-found.ensures.call.faults;
+      goes_on = c.in_err-found.ensures.call.goes_on;
+    })

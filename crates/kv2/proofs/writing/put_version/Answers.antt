@@ -1,6 +1,6 @@
 use Rattle.std.proofs.Common.{ap, ◌∙◌}
 use Rattle.std.proofs.lemmas.Result.{on_ok_weaker}
-use Rattle.records.specs.CallLaws.{honest_before}
+use Rattle.records.specs.CallLaws.{honest_before, goes_further}
 use Rattle.records.specs.KeyEntry.{KeyEntry}
 use Rattle.records.specs.RowForms.{version_row}
 use Rattle.records.specs.Transaction.{IsHonest}
@@ -22,3 +22,11 @@ returns-clause-rows g c honest =
     ∙ ap (λ (e : KeyEntry). version_row (new_version e.updated c.args.object.now)) c.key.view_is)
     c.in_ok-key_row.ensures)
     (c.prune.ensures.rows honest)
+
+pub returns-clause-call : goal.returns-clause-call
+returns-clause-call g c = record {
+  faults = c.prune.ensures.call.faults;
+  goes_on = goes_further _ _ _ _
+      (goes_further _ _ _ _ c.in_ok-put.ensures.call.goes_on c.in_ok-put-2.ensures.call.goes_on)
+      c.prune.ensures.call.goes_on;
+}

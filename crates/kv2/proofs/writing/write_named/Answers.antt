@@ -1,10 +1,12 @@
-use Rattle.std.proofs.Common.{◌≢◌, None, ap, sym, subst, ◌∙◌, unwrap_or, rules}
+use Rattle.std.proofs.Common.{◌≢◌, None, ap, sym, subst, ◌∙◌, unwrap_or}
 use Rattle.std.proofs.lemmas.Option.{none-some}
+use Rattle.std.proofs.lemmas.Result.{err_from_is_err_and}
+use Rattle.broker_types.specs.Fault.{IsMemoryOrStorage}
 use Rattle.broker_types.specs.RequestError.{EndsOk}
-use Rattle.records.specs.CallLaws.{honest_before}
+use Rattle.records.specs.CallLaws.{honest_before, goes_further, fails_alike}
 use Rattle.records.specs.KeyEntry.{KeyEntry}
 use Rattle.records.specs.Table.{Table, table, table_of}
-use Rattle.records.specs.Transaction.{Rows, IsHonest}
+use Rattle.records.specs.Transaction.{Rows, IsHonest, GoesOn}
 use Rattle.kv2.specs.SecretRows.{HasKey, KeepsOtherNames, new_entry, next_entry, with_current}
 use Rattle.kv2.specs.SecretRows as rows
 use Rattle.kv2.specs.Versions.{checked}
@@ -60,5 +62,29 @@ returns-clause-call g c =
           (c.next_key-next.ensures.key i) limit c.args.version.object.now)))
           (written_keeps name old e limit c.args.now c.args.version.object.now);
       faults = tt;
-      goes_on = search rules;
+      goes_on = goes_further _ _ _ _
+          (goes_further _ _ _ _ c.in_ok-settings.ensures.call.goes_on c.in_ok-found.ensures.call.goes_on)
+          c.in_ok-put_version.ensures.call.goes_on;
     }
+
+pub returns-in_err-check-clause-call : goal.returns-in_err-check-clause-call
+returns-in_err-check-clause-call g c =
+    let p = err_from_is_err_and c.from_residual-in_err-check.result c.from_residual-in_err-check.ensures.1 in
+    rw (p.1, p.2) (record {
+      others = λ _. tt;
+      faults = tt;
+      goes_on = goes_further _ _ _ _ c.in_ok-settings.ensures.call.goes_on c.in_ok-found.ensures.call.goes_on;
+    })
+
+pub returns-in_err-put_version-clause-call : goal.returns-in_err-put_version-clause-call
+returns-in_err-put_version-clause-call g c =
+    let seen = g.T.RecordsTx.seen in
+    let p = err_from_is_err_and c.from_residual-in_err-put_version.result c.from_residual-in_err-put_version.ensures.1 in
+    rw (p.1, p.2) (record {
+      others = λ _. tt;
+      faults = λ is. subst IsMemoryOrStorage is c.in_err-put_version.ensures.call.faults;
+      goes_on = goes_further _ _ _ _
+          (goes_further _ _ _ _ c.in_ok-settings.ensures.call.goes_on c.in_ok-found.ensures.call.goes_on)
+          (subst (GoesOn (seen c.find_key.new.tx) (seen c.put_version.new.tx))
+          (sym (fails_alike (Unit {0}) c.in_err-put_version.field-0.0)) c.in_err-put_version.ensures.call.goes_on);
+    })
