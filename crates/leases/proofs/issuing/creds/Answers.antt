@@ -1,4 +1,5 @@
 use Rattle.std.proofs.Common.{◌≡◌, ◌∙◌, ℕ, Bool, false, Some, Option, Result, Ok, ap, sym, subst}
+use Rattle.std.proofs.lemmas.Result.{err_from_is_err_and}
 use Rattle.broker_types.specs.Broker.{Broker, Role}
 use Rattle.broker_types.specs.Evolves.{IsNew}
 use Rattle.broker_types.specs.Places.{lease_identifier}
@@ -7,14 +8,15 @@ use Rattle.broker_types.specs.declared.refusal.Refusal.{Refusal}
 use Rattle.broker_types.specs.RequestError.{EndsOk}
 use Rattle.broker_types.specs.Text.{Text}
 use Rattle.broker_types.specs.Token.{Lease}
-use Rattle.records.specs.CallLaws.{honest_before}
-use Rattle.records.specs.Parts.{of_leases, Tells}
+use Rattle.records.specs.CallLaws.{honest_before, goes_further, fails_alike}
+use Rattle.records.specs.Parts.{of_leases, Tells, KeepsOthers}
 use Rattle.records.specs.Table.{Table, table, table_of}
-use Rattle.records.specs.Transaction.{Rows, IsHonest}
+use Rattle.records.specs.Transaction.{Rows, IsHonest, GoesOn}
 use Rattle.leases.specs.LeaseRows.{RepresentsLeases, with_issued}
 use Rattle.leases.specs.Leases.{issue}
 use Rattle.leases.specs.RoleRows.{with_lease}
 use Rattle.leases.specs.Roles as roles
+use Rattle.leases.proofs.Faults.{read_fault}
 use Rattle.leases.proofs.issuing.creds.Goals as goal
 
 -- the lease that is answered, and its rows
@@ -90,3 +92,27 @@ returns-clause-told g c honest forms b represents sound roles_told clock last he
       (λ i. ((c.new.ensures ∙ c.in_ok-id.ensures) i, ap (λ (l : Lease). l.ttl) (c.lease.view_is ∙ made) i)),
       subst (λ (p : Text × Lease). Tells of_leases new (issue b t p.0 p.1)) (λ i. (id_is i, made i)) told,
     )))
+
+pub returns-clause-call : goal.returns-clause-call
+returns-clause-call g c =
+    let seen = g.T.RecordsTx.seen in
+    record {
+      others = λ honest.
+          let first : IsHonest (seen c.role.new.tx) = honest_before _ _ _ c.in_ok-issue.ensures.call.goes_on honest in
+          subst (λ (rows : Rows). KeepsOthers of_leases (table_of rows) (table (seen c.issue.new.tx)))
+          (c.in_ok-found.ensures.call.same first) (c.in_ok-issue.ensures.call.others honest);
+      faults = tt;
+      goes_on = goes_further _ _ _ _ c.in_ok-found.ensures.call.goes_on c.in_ok-issue.ensures.call.goes_on;
+    }
+
+pub returns-in_err-issue-clause-call : goal.returns-in_err-issue-clause-call
+returns-in_err-issue-clause-call g c =
+    let seen = g.T.RecordsTx.seen in
+    let p = err_from_is_err_and c.from_residual-in_err-issue.result c.from_residual-in_err-issue.ensures.1 in
+    rw (p.1, p.2) (record {
+      others = λ _. tt;
+      faults = read_fault _ _ c.in_err-issue.ensures.call.faults;
+      goes_on = goes_further _ _ _ _ c.in_ok-found.ensures.call.goes_on
+          (subst (GoesOn (seen c.role.new.tx) (seen c.issue.new.tx))
+          (sym (fails_alike (Unit {0}) c.in_err-issue.field-0.0)) c.in_err-issue.ensures.call.goes_on);
+    })

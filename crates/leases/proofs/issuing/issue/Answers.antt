@@ -1,9 +1,9 @@
-use Rattle.std.proofs.Common.{rules, ◌≡◌, ap, sym, subst, ◌∙◌}
+use Rattle.std.proofs.Common.{◌≡◌, ap, sym, subst, ◌∙◌}
 use Rattle.std.specs.FinMap as map
 use Rattle.std.proofs.lemmas.Result.{on_ok_weaker}
 use Rattle.broker_types.specs.Token.{Lease}
 use Rattle.records.specs.declared.kind.Kind.TheVariants as kind
-use Rattle.records.specs.CallLaws.{honest_before}
+use Rattle.records.specs.CallLaws.{honest_before, goes_further}
 use Rattle.records.specs.Parts.{of_leases, Tells, KeepsOthers}
 use Rattle.records.specs.Table.{Table, table, table_of, with_row}
 use Rattle.records.specs.TableLaws.{table_of-insert}
@@ -39,7 +39,7 @@ returns-clause-call g c = record {
       (λ rows. subst (λ (t : Table). KeepsOthers of_leases old t) (sym rows)
       (issued_keeps old c.args.token.now c.args.lease_id.now c.args.lease.now)) (returns-clause-rows g c honest);
   faults = c.put-2.ensures.call.faults;
-  goes_on = search rules;
+  goes_on = goes_further _ _ _ _ c.in_ok-put.ensures.call.goes_on c.put-2.ensures.call.goes_on;
 }
 
 pub returns-clause-told : goal.returns-clause-told

@@ -1,11 +1,11 @@
-use Rattle.std.proofs.Common.{rules, Err, ◌≡◌, Some, refl, ap, sym, subst, ◌∙◌}
+use Rattle.std.proofs.Common.{◌≡◌, Some, refl, ap, is_ok, sym, subst, ◌∙◌}
+use Rattle.std.proofs.lemmas.Bool.{false≢true}
 use Rattle.std.proofs.lemmas.Result.{err_from_is_err_and}
 use Rattle.broker_types.specs.RequestError.{EndsOk}
 use Rattle.broker_types.specs.Refuse.{some_or}
 use Rattle.broker_types.specs.declared.refusal.Refusal.TheVariants as refusal
 use Rattle.broker_types.specs.declared.refusal.Reason.TheVariants as reason
 use Rattle.records.specs.declared.row.Row.{Row}
-use Rattle.records.specs.Calls.{IsReadFault}
 use Rattle.records.specs.RowForms.{lease_row}
 use Rattle.records.specs.Table.{table}
 use Rattle.records.specs.ValueLaws.{none_of, ok_inj}
@@ -26,8 +26,8 @@ returns-in_err-lease-clause-told g c honest forms b represents =
     let old = table (g.T.RecordsTx.seen c.args.tx.now) in
     let h = find_some old b represents c.args.lease_id.now c.in-Some.kept
     (sym (c.in_ok-kept.ensures.found honest) ∙ c.in-Some.is) in
-    absurd (let e = c.in_err-lease.ensures.again h.0.1 h.1
-    (h.2 ∙ ap (λ t. lease_row t h.0.1) (sym (ap (λ (r : Row). r.owner) h.2))) in cc)
+    absurd (false≢true (ap is_ok (c.in_err-lease.ensures.again h.0.1 h.1
+    (h.2 ∙ ap (λ t. lease_row t h.0.1) (sym (ap (λ (r : Row). r.owner) h.2))))))
 
 pub returns-in_err-lease-clause-call : goal.returns-in_err-lease-clause-call
 returns-in_err-lease-clause-call g c =
@@ -38,15 +38,10 @@ returns-in_err-lease-clause-call g c =
     let unread : IsHonest (seen c.get.new.self) → IsReadableLease old id → ⊥ = λ honest readable.
     let h = at_is old id readable.0 c.in-Some.kept readable.1
     (sym (c.in_ok-kept.ensures.found honest) ∙ c.in-Some.is) in
-    absurd (let e = c.in_err-lease.ensures.again h.0.1 h.2
-    (h.3 ∙ ap (λ t. lease_row t h.0.1) (sym (ap (λ (r : Row). r.owner) h.3))) in cc) in
-    record {
-      same = search rules;
-      faults = rw (p.1 ∙ ap Err p.2)
-          (subst (IsReadFault (IsHonest (seen c.get.new.self) → IsReadableLease old id → ⊥))
-          (sym c.in_err-lease.ensures.damaged) unread);
-      goes_on = search rules;
-    }
+    absurd (false≢true (ap is_ok (c.in_err-lease.ensures.again h.0.1 h.2
+    (h.3 ∙ ap (λ t. lease_row t h.0.1) (sym (ap (λ (r : Row). r.owner) h.3)))))) in
+    rw (p.1, p.2, c.in_err-lease.ensures.damaged)
+    (record { same = λ _. tt; faults = unread; goes_on = c.in_ok-kept.ensures.call.goes_on })
 
 pub returns-clause-told : goal.returns-clause-told
 returns-clause-told g c honest forms b represents =

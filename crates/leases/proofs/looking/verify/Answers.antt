@@ -1,4 +1,5 @@
-use Rattle.std.proofs.Common.{rules, Err, is_some, ap, sym, ◌∙◌}
+use Rattle.std.proofs.Common.{is_some, ap, is_ok, sym, ◌∙◌}
+use Rattle.std.proofs.lemmas.Bool.{false≢true}
 use Rattle.std.proofs.lemmas.Result.{err_from_is_err_and}
 use Rattle.records.specs.ValueLaws.{none_of}
 use Rattle.records.specs.Table.{table}
@@ -14,19 +15,19 @@ pub returns-in_err-read_credential-clause-call : goal.returns-in_err-read_creden
 returns-in_err-read_credential-clause-call g c =
     let p = err_from_is_err_and c.from_residual-in_err-read_credential.result
     c.from_residual-in_err-read_credential.ensures.1 in
-    record {
-      same = search rules;
-      faults = rw (p.1 ∙ ap Err (p.2 ∙ c.in_err-read_credential.ensures.damaged)) (λ honest readable.
-          absurd (let e = c.in_err-read_credential.ensures.again (tt {0}) (tt {0})
-          (readable c.in-Some.kept (sym (c.in_ok-kept.ensures.found honest) ∙ c.in-Some.is)) in cc));
-      goes_on = search rules;
-    }
+    rw (p.1, p.2, c.in_err-read_credential.ensures.damaged) (record {
+      same = λ _. tt;
+      faults = λ honest readable.
+          absurd (false≢true (ap is_ok (c.in_err-read_credential.ensures.again (tt {0}) (tt {0})
+          (readable c.in-Some.kept (sym (c.in_ok-kept.ensures.found honest) ∙ c.in-Some.is)))));
+      goes_on = c.in_ok-kept.ensures.call.goes_on;
+    })
 
 pub returns-in_err-read_credential-clause-wants : goal.returns-in_err-read_credential-clause-wants
 returns-in_err-read_credential-clause-wants g c honest forms b represents =
-    absurd (let e = c.in_err-read_credential.ensures.again (tt {0}) (tt {0})
+    absurd (false≢true (ap is_ok (c.in_err-read_credential.ensures.again (tt {0}) (tt {0})
     (credential_readable (table (g.T.RecordsTx.seen c.args.tx.now)) b represents c.args.credential.now
-    c.in-Some.kept (sym (c.in_ok-kept.ensures.found honest) ∙ c.in-Some.is)) in cc)
+    c.in-Some.kept (sym (c.in_ok-kept.ensures.found honest) ∙ c.in-Some.is)))))
 
 pub returns-clause-told : goal.returns-clause-told
 returns-clause-told g c honest forms b represents =

@@ -1,4 +1,5 @@
-use Rattle.std.proofs.Common.{rules, Err, ◌≡◌, ◌∙◌, Some, Option, Ok, refl, ap, sym, subst}
+use Rattle.std.proofs.Common.{◌≡◌, ◌∙◌, Some, Option, Ok, refl, ap, is_ok, sym, subst}
+use Rattle.std.proofs.lemmas.Bool.{false≢true}
 use Rattle.std.proofs.lemmas.Option.{same_Some}
 use Rattle.std.proofs.lemmas.Result.{err_from_is_err_and}
 use Rattle.broker_types.specs.RequestError.{EndsOk}
@@ -8,18 +9,18 @@ use Rattle.broker_types.specs.declared.refusal.Refusal.TheVariants as refusal
 use Rattle.broker_types.specs.declared.refusal.Reason.TheVariants as reason
 use Rattle.records.specs.declared.kind.Kind.TheVariants as kind
 use Rattle.records.specs.declared.row.Row.{Row}
-use Rattle.records.specs.Calls.{IsReadFault}
-use Rattle.records.specs.CallLaws.{honest_before}
+use Rattle.records.specs.CallLaws.{honest_before, goes_further, fails_alike}
 use Rattle.records.specs.Parts.{of_leases, Tells}
 use Rattle.records.specs.Ranges.{IsLeaseInRange}
 use Rattle.records.specs.RowForms.{lease_row}
 use Rattle.records.specs.Table.{Table, table, table_of, with_row}
 use Rattle.records.specs.TableLaws.{table_of-insert}
-use Rattle.records.specs.Transaction.{IsHonest}
+use Rattle.records.specs.Transaction.{IsHonest, GoesOn}
 use Rattle.records.specs.ValueLaws.{none_of, ok_inj}
 use Rattle.leases.specs.LeaseRows as rows
 use Rattle.leases.specs.LeaseRows.{Held, IsLeaseAt, IsReadableLease, KeepsOtherLeases}
 use Rattle.leases.specs.Leases.{Renewed, renewed, renewed_end, with_renewed}
+use Rattle.leases.proofs.Faults.{read_fault}
 use Rattle.leases.proofs.LeaseFound.{find_none, find_some, at_is, at_read}
 use Rattle.leases.proofs.LeaseMade.{changed_told, renewed_keeps}
 use Rattle.leases.proofs.renewing.renew.Goals as goal
@@ -35,8 +36,8 @@ returns-in_err-lease-clause-told g c honest forms b represents clock =
     let old = table (g.T.RecordsTx.seen c.args.tx.now) in
     let h = find_some old b represents c.args.lease_id.now c.in-Some.kept
     (sym (c.in_ok-kept.ensures.found honest) ∙ c.in-Some.is) in
-    absurd (let e = c.in_err-lease.ensures.again h.0.1 h.1
-    (h.2 ∙ ap (λ t. lease_row t h.0.1) (sym (ap (λ (r : Row). r.owner) h.2))) in cc)
+    absurd (false≢true (ap is_ok (c.in_err-lease.ensures.again h.0.1 h.1
+    (h.2 ∙ ap (λ t. lease_row t h.0.1) (sym (ap (λ (r : Row). r.owner) h.2))))))
 
 pub returns-in_err-lease-clause-call : goal.returns-in_err-lease-clause-call
 returns-in_err-lease-clause-call g c =
@@ -47,15 +48,10 @@ returns-in_err-lease-clause-call g c =
     let unread : IsHonest (seen c.get.new.self) → IsReadableLease old id → ⊥ = λ honest readable.
     let h = at_is old id readable.0 c.in-Some.kept readable.1
     (sym (c.in_ok-kept.ensures.found honest) ∙ c.in-Some.is) in
-    absurd (let e = c.in_err-lease.ensures.again h.0.1 h.2
-    (h.3 ∙ ap (λ t. lease_row t h.0.1) (sym (ap (λ (r : Row). r.owner) h.3))) in cc) in
-    record {
-      others = search rules;
-      faults = rw (p.1 ∙ ap Err p.2)
-          (subst (IsReadFault (IsHonest (seen c.get.new.self) → IsReadableLease old id → ⊥))
-          (sym c.in_err-lease.ensures.damaged) unread);
-      goes_on = search rules;
-    }
+    absurd (false≢true (ap is_ok (c.in_err-lease.ensures.again h.0.1 h.2
+    (h.3 ∙ ap (λ t. lease_row t h.0.1) (sym (ap (λ (r : Row). r.owner) h.3)))))) in
+    rw (p.1, p.2, c.in_err-lease.ensures.damaged)
+    (record { others = λ _. tt; faults = unread; goes_on = c.in_ok-kept.ensures.call.goes_on })
 
 pub returns-clause-rows : goal.returns-clause-rows
 returns-clause-rows g c honest o at =
@@ -112,7 +108,7 @@ returns-clause-call g c = record {
       subst (λ (t : Table). KeepsOtherLeases id old t) (sym both.1)
       (renewed_keeps old id (lease_row c.in-Some.kept.owner (renewed c.args.now c.args.increment c.in_ok-lease.lease)));
   faults = tt;
-  goes_on = search rules;
+  goes_on = goes_further _ _ _ _ c.in_ok-kept.ensures.call.goes_on c.in_ok-put.ensures.call.goes_on;
 }
 
 pub returns-clause-told : goal.returns-clause-told
@@ -140,3 +136,15 @@ returns-clause-told g c honest forms b represents clock =
           (sym (both.1 ∙ ap (λ n. with_row old kind.Lease id (lease_row h.0.0 (renewed n increment h.0.1))) clock))
           (changed_told b id (renewed b.clock increment) old h.0.0 h.0.1 represents h.4 (λ m. refl)),
     )
+
+pub returns-in_err-put-clause-call : goal.returns-in_err-put-clause-call
+returns-in_err-put-clause-call g c =
+    let seen = g.T.RecordsTx.seen in
+    let p = err_from_is_err_and c.from_residual-in_err-put.result c.from_residual-in_err-put.ensures.1 in
+    rw (p.1, p.2) (record {
+      others = λ _. tt;
+      faults = read_fault _ _ c.in_err-put.ensures.call.faults;
+      goes_on = goes_further _ _ _ _ c.in_ok-kept.ensures.call.goes_on
+          (subst (GoesOn (seen c.get.new.self) (seen c.put.new.self))
+          (sym (fails_alike (Unit {0}) c.in_err-put.field-0.0)) c.in_err-put.ensures.call.goes_on);
+    })

@@ -1,4 +1,4 @@
-use Rattle.std.proofs.Common.{rules, ◌≡◌, ◌+◌, ◌∷◌, [], false, drop, sym, ap, subst, ◌∙◌}
+use Rattle.std.proofs.Common.{◌≡◌, ◌+◌, ◌∷◌, [], false, drop, sym, ap, subst, ◌∙◌}
 use Rattle.std.proofs.lemmas.Bool.{or_left, or_right}
 use Rattle.std.proofs.lemmas.List.{drop_more, drop_all}
 use Rattle.std.proofs.lemmas.Result.{err_from_is_err_and}
@@ -72,11 +72,11 @@ returns-in_err-drop_owner-clause-call g c =
     let these = subst (λ ts. AreReadable (are_owned ts) now) one (c.loop-token.invariant.readable before all) in
     damage honest (subst (λ t. AreReadable (is_owned t) now) (sym c.as_str.ensures)
     (λ q row is goes. these q row is (or_left _ _ goes))) in
-    record {
-      others = search rules;
-      faults = rw (p.1, p.2) (fault_then worse _ c.in_err-drop_owner.ensures.call.faults);
-      goes_on = search rules;
-    }
+    rw (p.1, p.2) (record {
+      others = λ _. tt;
+      faults = fault_then worse _ c.in_err-drop_owner.ensures.call.faults;
+      goes_on = goes_further _ _ _ _ c.loop-token.invariant.goes_on c.in_err-drop_owner.ensures.call.goes_on;
+    })
 
 pub returns-in_err-drop_owner-clause-wants : goal.returns-in_err-drop_owner-clause-wants
 returns-in_err-drop_owner-clause-wants g c honest forms b represents =

@@ -1,6 +1,6 @@
-use Rattle.std.proofs.Common.{rules, sym, subst, ◌∙◌}
+use Rattle.std.proofs.Common.{sym, subst, ◌∙◌}
 use Rattle.std.proofs.lemmas.Result.{on_ok_weaker}
-use Rattle.records.specs.CallLaws.{honest_before, fault_then, not_damaged, each_fault}
+use Rattle.records.specs.CallLaws.{honest_before, goes_further, fault_then, not_damaged, each_fault}
 use Rattle.records.specs.Table.{table, table_of}
 use Rattle.records.specs.Transaction.{Rows, IsHonest}
 use Rattle.records.specs.ValueLaws.{none_of}
@@ -35,7 +35,7 @@ unfolding returns-in_default-clause-rows
 returns-in_default-clause-call g c = record {
   others = λ honest. (returns-in_default-clause-rows g c honest).others;
   faults = tt;
-  goes_on = search rules;
+  goes_on = c.in_ok-row.ensures.call.goes_on;
 }
 
 -- ---- a lease
@@ -72,7 +72,7 @@ returns-clause-call g c =
           let first : IsHonest (seen c.get.new.self) = honest_before _ _ _ c.remove_lease.ensures.call.goes_on honest in
           damage (readable id c.in-Some.row (sym (c.in_ok-row.ensures.found first) ∙ c.in-Some.is) (same_self id))) f)
           c.remove_lease.result c.remove_lease.ensures.call.faults;
-      goes_on = search rules;
+      goes_on = goes_further _ _ _ _ c.in_ok-row.ensures.call.goes_on c.remove_lease.ensures.call.goes_on;
     }
 
 pub returns-clause-wants : goal.returns-clause-wants

@@ -1,6 +1,6 @@
-use Rattle.std.proofs.Common.{rules, sym, subst}
+use Rattle.std.proofs.Common.{sym, subst}
 use Rattle.std.proofs.lemmas.Result.{on_ok_weaker}
-use Rattle.records.specs.CallLaws.{honest_before, fault_then, not_damaged, each_fault}
+use Rattle.records.specs.CallLaws.{honest_before, goes_further, fault_then, not_damaged, each_fault}
 use Rattle.records.specs.Table.{table, table_of}
 use Rattle.records.specs.Transaction.{Rows, IsHonest}
 use Rattle.leases.specs.Endings.{is_under}
@@ -52,7 +52,8 @@ returns-clause-call g c =
           (c.in_ok-entries.ensures.listed first) in
           damage (each_readable ends (leases_among c.deref.result.now) old old those readable)) f)
           c.remove_leases.result c.remove_leases.ensures.call.faults;
-      goes_on = search rules;
+      goes_on =
+          goes_further _ _ _ _ c.in_ok-entries.ensures.call.goes_on c.remove_leases.ensures.call.goes_on;
     }
 
 pub returns-clause-wants : goal.returns-clause-wants

@@ -1,4 +1,4 @@
-use Rattle.std.proofs.Common.{rules, ◌≡◌, [], ◌∙◌, ap, sym, subst}
+use Rattle.std.proofs.Common.{◌≡◌, [], ◌∙◌, ap, sym, subst}
 use Rattle.std.proofs.lemmas.Result.{on_ok_weaker}
 use Rattle.records.specs.declared.kind.Kind.TheVariants as kind
 use Rattle.records.specs.Parts.{of_roles, Tells, KeepsOthers}
@@ -23,7 +23,7 @@ returns-clause-call g c = record {
       (λ rows. subst (λ (t : Table). KeepsOthers of_roles old t) (sym rows)
       (dropped_keeps old (role_name c.args.mount.now []))) (returns-clause-rows g c honest);
   faults = c.remove_under.ensures.call.faults;
-  goes_on = search rules;
+  goes_on = c.remove_under.ensures.call.goes_on;
 }
 
 pub returns-clause-told : goal.returns-clause-told

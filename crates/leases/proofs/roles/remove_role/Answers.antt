@@ -1,4 +1,4 @@
-use Rattle.std.proofs.Common.{rules, ◌≡◌, ◌∙◌, ap, sym, subst}
+use Rattle.std.proofs.Common.{◌≡◌, ◌∙◌, ap, sym, subst}
 use Rattle.std.specs.FinMap as map
 use Rattle.std.proofs.lemmas.Result.{on_ok_weaker}
 use Rattle.broker_types.specs.Text.{Text}
@@ -29,7 +29,7 @@ returns-clause-call g c = record {
       (λ rows. subst (λ (t : Table). KeepsOthers of_roles old t) (sym rows)
       (gone_keeps old (role_name c.args.mount.now c.args.name.now))) (returns-clause-rows g c honest);
   faults = c.remove.ensures.call.faults;
-  goes_on = search rules;
+  goes_on = c.remove.ensures.call.goes_on;
 }
 
 pub returns-clause-told : goal.returns-clause-told

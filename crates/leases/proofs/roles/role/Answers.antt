@@ -1,8 +1,11 @@
-use Rattle.std.proofs.Common.{rules, Err, Some, ap, sym, ◌∙◌}
+use Rattle.std.proofs.Common.{Some, ap, is_ok, sym, subst, ◌∙◌}
+use Rattle.std.proofs.lemmas.Bool.{false≢true}
+use Rattle.std.proofs.lemmas.Option.{same_Some}
 use Rattle.std.proofs.lemmas.Result.{err_from_is_err_and}
 use Rattle.broker_types.specs.Map.{get}
 use Rattle.broker_types.specs.OptionLaws.{mapped, mapped_none}
 use Rattle.records.specs.declared.kind.Kind.TheVariants as kind
+use Rattle.records.specs.Ranges.{IsRoleInRange}
 use Rattle.records.specs.RangeLaws.{role_in_range}
 use Rattle.records.specs.RowForms.{role_row}
 use Rattle.records.specs.Table.{table}
@@ -26,21 +29,21 @@ returns-in_err-read_role-clause-wants g c honest b sound told =
     let r = mapped role_row (get b.roles key) c.in-Some.kept
     (sym (role_told t b told key) ∙ ap (t kind.Role) (sym (c.as_str.ensures.value ∙ c.in_ok-key.ensures))
     ∙ sym (c.in_ok-kept.ensures.found honest) ∙ c.in-Some.is) in
-    absurd (let e = c.in_err-read_role.ensures.again r.0 (role_in_range key r.0 (sound key r.0 r.1)) r.2 in cc)
+    absurd (false≢true (ap is_ok (c.in_err-read_role.ensures.again r.0 (role_in_range key r.0 (sound key r.0 r.1)) r.2)))
 
 pub returns-in_err-read_role-clause-call : goal.returns-in_err-read_role-clause-call
 returns-in_err-read_role-clause-call g c =
     let t = table (g.T.RecordsTx.seen c.args.tx.now) in
     let p = err_from_is_err_and c.from_residual-in_err-read_role.result c.from_residual-in_err-read_role.ensures.1 in
-    record {
-      same = search rules;
-      faults = rw (p.1 ∙ ap Err (p.2 ∙ c.in_err-read_role.ensures.damaged)) (λ honest readable.
+    rw (p.1, p.2, c.in_err-read_role.ensures.damaged) (record {
+      same = λ _. tt;
+      faults = λ honest readable.
           let r = mapped role_row readable.0 c.in-Some.kept
           (sym readable.1.row ∙ ap (t kind.Role) (sym (c.as_str.ensures.value ∙ c.in_ok-key.ensures))
           ∙ sym (c.in_ok-kept.ensures.found honest) ∙ c.in-Some.is) in
-          absurd (let e = c.in_err-read_role.ensures.again r.0 (readable.1.in_range r.0 r.1) r.2 in cc));
-      goes_on = search rules;
-    }
+          absurd (false≢true (ap is_ok (c.in_err-read_role.ensures.again r.0 (readable.1.in_range r.0 r.1) r.2)));
+      goes_on = c.in_ok-kept.ensures.call.goes_on;
+    })
 
 pub returns-clause-told : goal.returns-clause-told
 returns-clause-told g c honest b sound told =
@@ -65,3 +68,13 @@ returns-clause-found g c honest o at =
     (sym at.row ∙ ap (t kind.Role) (sym (c.as_str.ensures.value ∙ c.in_ok-key.ensures))
     ∙ sym (c.in_ok-kept.ensures.found honest) ∙ c.in-Some.is) in
     ap Some (ok_inj (c.in_ok-read_role.ensures.again r.0 (at.in_range r.0 r.1) r.2)) ∙ sym r.1
+
+pub returns-clause-exact : goal.returns-clause-exact
+returns-clause-exact g c honest =
+    let t = table (g.T.RecordsTx.seen c.args.tx.now) in
+    let read = c.in_ok-read_role.ensures.exact in
+    record {
+      in_range = λ x e. subst IsRoleInRange (same_Some _ _ e) read.0;
+      row = ap (t kind.Role) (sym (c.as_str.ensures.value ∙ c.in_ok-key.ensures))
+          ∙ sym (c.in_ok-kept.ensures.found honest) ∙ c.in-Some.is ∙ ap Some read.1;
+    }

@@ -1,4 +1,4 @@
-use Rattle.std.proofs.Common.{rules, ◌≡◌, true, refl, ap, sym, subst, ◌∙◌}
+use Rattle.std.proofs.Common.{◌≡◌, true, refl, ap, sym, subst, ◌∙◌}
 use Rattle.broker_types.specs.Broker.{Broker, Role}
 use Rattle.broker_types.specs.Map.{put}
 use Rattle.broker_types.specs.Name.{is_name}
@@ -40,7 +40,7 @@ returns-clause-call g c =
           ∙ table_of-insert old kind.Role c.as_str.result.now c.in_ok-row.row))
           (with_row_keeps of_roles (table_of old) kind.Role c.as_str.result.now c.in_ok-row.row refl);
       faults = tt;
-      goes_on = search rules;
+      goes_on = c.in_ok-put.ensures.call.goes_on;
     }
 
 pub returns-clause-told : goal.returns-clause-told

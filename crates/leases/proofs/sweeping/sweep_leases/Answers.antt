@@ -1,7 +1,7 @@
-use Rattle.std.proofs.Common.{rules, sym, subst}
+use Rattle.std.proofs.Common.{sym, subst}
 use Rattle.std.specs.Prelude.{OnOk}
 use Rattle.std.proofs.lemmas.Result.{on_ok_weaker}
-use Rattle.records.specs.CallLaws.{honest_before, fault_then, not_damaged, each_fault}
+use Rattle.records.specs.CallLaws.{honest_before, goes_further, fault_then, not_damaged, each_fault}
 use Rattle.records.specs.DueRows.{AreDue}
 use Rattle.records.specs.Parts.{of_leases, KeepsOthers}
 use Rattle.records.specs.Table.{table, table_of}
@@ -59,7 +59,7 @@ returns-clause-call g c =
           damage honest now still
           (subst (λ (rows : Rows). AreReadable (has_come now) (table_of rows)) (sym same) readable)) f)
           c.end_due.result c.end_due.ensures.call.faults;
-      goes_on = search rules;
+      goes_on = goes_further _ _ _ _ c.in_ok-due.ensures.call.goes_on c.end_due.ensures.call.goes_on;
     }
 
 pub returns-clause-wants : goal.returns-clause-wants
