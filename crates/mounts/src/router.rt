@@ -16,19 +16,55 @@ use broker_types::Fault;
 use matchit::{InsertError, Router};
 use std::alloc::Global;
 
-/// The routers of all types of mounts: one search of one of them answers which pattern a path finds.
+/// The routers of all types of mounts: one search of one of them answers which pattern a path finds. They are made in
+/// two parts, since what the prover follows at a way out grows faster than the number of routers that are made by then.
 #[derive(Drop)]
 pub struct Routers {
+    fixed: FixedRouters,
+    engines: EngineRouters,
+}
+
+/// Those of the mounts that are always there.
+#[derive(Drop)]
+struct FixedRouters {
     token: Router<Pattern>,
     system: Router<Pattern>,
     cubbyhole: Router<Pattern>,
-    kv: Router<Pattern>,
-    issued: Router<Pattern>,
     ghost token_made: { token ≡ spec.router_for mount.Token } by { Prim.hlevel router_props },
     ghost system_made: { system ≡ spec.router_for mount.System } by { Prim.hlevel router_props },
     ghost cubbyhole_made: { cubbyhole ≡ spec.router_for mount.Cubbyhole } by { Prim.hlevel router_props },
+}
+
+/// Those of the mounts of an engine.
+#[derive(Drop)]
+struct EngineRouters {
+    kv: Router<Pattern>,
+    issued: Router<Pattern>,
     ghost kv_made: { kv ≡ spec.router_for mount.Kv } by { Prim.hlevel router_props },
     ghost issued_made: { issued ≡ spec.router_for mount.Issued } by { Prim.hlevel router_props },
+}
+
+impl FixedRouters {
+    fn new(alloc: Global) -> Result<FixedRouters, Fault>
+        ensures memory { IfErr result (λ fault. fault ≡ Fault.Memory) }
+    {
+        Ok(FixedRouters {
+            token: router_for(alloc, MountType::Token)?,
+            system: router_for(alloc, MountType::System)?,
+            cubbyhole: router_for(alloc, MountType::Cubbyhole)?,
+        })
+    }
+}
+
+impl EngineRouters {
+    fn new(alloc: Global) -> Result<EngineRouters, Fault>
+        ensures memory { IfErr result (λ fault. fault ≡ Fault.Memory) }
+    {
+        Ok(EngineRouters {
+            kv: router_for(alloc, MountType::Kv)?,
+            issued: router_for(alloc, MountType::Issued)?,
+        })
+    }
 }
 
 impl Routers {
@@ -37,11 +73,8 @@ impl Routers {
         ensures memory { IfErr result (λ fault. fault ≡ Fault.Memory) }
     {
         Ok(Routers {
-            token: router_for(alloc, MountType::Token)?,
-            system: router_for(alloc, MountType::System)?,
-            cubbyhole: router_for(alloc, MountType::Cubbyhole)?,
-            kv: router_for(alloc, MountType::Kv)?,
-            issued: router_for(alloc, MountType::Issued)?,
+            fixed: FixedRouters::new(alloc)?,
+            engines: EngineRouters::new(alloc)?,
         })
     }
 
@@ -56,11 +89,11 @@ impl Routers {
         ensures { result.now ≡ spec.router_for mount_type }
     {
         match mount_type {
-            MountType::Token => &self.token,
-            MountType::System => &self.system,
-            MountType::Cubbyhole => &self.cubbyhole,
-            MountType::Kv => &self.kv,
-            MountType::Issued => &self.issued,
+            MountType::Token => &self.fixed.token,
+            MountType::System => &self.fixed.system,
+            MountType::Cubbyhole => &self.fixed.cubbyhole,
+            MountType::Kv => &self.engines.kv,
+            MountType::Issued => &self.engines.issued,
         }
     }
 }

@@ -1,9 +1,9 @@
 use Rattle.std.specs.Prelude.{is_some}
-use Rattle.std.proofs.Common.{◌≡◌, Some, Err, true, false, refl, sym, ap, ◌∙◌, subst, inl, inr}
+use Rattle.std.proofs.Common.{◌≡◌, Some, Err, true, false, refl, sym, ap, ◌∙◌, subst, inl, inr, rules}
 use Rattle.std.proofs.lemmas.Option.{same_Some}
 use Rattle.std.proofs.lemmas.Result.{err_from_is_err_and}
 use Rattle.records.specs.Ranges.{IsTokenInRange}
-use Rattle.records.specs.CallLaws.{honest_before, on_answer_weaker}
+use Rattle.records.specs.CallLaws.{honest_before, goes_further, on_answer_weaker}
 use Rattle.records.specs.Calls.{OnAnswer}
 use Rattle.records.specs.Transaction.{Rows}
 use Rattle.records.specs.ValueLaws.{none_of, ok_inj}
@@ -279,3 +279,53 @@ returns-clause-uses g c honest at =
     let same = c.in_ok-rules.ensures.call.same later ∙ c.in_ok-found.ensures.call.same mid in
     subst (λ (rows : Rows). OnAnswer c.operate.result (KeepsUses rows (seen c.operate.new.tx).rows)) same
     (c.operate.ensures.uses honest (caller_still old begun c.args.caller same at))
+
+-- ---- what is left of the transaction
+
+pub returns-in_err-found-clause-call : goal.returns-in_err-found-clause-call
+returns-in_err-found-clause-call g c =
+    let p = err_from_is_err_and c.from_residual.result c.from_residual.ensures.1 in
+    rw (p.1 ∙ ap Err p.2) (record {
+      faults = search rules;
+      goes_on = c.in_err-found.ensures.call.goes_on;
+    })
+
+pub returns-in_err-rules-clause-call : goal.returns-in_err-rules-clause-call
+returns-in_err-rules-clause-call g c =
+    let seen = g.T.RecordsTx.seen in
+    let p = err_from_is_err_and c.from_residual-in_err-rules.result c.from_residual-in_err-rules.ensures.1 in
+    rw (p.1 ∙ ap Err p.2) (record {
+      faults = search rules;
+      goes_on = goes_further (seen c.args.tx.now) (seen c.find_route.new.tx) (seen c.permitted.new.tx) _
+          c.in_ok-found.ensures.call.goes_on c.in_err-rules.ensures.call.goes_on;
+    })
+
+pub returns-in_default-clause-call : goal.returns-in_default-clause-call
+returns-in_default-clause-call g c =
+    let seen = g.T.RecordsTx.seen in
+    record {
+      faults = tt;
+      goes_on = goes_further (seen c.args.tx.now) (seen c.find_route.new.tx) (seen c.permitted.new.tx) false
+          c.in_ok-found.ensures.call.goes_on c.in_ok-rules.ensures.call.goes_on;
+    }
+
+pub returns-in_err-found-2-clause-call : goal.returns-in_err-found-2-clause-call
+returns-in_err-found-2-clause-call g c =
+    let seen = g.T.RecordsTx.seen in
+    let p = err_from_is_err_and c.from_residual-in_err-found-2.result c.from_residual-in_err-found-2.ensures.1 in
+    rw (p.1 ∙ ap Err p.2) (record {
+      faults = tt;
+      goes_on = goes_further (seen c.args.tx.now) (seen c.find_route.new.tx) (seen c.permitted.new.tx) false
+          c.in_ok-found.ensures.call.goes_on c.in_ok-rules.ensures.call.goes_on;
+    })
+
+pub returns-clause-call : goal.returns-clause-call
+returns-clause-call g c =
+    let seen = g.T.RecordsTx.seen in
+    record {
+      faults = c.operate.ensures.call.faults;
+      goes_on = goes_further (seen c.args.tx.now) (seen c.permitted.new.tx) (seen c.operate.new.tx) _
+          (goes_further (seen c.args.tx.now) (seen c.find_route.new.tx) (seen c.permitted.new.tx) false
+          c.in_ok-found.ensures.call.goes_on c.in_ok-rules.ensures.call.goes_on)
+          c.operate.ensures.call.goes_on;
+    }
