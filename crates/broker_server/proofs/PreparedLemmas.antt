@@ -19,6 +19,12 @@ use Rattle.broker_rows.specs.ClockRow.{HasNoClock}
 use Rattle.broker_sql.specs.Beginning.{LacksClock}
 use Rattle.broker_sql.specs.Prepared.{CannotStart, IsPrepared}
 use Rattle.database_check.specs.Findings.{OpenAsABroker}
+use Rattle.database_check.specs.declared.defect.Defect.{Defect}
+use Rattle.hub.specs.declared.serve.ConnectionFault.{ConnectionFault}
+use Rattle.server.specs.Starting.{IsFaultOfNew}
+use Rattle.broker_server.specs.Starting.{IfFaulted, IfRefused}
+use Rattle.broker_server.specs.declared.serve_error.ServeError.{ServeError}
+use Rattle.broker_server.specs.declared.serve_error.ServeError.TheVariants.{Unsound, Faulted}
 
 no_clock : HasNoClock empty
 no_clock = get-empty key_cmp _
@@ -89,3 +95,15 @@ module _ {S : Type 0} (g : store.Ghosts S) (records checked : SqlRecords S g)
             let before : IsHonestStore (kept_records g checked) = omega (arith, more, honest) in
             subst (λ (rows : Rows). rows ≡ empty) (same before) (it.told honest);
       }
+
+-- ---- how serving a database without a row ends
+
+-- nothing is refused for a row
+pub not_refused : (rows : Rows) (error : ServeError) (defect : Defect) → error ≡ Unsound defect → rows ≡ empty
+    → IfRefused error (λ _. ¬ HasNoClock rows) → ⊥
+not_refused rows error defect is none refused =
+    subst (λ (e : ServeError). IfRefused e (λ _. ¬ HasNoClock rows)) is refused (subst HasNoClock (sym none) no_clock)
+
+pub faulted : (error : ServeError) (fault : ConnectionFault) → error ≡ Faulted fault → IfFaulted error IsFaultOfNew
+    → IsFaultOfNew fault
+faulted error fault is it = subst (λ (e : ServeError). IfFaulted e IsFaultOfNew) is it

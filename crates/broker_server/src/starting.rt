@@ -1,9 +1,13 @@
 //! Programs that serve: a broker in memory, or that of a file.
 
-ghost use Rattle.std.specs.Prelude.{◌≡◌, IsTrue, IfErr};
+ghost use Rattle.std.specs.Prelude.{◌≡◌, ◌⊎◌, IsTrue, IfOk, IfErr, None};
 ghost use Rattle.std.specs.FinMap as map;
+ghost use Rattle.broker_types.specs.Broker.{Broker};
+ghost use Rattle.records.specs.Kept.{IsHonestStore};
 ghost use Rattle.records_sql.specs.KeptRecords.{kept_records};
-ghost use Rattle.broker_sql.specs.SqlKept.{ReturnsWhatWasWritten};
+ghost use Rattle.broker_rows.specs.ClockRow.{HasNoClock};
+ghost use Rattle.broker_rows.specs.Representing.{Represents};
+ghost use Rattle.broker_sql.specs.SqlKept.{ReturnsWhatWasWritten, sql_kept};
 ghost use Rattle.database_check.specs.Findings.{OpenAsNone};
 ghost use Rattle.server.specs.Starting.{IsFaultOfNew};
 ghost use Rattle.broker_server.specs.Starting.{IfFaulted, IfRefused};
@@ -11,11 +15,13 @@ ghost use Rattle.broker_server.specs.Starting.{IfFaulted, IfRefused};
 use crate::opening::tell_opening;
 use crate::preparing::prepare_checked;
 use crate::serve_error::ServeError;
-use broker_sql::prepare;
+use broker_sql::{SqlStore, prepare};
+use broker_types::{Moment, TokenText, Words};
 use hub::{Clock, ConnectionFault, WordSource};
 use records_sql::SqlRecords;
 use server::{Log, Settings, SystemClock, begin_log, seeded, serve_store};
 use sqlite::{Alter, Unknown};
+use std::alloc::Global;
 use std::fs::OpenOptions;
 use std::io;
 use std::os::unix::fs::OpenOptionsExt;
@@ -31,7 +37,12 @@ pub fn serve_in_memory(rt: &HostRuntime, settings: &Settings<'_>) -> Result<(), 
 {
     let log = begin_log(rt, settings)?;
     let records = SqlRecords::in_memory(rt.alloc())?;
-    serve_records(rt, records, settings, log)
+    match serve_records(rt, records, settings, log) {
+        Ok(()) => Ok(()),
+        Err(ServeError::Faulted(fault)) => Err(fault),
+        // A database without a row has none in trouble.
+        Err(ServeError::Unsound(_)) => unreachable!(),
+    }
 }
 
 /// Serves the broker that a file keeps, with its log beside it, or starts one in a file that is new, and prints its
@@ -47,7 +58,7 @@ pub fn serve_file(rt: &HostRuntime, path: &str, settings: &Settings<'_>) -> Resu
     let _ = make_private(rt, path);
     tell_opening(rt, path, &log)?;
     let records = SqlRecords::open_from(rt, path, Unknown)?;
-    serve_opened(rt, records, settings, log)
+    serve_records(rt, records, settings, log)
 }
 
 /// Makes an empty file that its owner alone may read and write, if there is none.
@@ -61,60 +72,53 @@ fn make_private(rt: &HostRuntime, path: &str) -> io::Result<()> {
 }
 
 /// Serves the broker that the records have, or starts one in records without a row. If files are checked, it serves
-/// only a sound broker, which has no damaged row, in a storage that returns what was written.
-fn serve_opened<S: Alter + Drop>(
-    rt: &HostRuntime,
-    records: SqlRecords<S>,
-    settings: &Settings<'_>,
-    log: Option<Rc<Log>>,
-) -> Result<(), ServeError>
-    ensures faults { ReturnsWhatWasWritten S.Store → IsTrue settings.now.checks
-        → IfErr result (λ error. IfFaulted error IsFaultOfNew) }
-    ensures unsound { ReturnsWhatWasWritten S.Store
-        → IfErr result (λ error. IfRefused error (OpenAsNone (kept_records S.Store records).rows)) }
-{
-    if settings.checks {
-        return serve_checked(rt, records, settings, log);
-    }
-    serve_records(rt, records, settings, log)?;
-    Ok(())
-}
-
-/// Serves the broker that the records have, or starts one in records without a row. A store that has just been started,
-/// in a storage that returns what was written, has no damaged row.
+/// only a sound broker. That, and one that has just been started, has no damaged row, in a storage that returns what was
+/// written.
 fn serve_records<S: Alter + Drop>(
     rt: &HostRuntime,
     records: SqlRecords<S>,
     settings: &Settings<'_>,
     log: Option<Rc<Log>>,
-) -> Result<(), ConnectionFault>
-    ensures { ReturnsWhatWasWritten S.Store → (kept_records S.Store records).rows ≡ map.empty
-        → IfErr result IsFaultOfNew }
-{
-    let mut clock = SystemClock::new(rt);
-    let Ok(mut words) = seeded(rt) else {
-        return Err(ConnectionFault::Read);
-    };
-    let (store, root) = prepare(rt.alloc(), records, clock.now(), &words.words())?;
-    serve_store(rt, store, root, settings, log, &mut words)
-}
-
-/// The same, if the broker is sound; then it has no damaged row, in a storage that returns what was written.
-fn serve_checked<S: Alter + Drop>(
-    rt: &HostRuntime,
-    records: SqlRecords<S>,
-    settings: &Settings<'_>,
-    log: Option<Rc<Log>>,
 ) -> Result<(), ServeError>
-    ensures faults { ReturnsWhatWasWritten S.Store → IfErr result (λ error. IfFaulted error IsFaultOfNew) }
+    ensures faults { ReturnsWhatWasWritten S.Store
+        → IsTrue settings.now.checks ⊎ ((kept_records S.Store records).rows ≡ map.empty)
+        → IfErr result (λ error. IfFaulted error IsFaultOfNew) }
     ensures unsound { ReturnsWhatWasWritten S.Store
         → IfErr result (λ error. IfRefused error (OpenAsNone (kept_records S.Store records).rows)) }
+    ensures started { ReturnsWhatWasWritten S.Store
+        → IfErr result (λ error. IfRefused error (λ _. ¬ HasNoClock (kept_records S.Store records).rows)) }
 {
     let mut clock = SystemClock::new(rt);
     let Ok(mut words) = seeded(rt) else {
         return Err(ServeError::Faulted(ConnectionFault::Read));
     };
-    let (store, root) = prepare_checked(rt.alloc(), records, clock.now(), &words.words())?;
+    let moment = clock.now();
+    let (store, root) = made_ready(rt.alloc(), records, settings.checks, moment, &words.words())?;
     serve_store(rt, store, root, settings, log, &mut words)?;
     Ok(())
+}
+
+/// A store that is made ready. Its records are checked first, if they are to be.
+fn made_ready<S: Alter + Drop>(
+    alloc: Global,
+    records: SqlRecords<S>,
+    checks: bool,
+    moment: Moment,
+    words: &Words,
+) -> Result<(SqlStore<S>, Option<TokenText>), ServeError>
+    ensures sound { IsTrue checks ⊎ ((kept_records S.Store records).rows ≡ map.empty)
+        → IfOk result (λ made. IsHonestStore (sql_kept S.Store made.0)
+        → (b : Broker) × Represents None (sql_kept S.Store made.0).rows b) }
+    ensures stands { IfOk result (λ made. IsHonestStore (sql_kept S.Store made.0)
+        → IsTrue (sql_kept S.Store made.0).is_open) }
+    ensures unsound { ReturnsWhatWasWritten S.Store
+        → IfErr result (λ error. IfRefused error (OpenAsNone (kept_records S.Store records).rows)) }
+    ensures started { ReturnsWhatWasWritten S.Store
+        → IfErr result (λ error. IfRefused error (λ _. ¬ HasNoClock (kept_records S.Store records).rows)) }
+    ensures faults { IfErr result (λ error. IfFaulted error IsFaultOfNew) }
+{
+    if checks {
+        return prepare_checked(alloc, records, moment, words);
+    }
+    Ok(prepare(alloc, records, moment, words)?)
 }
