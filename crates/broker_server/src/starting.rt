@@ -72,8 +72,8 @@ fn make_private(rt: &HostRuntime, path: &str) -> io::Result<()> {
 }
 
 /// Serves the broker that the records have, or starts one in records without a row. If files are checked, it serves
-/// only a sound broker. That, and one that has just been started, has no damaged row, in a storage that returns what was
-/// written.
+/// only a sound broker. That, and one that has just been started, has no damaged row, in a storage that returns what
+/// was written.
 fn serve_records<S: Alter + Drop>(
     rt: &HostRuntime,
     records: SqlRecords<S>,

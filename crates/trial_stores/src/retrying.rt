@@ -86,11 +86,17 @@ impl<'s> OverSql for RowsAfter<'s> {
     ) -> Result<Rows, Fault> {
         store.start(self.script.start.moment, &self.script.start.words)?;
         let mut hub = Hub::new(alloc, store);
-        for event in self.script.events.iter().take(self.count) {
-            feed(&mut hub, event, 0)?;
-        }
+        feed_first(&mut hub, self.script, self.count)?;
         rows_of(alloc, &mut hub.into_store().into_records())
     }
+}
+
+/// Feeds the first so many events of a script.
+fn feed_first<S: Store>(hub: &mut Hub<S>, script: &Script, count: usize) -> Result<(), Fault> {
+    for event in script.events.iter().take(count) {
+        feed(hub, event, 0)?;
+    }
+    Ok(())
 }
 
 /// Starts a broker in a list of rows, and runs the script over it.

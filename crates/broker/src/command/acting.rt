@@ -63,8 +63,8 @@ impl Command<'_> {
             ((traits (meant self.entry)).own (names_of context.now.words)) (T.seen tx.old) (T.seen tx.new)
             (λ b. model.act_for b asker.now.caller.token (names_of context.now.words) (meant self.entry)) result }
 
-        // Whatever the rows are: it is neither answered nor refused if a row that the command reads is damaged. That of the
-        // caller was read before.
+        // Whatever the rows are: it is neither answered nor refused if a row that the command reads is damaged. That of
+        // the caller was read before.
         ensures readable { IsHonest (T.seen tx.new) → IsCallerAt (T.seen tx.old).rows asker.now.caller
             → OnAnswer result (IsReadableCommand (T.seen tx.old).rows asker.now.caller.token (meant self.entry)) }
 

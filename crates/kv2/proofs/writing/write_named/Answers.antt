@@ -79,7 +79,8 @@ returns-in_err-check-clause-call g c =
 pub returns-in_err-put_version-clause-call : goal.returns-in_err-put_version-clause-call
 returns-in_err-put_version-clause-call g c =
     let seen = g.T.RecordsTx.seen in
-    let p = err_from_is_err_and c.from_residual-in_err-put_version.result c.from_residual-in_err-put_version.ensures.1 in
+    let p =
+    err_from_is_err_and c.from_residual-in_err-put_version.result c.from_residual-in_err-put_version.ensures.1 in
     rw (p.1, p.2) (record {
       others = λ _. tt;
       faults = λ is. subst IsMemoryOrStorage is c.in_err-put_version.ensures.call.faults;

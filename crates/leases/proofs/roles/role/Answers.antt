@@ -29,7 +29,8 @@ returns-in_err-read_role-clause-wants g c honest b sound told =
     let r = mapped role_row (get b.roles key) c.in-Some.kept
     (sym (role_told t b told key) ∙ ap (t kind.Role) (sym (c.as_str.ensures.value ∙ c.in_ok-key.ensures))
     ∙ sym (c.in_ok-kept.ensures.found honest) ∙ c.in-Some.is) in
-    absurd (false≢true (ap is_ok (c.in_err-read_role.ensures.again r.0 (role_in_range key r.0 (sound key r.0 r.1)) r.2)))
+    absurd (false≢true
+    (ap is_ok (c.in_err-read_role.ensures.again r.0 (role_in_range key r.0 (sound key r.0 r.1)) r.2)))
 
 pub returns-in_err-read_role-clause-call : goal.returns-in_err-read_role-clause-call
 returns-in_err-read_role-clause-call g c =
