@@ -13,6 +13,7 @@ mod PageLemmas
 mod PageOrder
 mod ReadBack
 mod ReadLemmas
+mod Readings
 mod RootedLemmas
 mod SecretTells
 mod TextLemmas

@@ -8,6 +8,8 @@ use Rattle.soundness.proofs.TextLemmas.{id_of}
 use Rattle.std.proofs.lemmas.Option.{MatchOption-at_none}
 use Rattle.soundness.proofs.ReadLemmas.{lease_unread, fails, absent, above}
 use Rattle.records.specs.declared.kind.Kind.TheVariants as kind
+use Rattle.std.proofs.lemmas.Result.{err_from_is_err_and}
+use Rattle.soundness.proofs.Readings.{read_both, read_fails}
 use Rattle.soundness.proofs.credentials.lease.Goals as goal
 
 pub returns-clause-sound : goal.returns-clause-sound
@@ -80,3 +82,17 @@ returns-then-not-branch-2-clause-broken g c honest =
       ),
       read.1,
     )
+
+pub returns-in_err-is_of_lease-clause-call : goal.returns-in_err-is_of_lease-clause-call
+returns-in_err-is_of_lease-clause-call g c =
+    let p = err_from_is_err_and c.from_residual-in_err-is_of_lease.result
+    c.from_residual-in_err-is_of_lease.ensures.1 in
+    rw (p.1, p.2) (read_fails c.in_ok-has_row.ensures.call c.in_err-is_of_lease.ensures.call)
+
+pub returns-then-not-branch-2-clause-call : goal.returns-then-not-branch-2-clause-call
+returns-then-not-branch-2-clause-call g c =
+    read_both c.in_ok-has_row.ensures.call c.in_ok-is_of_lease.ensures.call
+
+pub returns-clause-call : goal.returns-clause-call
+returns-clause-call g c =
+    read_both c.in_ok-has_row.ensures.call c.in_ok-is_of_lease.ensures.call

@@ -12,6 +12,8 @@ use Rattle.std.proofs.lemmas.Bool.{false≢true}
 use Rattle.soundness.proofs.BrokenLemmas.{list_all_from}
 use Rattle.soundness.proofs.ReadLemmas.{fails}
 use Rattle.records.specs.declared.kind.Kind.TheVariants as kind
+use Rattle.std.proofs.lemmas.Result.{err_from_is_err_and}
+use Rattle.soundness.proofs.Readings.{read_both, read_fails}
 use Rattle.soundness.proofs.tokens.token.Goals as goal
 
 pub returns-clause-sound : goal.returns-clause-sound
@@ -104,3 +106,16 @@ returns-then-not-branch-2-clause-broken g c honest =
       ),
       read.1,
     )
+
+pub returns-in_err-is_named-clause-call : goal.returns-in_err-is_named-clause-call
+returns-in_err-is_named-clause-call g c =
+    let p = err_from_is_err_and c.from_residual-in_err-is_named.result c.from_residual-in_err-is_named.ensures.1 in
+    rw (p.1, p.2) (read_fails c.in_ok-has_parent.ensures.call c.in_err-is_named.ensures.call)
+
+pub returns-then-not-branch-2-clause-call : goal.returns-then-not-branch-2-clause-call
+returns-then-not-branch-2-clause-call g c =
+    read_both c.in_ok-has_parent.ensures.call c.in_ok-is_named.ensures.call
+
+pub returns-clause-call : goal.returns-clause-call
+returns-clause-call g c =
+    read_both c.in_ok-has_parent.ensures.call c.in_ok-is_named.ensures.call

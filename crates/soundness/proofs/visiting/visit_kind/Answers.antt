@@ -1,5 +1,5 @@
 use Rattle.std.proofs.Common.{◌≡◌, ◌≢◌, ◌<◌, ◌-◌, [], List, length, slice_get, Some, refl, sym, ap, ◌∙◌, subst, false}
-use Rattle.std.proofs.Common.{rules}
+use Rattle.std.proofs.Common.{rules, arith}
 use Rattle.std.specs.Prelude.{All, take, string_bytes}
 use Rattle.broker_types.specs.Text.{Text}
 use Rattle.records.specs.declared.row.Row.{Row}
@@ -12,6 +12,8 @@ use Rattle.soundness.proofs.NotingLemmas.{spares_none}
 use Rattle.soundness.proofs.PageLemmas.{none_below, pages_end, pages_go_on}
 use Rattle.soundness.proofs.PageOrder.{last_row}
 use Rattle.soundness.proofs.WalkLemmas.{Passed, PassedBelow, notes_stay, page_more}
+use Rattle.std.proofs.lemmas.Result.{err_from_is_err_and}
+use Rattle.soundness.proofs.Readings.{read_so_far, read_on, read_both, read_fails}
 use Rattle.soundness.proofs.visiting.visit_kind.Goals as goal
 
 pub loop-init : goal.loop-init
@@ -48,7 +50,7 @@ returns-then-len-clause-passed g c honest ends =
     c.args.notes.now c.loop.notes c.visit_each.new.notes c.args.kind from c.deref.result.now c.in_ok-trouble.field-0
     c.in_default.is ends (c.loop.invariant.passed early ends) (c.in_ok-trouble.ensures.passed honest) in
     let all = subst (All (Passed (table_of first) c.visit_each.new.notes)) c.deref.ensures.value more.2 in
-    let short : length page < 16 = search rules in (
+    let short : length page < 16 = omega (arith, c.if-len.true, c.len.ensures) in (
       more.0,
       pages_end first _ _ c.args.kind from 16 page is more.1 all short,
     )
@@ -81,7 +83,7 @@ loop-preserved g c =
           c.in_ok-trouble.field-0
           c.in_default.is ends (c.loop.invariant.passed early ends) (c.in_ok-trouble.ensures.passed honest) in
           let all = subst (All (Passed (table_of first) c.visit_each.new.notes)) c.deref.ensures.value more.2 in
-          let some : 0 < length page = search rules in
+          let some : 0 < length page = omega (arith, c.if-len.false, c.len.ensures) in
           let on = pages_go_on first _ _ c.args.kind from 16 page is more.1 all some in
           let last : slice_get c.deref-in-loop.result.now (length c.deref-in-loop.result.now - 1) ≡ Some on.0 =
           ap (λ (es : List (RowKey × Row)). slice_get es (length es - 1)) c.deref-in-loop.ensures.value ∙ on.1 in (
@@ -111,7 +113,7 @@ loop-preserved g c =
           let is : page ≡ take 16 (rows_from first c.args.kind [] from) =
           c.in_ok-page.ensures.listed listed
           ∙ (λ i. take 16 (rows_from (same i) c.args.kind [] (c.as_str.ensures.value i))) in
-          let some : 0 < length page = search rules in
+          let some : 0 < length page = omega (arith, c.if-len.false, c.len.ensures) in
           let e = last_row page some in
           let last : slice_get c.deref-in-loop.result.now (length c.deref-in-loop.result.now - 1) ≡ Some e.0 =
           ap (λ (es : List (RowKey × Row)). slice_get es (length es - 1)) c.deref-in-loop.ensures.value ∙ e.1 in
@@ -164,3 +166,24 @@ returns-then-len-clause-kept g c honest =
     c.args.notes.now c.loop.notes c.visit_each.new.notes c.args.kind from 16 page c.deref.result.now is
     c.deref.ensures.value c.in_ok-trouble.field-0 c.in_default.is (c.in_ok-trouble.ensures.kept honest)
     (c.loop.invariant.kept early)
+
+pub returns-in_err-page-clause-call : goal.returns-in_err-page-clause-call
+returns-in_err-page-clause-call g c =
+    let p = err_from_is_err_and c.from_residual.result c.from_residual.ensures.1 in
+    rw (p.1, p.2) (read_fails (read_so_far c.loop.invariant.same c.loop.invariant.goes_on) c.in_err-page.ensures.call)
+
+pub returns-in_err-trouble-clause-call : goal.returns-in_err-trouble-clause-call
+returns-in_err-trouble-clause-call g c =
+    let p = err_from_is_err_and c.from_residual-in_err-trouble.result c.from_residual-in_err-trouble.ensures.1 in
+    let so_far = read_so_far c.loop.invariant.same c.loop.invariant.goes_on in
+    rw (p.1, p.2) (read_fails (read_on so_far c.in_ok-page.ensures.call) c.in_err-trouble.ensures.call)
+
+pub returns-in-Some-clause-call : goal.returns-in-Some-clause-call
+returns-in-Some-clause-call g c =
+    let so_far = read_so_far c.loop.invariant.same c.loop.invariant.goes_on in
+    read_both (read_on so_far c.in_ok-page.ensures.call) c.in_ok-trouble.ensures.call
+
+pub returns-then-len-clause-call : goal.returns-then-len-clause-call
+returns-then-len-clause-call g c =
+    let so_far = read_so_far c.loop.invariant.same c.loop.invariant.goes_on in
+    read_both (read_on so_far c.in_ok-page.ensures.call) c.in_ok-trouble.ensures.call
