@@ -1,4 +1,4 @@
-use Rattle.std.proofs.Common.{List, None, Some, Ok, Err, ap, get_or, subst, ◌∙◌}
+use Rattle.std.proofs.Common.{List, length, None, Some, Ok, Err, ap, get_or, sym, subst, ◌∙◌, arith}
 use Rattle.std.proofs.lemmas.Result.{err_from_is_err_and}
 use Rattle.api_json.specs.Objects.{credential_object}
 use Rattle.api_json.specs.Reply.{lease_reply}
@@ -8,6 +8,7 @@ use Rattle.broker_types.specs.Text.{Text}
 use Rattle.broker_model.specs.parts.Place.{at}
 use Rattle.secret_operations.specs.Issuing.{IssuesLease}
 use Rattle.secret_operations.proofs.IssuedAnswers.{acts_issued, acts_not_issued}
+use Rattle.broker_types.specs.Sound.{IsIdentifier}
 use Rattle.secret_operations.proofs.issued.credentials.issue.Goals as goal
 
 pub returns-in_err-lease-clause-told : goal.returns-in_err-lease-clause-told
@@ -49,3 +50,22 @@ returns-clause-told g c is_mount honest b starts new =
     (told honest b starts new)
     (c.in_ok-given.ensures ∙ ap (λ t. reply (lease_reply names.request lease.0 lease.1 (Some (credential_object t)))
     None) credential)
+
+pub put-requires-clause-named : goal.put-requires-clause-named
+put-requires-clause-named g c =
+    subst IsIdentifier (sym (c.as_str.ensures ∙ c.index-own-0.is))
+    (c.requires.own.good 0 c.index-own-0.result (omega (arith, ap length c.requires.own.are)))
+
+pub put-requires-clause-credential : goal.put-requires-clause-credential
+put-requires-clause-credential g c =
+    subst IsIdentifier (sym (c.as_str-2.ensures ∙ c.index-own-1.is))
+    (c.requires.own.good 1 c.index-own-1.result (omega (arith, ap length c.requires.own.are)))
+
+pub returns-clause-readable : goal.returns-clause-readable
+returns-clause-readable g c = c.in_ok-lease.ensures.readable
+
+pub returns-clause-rows : goal.returns-clause-rows
+returns-clause-rows g c = c.in_ok-lease.ensures.rows
+
+pub returns-clause-call : goal.returns-clause-call
+returns-clause-call g c = record { faults = tt; goes_on = c.in_ok-lease.ensures.call.goes_on }

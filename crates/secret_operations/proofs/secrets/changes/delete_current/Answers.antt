@@ -1,4 +1,5 @@
-use Rattle.std.proofs.Common.{ap, sym, ◌∙◌}
+use Rattle.std.proofs.Common.{Err, ap, sym, ◌∙◌}
+use Rattle.std.proofs.lemmas.Result.{err_from_is_err_and}
 use Rattle.records.specs.Parts.{of_secrets}
 use Rattle.records.specs.Table.{table_of}
 use Rattle.kv2.specs.SecretRows.{current_of}
@@ -12,6 +13,14 @@ use Rattle.secret_operations.proofs.Changes.{changed_readable}
 use Rattle.secret_operations.proofs.SecretAnswers.{acts_changed}
 use Rattle.secret_operations.proofs.SecretTables.{keeps_outside}
 use Rattle.secret_operations.proofs.secrets.changes.delete_current.Goals as goal
+
+pub returns-in_err-delete-clause-told : goal.returns-in_err-delete-clause-told
+returns-in_err-delete-clause-told g c named good who honest b starts fresh =
+    let p = err_from_is_err_and c.from_residual.result c.from_residual.ensures.1 in
+    rw (p.1 ∙ ap Err p.2)
+    (c.in_err-delete.ensures.wants honest forms b starts.represents.sound.secrets
+    (tells_part of_secrets b (g.T.RecordsTx.seen c.args.tx.now).rows starts.represents)
+    (is_secret_name c.args.mount.now c.args.path.now named (record { good = good; utf8 = c.utf8.path })))
 
 pub returns-clause-told : goal.returns-clause-told
 returns-clause-told g c named good who honest b starts fresh =
