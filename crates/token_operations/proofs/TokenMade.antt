@@ -3,7 +3,7 @@ use Rattle.std.specs.Prelude.{◌≡◌, ◌==◌, length, [], ◌∷◌, true, 
 use Rattle.std.proofs.Common.{refl, ◌∙◌, ap, subst}
 use Rattle.std.proofs.lemmas.Bool.{true≢false}
 use Rattle.broker_types.specs.Broker.{Broker}
-use Rattle.broker_types.specs.Map.{get, empty}
+use Rattle.broker_types.specs.Map.{get}
 use Rattle.broker_types.specs.Names.{Names}
 use Rattle.broker_types.specs.Operation as operation
 use Rattle.broker_types.specs.Text.{Text}
@@ -11,15 +11,13 @@ use Rattle.broker_types.specs.Token.{Token}
 use Rattle.broker_types.specs.TokenText.{token_text}
 use Rattle.broker_types.specs.Used.{use_up}
 use Rattle.broker_types.specs.declared.reply.Reply.{Reply}
-use Rattle.records.specs.Parts.{Tells, KeepsOthers, of_tokens, of_used}
+use Rattle.records.specs.Parts.{KeepsOthers, of_tokens, of_used}
 use Rattle.records.specs.RowForms.{used_row}
-use Rattle.records.specs.Table.{Table, table_of, with_row}
+use Rattle.records.specs.Table.{Table, with_row}
 use Rattle.records.specs.TokenEntry.{token_entry}
 use Rattle.records.specs.Transaction.{Rows}
 use Rattle.records.specs.declared.kind.Kind.TheVariants as kind
-use Rattle.token_tree.specs.SoundLaws.{create_sound}
-use Rattle.token_tree.specs.Tokens.{MayBeMade, with_token}
-use Rattle.broker_model.specs.Forms.{forms}
+use Rattle.token_tree.specs.Tokens.{created, with_token}
 use Rattle.broker_model.specs.parts.TokenCommands.{of_made}
 use Rattle.broker_model.specs.parts.TokenReplies.{auth_reply}
 use Rattle.broker_model.specs.parts.Tokens.{made}
@@ -29,27 +27,19 @@ use Rattle.broker_rows.specs.Representing.{Represents}
 use Rattle.broker_rows.specs.Done.{IsDone}
 use Rattle.broker_rows.specs.declared.answered.Answered.TheVariants.{Made}
 use Rattle.broker_rows.specs.RepresentingLaws.{tokens_long}
-use Rattle.token_operations.proofs.TokenTables.{represents-created}
 
 -- ---- what is made
 
-module _ {who : Option Text} (b : Broker) (names : Names) (x : Token) (old mid new : Rows) (st : Represents who old b)
-    (can : MayBeMade forms b (token_text names.token) x) (bare : x.cubbyhole ≡ empty)
-    (named : x.accessor ≡ names.accessor) where
-  -- the token was made, both identifiers were marked, and the reply shows it
-  pub made_done : Tells of_tokens (table_of mid) (with_token b (token_text names.token) x)
-      → KeepsOthers of_tokens (table_of old) (table_of mid)
-      → table_of new ≡ with_row (with_row (table_of mid) kind.Used x.accessor used_row) kind.Used names.token used_row
-      → (r : Reply) (a : Text) → r ≡ auth_reply names.request b.clock (token_text names.token) (token_entry x)
-      → a ≡ x.accessor
-      → IsDone who new (Made r a) (made b names x)
-  made_done tells others marks r a shown given = (
-    λ i. operation.reply (shown i) (Some ((given ∙ named) i)),
-    subst (λ i. Represents who new (record
-        (with_token b (token_text names.token) x) { used = use_up b.used (names.token ∷ i ∷ []) })) named
-        (represents-created b (token_text names.token) x old st can mid new bare
-        (create_sound b (token_text names.token) x forms who st.sound can) tells others marks),
-  )
+-- the token was made, both identifiers were marked, and the reply shows it
+pub made_done : {who : Option Text} (b : Broker) (names : Names) (x : Token) (new : Rows)
+    → x.accessor ≡ names.accessor → Represents who new (created b (token_text names.token) x)
+    → (r : Reply) (a : Text) → r ≡ auth_reply names.request b.clock (token_text names.token) (token_entry x)
+    → a ≡ x.accessor → IsDone who new (Made r a) (made b names x)
+made_done {who} b names x new named st r a shown given = (
+  λ i. operation.reply (shown i) (Some ((given ∙ named) i)),
+  subst (λ i. Represents who new (record
+      (with_token b (token_text names.token) x) { used = use_up b.used (names.token ∷ i ∷ []) })) named st,
+)
 
 -- whatever the rows are, no other row has changed
 pub made_others : (old mid new : Table) (i j : Text) → KeepsOthers of_tokens old mid

@@ -1,16 +1,23 @@
 //! Creation of tokens.
 
 ghost use Rattle.std.specs.Prelude.{◌≡◌, false, Option, IfOk, OnOk};
-ghost use Rattle.broker_types.specs.Fault.{IsNotBadStart};
+ghost use Rattle.broker_types.specs.Broker.{Broker};
+ghost use Rattle.broker_types.specs.Fault.{IsMemoryOrStorage, IsNotBadStart};
+ghost use Rattle.broker_types.specs.Map.{empty};
 ghost use Rattle.broker_types.specs.Names.{names_of};
 ghost use Rattle.broker_types.specs.Text.{Text};
+ghost use Rattle.broker_types.specs.Token.{Token};
+ghost use Rattle.broker_types.specs.TokenText.{token_text};
 ghost use Rattle.broker_types.specs.declared.ask.Verb.TheVariants as verb;
-ghost use Rattle.records.specs.Calls.{OnRefused, IsRequestCall};
+ghost use Rattle.records.specs.Calls.{OnRefused, IsCall, IsRequestCall};
 ghost use Rattle.records.specs.Ranges.{IsTokenInRange};
+ghost use Rattle.records.specs.TokenEntry.{token_entry};
 ghost use Rattle.records.specs.Transaction.{IsHonest};
+ghost use Rattle.token_tree.specs.Tokens.{MayBeMade, created};
 ghost use Rattle.api_json.specs.Kept.{IsKeptCreation};
 ghost use Rattle.policies.specs.Allows.{allows};
 ghost use Rattle.policies.specs.declared.capability.Capability.TheVariants as capability;
+ghost use Rattle.broker_model.specs.Forms.{forms};
 ghost use Rattle.broker_model.specs.Traits.{token_names};
 ghost use Rattle.broker_model.specs.parts.TokenCommands.{of_made};
 ghost use Rattle.broker_model.specs.parts.TokenCreation.{making_path};
@@ -19,6 +26,7 @@ ghost use Rattle.broker_rows.specs.Caller.{AreItsRules, IsCallerAt};
 ghost use Rattle.broker_rows.specs.Changed.{ChangesOnly};
 ghost use Rattle.broker_rows.specs.Ending.{KeepsUses, has_no_uses};
 ghost use Rattle.broker_rows.specs.Operating.{ArePrinted, PerformsBy};
+ghost use Rattle.broker_rows.specs.Representing.{Represents};
 ghost use Rattle.token_operations.specs.TokenMaking.{MayMakeAt, PutsToken};
 
 use crate::new_policies::new_policies;
@@ -27,9 +35,10 @@ use crate::shown::auth_reply;
 use api_json::TokenCreation;
 use broker_model::Making;
 use broker_rows::{Answered, Asker, Context, token_text, use_up};
-use broker_types::{Denial, Refusal, RequestError, TextBuf, Verb, id_text};
+use broker_types::{Denial, Fault, Refusal, RequestError, TextBuf, Verb};
 use policies::{Capability, Rules, allows_with};
 use records::{RecordsTx, TokenRecord};
+use std::alloc::Global;
 use token_tree::create as create_token;
 
 /// Makes the token that is asked for, if the caller may. The identifiers of the request are new, and have been printed.
@@ -39,21 +48,21 @@ pub(crate) fn create<T: RecordsTx>(
     asker: &Asker<'_>,
     own: &[TextBuf],
     making: Making,
-    asked: TokenCreation,
+    asked: &TokenCreation,
 ) -> Result<Answered, RequestError>
-    requires kept { IsKeptCreation asked }
+    requires kept { IsKeptCreation asked.now }
     requires known { IsTokenInRange asker.now.caller.known }
     requires own { ArePrinted own.now (token_names (names_of context.now.words)) }
     ensures told { AreItsRules (T.seen tx.old).rows asker.now
         → PerformsBy asker.now.caller context.now (token_names (names_of context.now.words))
         (T.seen tx.old) (T.seen tx.new)
-        (λ b. part.create b asker.now.caller.token (names_of context.now.words) making asked) result }
+        (λ b. part.create b asker.now.caller.token (names_of context.now.words) making asked.now) result }
 
     // Whatever the rows are: it is made only if the row of the caller and those of its policies say that the caller
     // may.
     ensures may { IsHonest (T.seen tx.new) → IsCallerAt (T.seen tx.old).rows asker.now.caller
         → AreItsRules (T.seen tx.old).rows asker.now
-        → OnOk result (MayMakeAt (T.seen tx.old).rows asker.now.caller.token making asked) }
+        → OnOk result (MayMakeAt (T.seen tx.old).rows asker.now.caller.token making asked.now) }
 
     // And no row changes but those of tokens and identifiers. The new token has uses left, and no other loses its last.
     ensures rows { IsHonest (T.seen tx.new)
@@ -68,12 +77,12 @@ pub(crate) fn create<T: RecordsTx>(
         return Err(RequestError::Refused(Refusal::Forbidden(Denial::BadToken)));
     }
     let privileged = has_sudo(&asker.rules, making);
-    let policies = new_policies(alloc, privileged, &caller.known, &asked)?;
-    check(privileged, making, &caller.known, &policies, &asked)?;
-    let parent = new_parent(alloc, caller.token, making, &asked)?;
+    let policies = new_policies(alloc, privileged, &caller.known, asked)?;
+    check(privileged, making, &caller.known, &policies, asked)?;
+    let parent = new_parent(alloc, caller.token, making, asked)?;
     let accessor = TextBuf::copied(alloc, own[1].as_str())?;
-    let token = new_record(alloc, context.clock, parent, accessor, policies, &asked)?;
-    put(tx, context, own[0].as_str(), token)
+    let token = new_record(alloc, context.clock, parent, accessor, policies, asked)?;
+    make(tx, context, own[0].as_str(), token)
 }
 
 /// Whether rules allow `sudo` for a write to the path of the route that makes the token. By it a caller may give more
@@ -84,8 +93,8 @@ fn has_sudo(rules: &Rules, making: Making) -> bool
     allows_with(rules, Verb::Write, making.path(), Capability::Sudo)
 }
 
-/// Writes a new token, and marks its identifiers as given out.
-fn put<T: RecordsTx>(
+/// Makes a token, and answers with it.
+fn make<T: RecordsTx>(
     tx: &mut T,
     context: &Context<'_>,
     identifier: &str,
@@ -104,13 +113,33 @@ fn put<T: RecordsTx>(
     ensures refused { IsHonest (T.seen tx.new) → OnRefused result ((T.seen tx.new).rows ≡ (T.seen tx.old).rows) }
     ensures call { IsRequestCall (T.seen tx.old) (T.seen tx.new) result IsNotBadStart }
 {
-    let alloc = context.alloc;
+    let (text, accessor) = put(tx, context.alloc, identifier, &token)?;
+    Ok(Answered::Made(auth_reply(context, text, token)?, accessor))
+}
+
+/// Writes a new token, marks its identifiers as given out, and answers its text and a copy of its accessor.
+fn put<T: RecordsTx>(
+    tx: &mut T,
+    alloc: Global,
+    identifier: &str,
+    token: &TokenRecord,
+) -> Result<(TextBuf, TextBuf), Fault>
+    requires { IsTokenInRange token.now }
+    ensures texts { IfOk result (λ texts. texts ≡ (token_text identifier.now, token.now.accessor)) }
+    ensures told { IsHonest (T.seen tx.new) → (who : Option Text) (b : Broker) (x : Token)
+        → Represents who (T.seen tx.old).rows b → token_entry x ≡ token.now
+        → MayBeMade forms b (token_text identifier.now) x → x.cubbyhole ≡ empty
+        → OnOk result (Represents who (T.seen tx.new).rows (created b (token_text identifier.now) x)) }
+    ensures rows { IsHonest (T.seen tx.new)
+        → OnOk result (ChangesOnly of_made (T.seen tx.old).rows (T.seen tx.new).rows) }
+    ensures uses { IsHonest (T.seen tx.new) → has_no_uses token.now ≡ false
+        → OnOk result (KeepsUses (T.seen tx.old).rows (T.seen tx.new).rows) }
+    ensures call { IsCall (T.seen tx.old) (T.seen tx.new) result IsMemoryOrStorage }
+{
     let text = token_text(alloc, identifier)?;
-    let request = id_text(alloc, context.words.request())?;
     let accessor = TextBuf::copied(alloc, token.accessor.as_str())?;
-    create_token(alloc, tx, text.as_str(), &token)?;
+    create_token(alloc, tx, text.as_str(), token)?;
     use_up(alloc, tx, accessor.as_str())?;
     use_up(alloc, tx, identifier)?;
-    let reply = auth_reply(alloc, request.as_str(), context.clock, text.as_str(), token)?;
-    Ok(Answered::Made(reply, accessor))
+    Ok((text, accessor))
 }

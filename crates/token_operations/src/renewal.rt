@@ -23,7 +23,7 @@ ghost use Rattle.broker_rows.specs.ReadableRow.{IsReadableToken};
 use crate::LONGEST_TTL;
 use crate::shown::auth_reply;
 use broker_rows::{Answered, Context};
-use broker_types::{Denial, Moment, Reason, Refusal, RequestError, Seconds, id_text};
+use broker_types::{Denial, Moment, Reason, Refusal, RequestError, Seconds, TextBuf};
 use records::{Due, RecordsTx, TokenRecord};
 use token_tree::{find, renew as renew_token};
 
@@ -82,8 +82,8 @@ fn renew_found<T: RecordsTx>(
     }
     let ends = new_end(context.clock, &found, increment);
     let renewed = renew_token(alloc, tx, token, found, ends)?;
-    let request = id_text(alloc, context.words.request())?;
-    Ok(Answered::Given(auth_reply(alloc, request.as_str(), context.clock, token, renewed)?))
+    let text = TextBuf::copied(alloc, token)?;
+    Ok(Answered::Given(auth_reply(context, text, renewed)?))
 }
 
 /// The new end of a token that has one.

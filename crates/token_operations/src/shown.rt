@@ -1,14 +1,17 @@
 //! What replies show of a token.
 
-ghost use Rattle.std.specs.Prelude.{◌≡◌, IfOk, None};
+ghost use Rattle.std.specs.Prelude.{◌≡◌, ℕ, IfOk, None};
+ghost use Rattle.broker_types.specs.Names.{names_of};
 ghost use Rattle.broker_types.specs.Sound.{IsEnd};
+ghost use Rattle.broker_types.specs.Text.{Text};
 ghost use Rattle.records.specs.Ranges.{IsTokenInRange};
 ghost use Rattle.records.specs.Reading.{IsSomeIn};
+ghost use Rattle.records.specs.TokenEntry.{TokenEntry};
 ghost use Rattle.broker_model.specs.parts.TokenReplies as part;
 
 use api_json::{AuthObject, EndTime, Pairs, Texts, TokenObject, auth_object};
-use broker_rows::moment;
-use broker_types::{Moment, Reply, TextBuf};
+use broker_rows::{Context, moment};
+use broker_types::{Moment, Reply, TextBuf, id_text};
 use records::{Due, TokenRecord};
 use std::alloc::{AllocError, Global};
 
@@ -39,33 +42,48 @@ pub(crate) fn looked_up(
     })
 }
 
-/// The reply that shows a token that was made or renewed.
+/// The reply that shows a token that was made or renewed, under its text.
 pub(crate) fn auth_reply(
-    alloc: Global,
-    request: &str,
-    now: Moment,
-    token: &str,
-    found: TokenRecord,
+    context: &Context<'_>,
+    text: TextBuf,
+    token: TokenRecord,
 ) -> Result<Reply, AllocError>
-    ensures { IfOk result (λ r. r ≡ part.auth_reply request.now now token.now found) }
+    ensures { IfOk result (λ r. r
+        ≡ part.auth_reply (names_of context.now.words).request context.now.clock text token) }
 {
-    let auth = AuthObject {
+    reply_of(context, &auth_of(context.clock, text, token))
+}
+
+/// A token that was made or renewed, under its text.
+fn auth_of(now: Moment, text: TextBuf, found: TokenRecord) -> AuthObject
+    ensures { result ≡ part.auth_of now text found }
+{
+    AuthObject {
         accessor: found.accessor,
-        client_token: TextBuf::copied(alloc, token)?,
+        client_token: text,
         lease_duration: seconds_left(now, found.ends),
         metadata: Pairs::new(found.meta),
         num_uses: found.uses_left.unwrap_or(0),
         orphan: found.parent.is_none(),
         policies: Texts::new(found.policies),
         renewable: found.ends.is_some(),
-    };
+    }
+}
+
+/// The reply that shows what is printed so.
+fn reply_of(context: &Context<'_>, shown: &AuthObject) -> Result<Reply, AllocError>
+    ensures { (now : ℕ) (t : Text) (x : TokenEntry) → shown.now ≡ part.auth_of now t x
+        → IfOk result (λ r. r ≡ part.auth_reply (names_of context.now.words).request now t x) }
+{
+    let auth = auth_object(context.alloc, shown)?;
+    let request = id_text(context.alloc, context.words.request())?;
     Ok(Reply {
-        auth: Some(auth_object(alloc, &auth)?),
+        auth: Some(auth),
         payload: None,
         lease_duration: 0,
-        lease_id: TextBuf::new(String::new(alloc)),
+        lease_id: TextBuf::new(String::new(context.alloc)),
         renewable: false,
-        request_id: TextBuf::copied(alloc, request)?,
+        request_id: TextBuf::new(request),
         wrap_info: None,
     })
 }

@@ -123,7 +123,7 @@ pub fn act_on_tokens<T: RecordsTx>(
 {
     let alloc = context.alloc;
     match command {
-        TokenCommand::Create(making, asked) => create(tx, context, asker, own, making, asked),
+        TokenCommand::Create(making, asked) => create(tx, context, asker, own, making, &asked),
         TokenCommand::LookUp(token) => look_up(tx, context, token.as_str(), token.as_str()),
         TokenCommand::LookUpAccessor(accessor) => {
             look_up_accessor(tx, context, accessor.as_str())

@@ -2,6 +2,7 @@ use Rattle.std.specs.Prelude.{◌≢◌, ◌==◌, All, List, []}
 use Rattle.std.proofs.Common.{◌≡◌, ◌∷◌, false, Ok, Err, Some, ap, get_or, length, refl, sym, ◌∙◌, subst}
 use Rattle.std.proofs.lemmas.Bool.{false≢true}
 use Rattle.std.proofs.lemmas.List.Elements.{All-head, All-tail}
+use Rattle.std.proofs.lemmas.Option.{none-some}
 use Rattle.std.proofs.lemmas.Result.{err_from_is_err_and}
 use Rattle.broker_types.specs.Map.{get}
 use Rattle.broker_types.specs.Names.{Names, names_of}
@@ -28,6 +29,7 @@ use Rattle.token_operations.specs.TokenEntries.{token_told, new_entry}
 use Rattle.token_operations.specs.TokenRanges.{AreTokenNames, IsInRange}
 use Rattle.token_operations.proofs.TokenCreations.{each_pair, parent_named, sudo_at, sudo_told, create_refused}
 use Rattle.token_operations.proofs.TokenCreations.{create_made, same_may, same_policies_told}
+use Rattle.token_operations.proofs.TokenMade.{no_empty_token}
 use Rattle.token_operations.proofs.TokenPolicies.{ArePolicies, IsPolicyName, each_passes, new_policies_are}
 use Rattle.token_operations.proofs.TokenRecords.{new_in_range, new_policies_short, same_new}
 use Rattle.token_operations.proofs.TokenSound.{may_be_made, sound_policies}
@@ -47,9 +49,9 @@ printed own names are =
 not_empty : (t : Text) → false ≡ (length t == 0) → t ≢ []
 not_empty t some none = false≢true (some ∙ ap (λ (x : Text). length x == 0) none)
 
-pub put-requires : goal.put-requires
-put-requires g c =
-    let asked = c.args.asked in
+pub make-requires : goal.make-requires
+make-requires g c =
+    let asked = c.args.asked.now in
     let making = c.args.making in
     let privileged = c.has_sudo-privileged.result in
     let e = c.caller.inside.known in
@@ -81,9 +83,17 @@ put-requires g c =
     (subst (ArePolicies IsShortText) (sym c.in_ok-policies.ensures)
     (new_policies_short privileged e asked read names range)) range)
 
+pub returns-then-is_empty-clause-told : goal.returns-then-is_empty-clause-told
+returns-then-is_empty-clause-told g c are honest b starts fresh =
+    let rows = (g.T.RecordsTx.seen c.args.tx.now).rows in
+    let none = c.if-is_empty.ensures ∙ ap (λ (x : Caller). length x.token == 0)
+    (c.caller.view_is ∙ ap (λ (a : Asker). a.caller) c.asker.view_is) in
+    absurd (none-some _
+    (no_empty_token b rows starts.begins.represents c.args.asker.now.caller.token none ∙ sym starts.caller))
+
 pub returns-in_err-check-clause-told : goal.returns-in_err-check-clause-told
 returns-in_err-check-clause-told g c are honest b starts fresh =
-    let asked = c.args.asked in
+    let asked = c.args.asked.now in
     let making = c.args.making in
     let asker = c.args.asker.now in
     let caller = asker.caller.token in
@@ -113,7 +123,7 @@ returns-in_err-check-clause-told g c are honest b starts fresh =
 pub returns-clause-may : goal.returns-clause-may
 returns-clause-may g c honest at are =
     let rows = (g.T.RecordsTx.seen c.args.tx.now).rows in
-    let asked = c.args.asked in
+    let asked = c.args.asked.now in
     let making = c.args.making in
     let asker = c.args.asker.now in
     let e = asker.caller.known in
@@ -125,7 +135,7 @@ returns-clause-may g c honest at are =
     c.asker.view_is in
     let given = c.deref.ensures.value ∙ c.in_ok-policies.ensures
     ∙ ap (λ (y : TokenEntry). new_policies privileged (token_told y) asked) known in
-    on_ok c.put.result (record {
+    on_ok c.make.result (record {
       caller = e;
       in_range = c.requires.known;
       row = at;
@@ -137,11 +147,11 @@ returns-clause-may g c honest at are =
 
 pub returns-clause-uses : goal.returns-clause-uses
 returns-clause-uses g c honest =
-    c.put.ensures.uses honest (ap has_no_uses c.in_ok-token.ensures.entry ∙ limit_unspent c.args.asked.num_uses)
+    c.make.ensures.uses honest (ap has_no_uses c.in_ok-token.ensures.entry ∙ limit_unspent c.args.asked.now.num_uses)
 
 pub returns-clause-told : goal.returns-clause-told
 returns-clause-told g c are honest b starts fresh =
-    let asked = c.args.asked in
+    let asked = c.args.asked.now in
     let making = c.args.making in
     let asker = c.args.asker.now in
     let caller = asker.caller.token in
@@ -197,13 +207,13 @@ returns-clause-told g c are honest b starts fresh =
     let can = may_be_made forms (Some caller) b st.sound names good fresh caller making given asked range
     (starts.begins.here caller refl) policies_are in
     rw (create_made b caller names making asked x.0 x.1 c.in_ok-check.field-0 may)
-    (c.put.ensures.told (Some caller) token honest b starts.begins new entry can refl refl)
+    (c.make.ensures.told (Some caller) token honest b starts.begins new entry can refl refl)
 
 pub returns-clause-rows : goal.returns-clause-rows
-returns-clause-rows g c = c.put.ensures.rows
+returns-clause-rows g c = c.make.ensures.rows
 
 pub returns-clause-refused : goal.returns-clause-refused
-returns-clause-refused g c = c.put.ensures.refused
+returns-clause-refused g c = c.make.ensures.refused
 
 pub returns-clause-call : goal.returns-clause-call
-returns-clause-call g c = c.put.ensures.call
+returns-clause-call g c = c.make.ensures.call

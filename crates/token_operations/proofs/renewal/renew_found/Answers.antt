@@ -1,15 +1,11 @@
-use Rattle.std.specs.Prelude.{Ok, Some, is_some, not}
-use Rattle.std.proofs.Common.{refl, sym, ap, ◌∙◌, subst}
-use Rattle.broker_types.specs.Identifier.{id}
+use Rattle.std.specs.Prelude.{Some, is_some, not}
+use Rattle.std.proofs.Common.{◌≡◌, refl, sym, ap, ◌∙◌}
 use Rattle.broker_types.specs.Names.{names_of}
 use Rattle.records.specs.CallLaws.{honest_before}
 use Rattle.records.specs.TokenEntry.{TokenEntry}
 use Rattle.broker_model.specs.Forms.{forms}
 use Rattle.broker_model.specs.parts.TokenReplies.{auth_reply}
-use Rattle.broker_model.specs.parts.Tokens.{renew}
 use Rattle.broker_rows.specs.Context.{Context}
-use Rattle.broker_rows.specs.Operating.{ActsAs}
-use Rattle.broker_rows.specs.declared.answered.Answered.TheVariants.{Given}
 use Rattle.broker_rows.specs.RepresentingLaws.{represents_tokens}
 use Rattle.token_operations.proofs.TokenRenewals.{acts_endless, acts_renewed}
 use Rattle.token_operations.proofs.TokenTables.{represents-renewed}
@@ -24,30 +20,27 @@ returns-then-is_none-clause-told g c honest who b starts here =
     (ap (λ (e : TokenEntry). is_some e.ends) (sym c.found.view_is) ∙ c.is_none.ensures ∙ ap not c.if-is_none.true)
 
 pub returns-clause-told : goal.returns-clause-told
-unfolding names_of
 returns-clause-told g c honest who b starts here =
     let seen = g.T.RecordsTx.seen in
     let old = (seen c.args.tx.now).rows in
     let new = (seen c.renew.new.tx).rows in
     let t = c.args.token.now in
-    let asked = c.args.increment in
+    let names = names_of c.args.context.now.words in
     let ends = c.new_end-ends.result in
     let now = c.context.inside.clock in
+    let clock : now ≡ c.args.context.now.clock = ap (λ (x : Context). x.clock) c.context.view_is in
     let st = starts.represents in
-    subst (λ (x : Context). ActsAs who b new (Ok (Given c.in_ok-auth_reply.field-0))
-    (renew b (names_of x.words) t asked)) c.context.view_is
-    (acts_renewed b new who t (names_of c.context.inside.words.now) asked (Some c.args.found) here
-    c.as_str.result.now now ends c.args.found c.in_ok-auth_reply.field-0
-    (sym (c.as_str.ensures.value ∙ c.in_ok-request.ensures ∙ ap id c.request.ensures))
-    (starts.clock ∙ sym (ap (λ (x : Context). x.clock) c.context.view_is)) refl
+    acts_renewed b new who t names c.args.increment (Some c.args.found) here names.request now ends c.args.found
+    c.in_ok-auth_reply.field-0 refl
+    (starts.clock ∙ sym clock) refl
     (ap (λ (e : TokenEntry). is_some e.ends) (sym c.found.view_is) ∙ c.is_none.ensures ∙ ap not c.if-is_none.false)
     c.new_end-ends.ensures.is
     (c.in_ok-auth_reply.ensures
-    ∙ ap (auth_reply c.as_str.result.now now t) c.in_ok-renewed.ensures.renewed)
+    ∙ (λ i. auth_reply names.request (sym clock i) (c.in_ok-text.ensures i) (c.in_ok-renewed.ensures.renewed i)))
     (represents-renewed b t ends old new st
     c.new_end-ends.ensures.near
     (c.in_ok-renewed.ensures.told honest forms b (represents_tokens b old st) here)
-    (c.in_ok-renewed.ensures.call.others honest)))
+    (c.in_ok-renewed.ensures.call.others honest))
 
 pub returns-clause-uses : goal.returns-clause-uses
 returns-clause-uses g c honest =

@@ -1,0 +1,9 @@
+use Rattle.std.proofs.Common.{◌∙◌, ap}
+use Rattle.broker_model.specs.parts.TokenReplies.{auth_of}
+use Rattle.broker_rows.specs.Context.{Context}
+use Rattle.token_operations.proofs.shown.auth_reply.Goals as goal
+
+pub returns : goal.returns
+returns c =
+    c.reply_of.ensures c.args.context.now.clock c.args.text c.args.token
+    (c.auth_of.ensures ∙ ap (λ (x : Context). auth_of x.clock c.args.text c.args.token) c.context.view_is)
