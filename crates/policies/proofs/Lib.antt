@@ -7,5 +7,4 @@ pub mod PoliciesGathered
 pub mod PoliciesListed
 pub mod PolicyEdits
 pub mod PolicyTold
-pub mod ReadItems
 pub mod Stars

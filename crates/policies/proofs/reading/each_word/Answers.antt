@@ -3,7 +3,7 @@ use Rattle.std.proofs.lemmas.List.{at_drop_more}
 use Rattle.serde_json.specs.View.{view, items_view}
 use Rattle.api_json.specs.Kinds.{each_item}
 use Rattle.policies.specs.Reading.{word}
-use Rattle.policies.proofs.ReadItems.{one_more}
+use Rattle.api_json.proofs.Gathering.{one_more}
 use Rattle.policies.proofs.reading.each_word.Goals as goal
 
 pub loop-item-preserved : goal.loop-item-preserved

@@ -1,6 +1,6 @@
 use Rattle.std.proofs.Common.{◌≡◌}
 use Rattle.serde_json.specs.View.{members_view}
-use Rattle.policies.proofs.ReadItems.{onto}
+use Rattle.api_json.proofs.Gathering.{onto}
 use Rattle.policies.specs.Reading.{rules_in}
 use Rattle.policies.proofs.reading.rules_in.Given as goal
 
