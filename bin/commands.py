@@ -11,6 +11,10 @@ from dataclasses import dataclass
 LAST = re.compile(r"^(\d+) passed, (\d+) failed(?:, (\d+) skipped)?$", re.MULTILINE)
 SECONDS_TO_END = 10  # until what was asked to end is killed
 
+# Linux divides the processors among sessions first, and only the share of each by `nice` (sched(7), "The autogroup
+# feature"): so the session has to be nice too. Where there are no such shares, `nice` is enough.
+GIVING_WAY = ("sh", "-c", '{ echo "$0" > /proc/self/autogroup; } 2> /dev/null; exec nice -n "$0" "$@"')
+
 
 class Stopped(Exception):
     """Somebody stops the gate."""
@@ -44,10 +48,11 @@ def counts_of(said, status):
 
 class Command:
     """A command in a session of its own, whose output goes to a file, and what it says on standard error too, or to
-    another file."""
+    another file. The nicer it is, the more it gives way to others."""
 
-    def __init__(self, words, log, errors=None, **how):
+    def __init__(self, words, log, errors=None, niceness=0, **how):
         self.log, self.began = log, time.monotonic()
+        words = [*GIVING_WAY, str(niceness), *words] if niceness else words
         with open(log, "wb") as output, open(errors or os.devnull, "wb") as apart:
             self.process = subprocess.Popen(words, stdin=subprocess.DEVNULL, stdout=output, start_new_session=True,
                                             stderr=apart if errors else subprocess.STDOUT, **how)

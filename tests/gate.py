@@ -24,6 +24,7 @@ CRATES = "# layers\nlow:\nbrokerd: low\nclient: low\ntrial_stores: low\ntrial_re
 # named after a crate or a script has it do something else.
 RT = """#!/bin/bash
 echo "$*" >> "$TOLD/rt"
+[ ! -e /proc/$$/autogroup ] || sed "s/.*nice/$1/" /proc/$$/autogroup >> "$TOLD/gives_way"
 if [ "$1" = try ]; then
     [ -e "$TOLD/tests_low" ] && . "$TOLD/tests_low"
     printf 'tests: 2\\ntest a ... ok\\ntest b::c ... ok\\n'
@@ -52,6 +53,7 @@ echo '2 passed, 0 failed'
 """
 EDITS = """#!/bin/bash
 echo "$*" >> "$TOLD/edits"
+[ ! -e /proc/$$/autogroup ] || sed 's/.*nice/edits/' /proc/$$/autogroup >> "$TOLD/gives_way"
 echo 'low/a-b-c: refused: a goal'
 [ -e "$TOLD/low_edits" ] && . "$TOLD/low_edits"
 echo 'low/d-e-f: refused: a goal'
@@ -140,6 +142,8 @@ def passes(checkout):
     called = sorted(it.split(" --seconds")[0] for it in checkout.ran("rt"))
     yield "proofs and tests", called == ["ci --anew", "try --test"]
     yield "no limit of the edits", re.fullmatch(r"--gate --anew --libraries \S+ --log \S+", *checkout.ran("edits"))
+    gives_way = sorted(checkout.ran("gives_way"))
+    yield "what gives way", gives_way in ([], ["ci 10", "edits 19", "try 15"])
     yield "the minutes of a crate", "\n| `low` | 0.1 | | | |\n" in said
     yield "the minutes of a script", "\n| `tests/rows.sh` | 0.0 | 0.0 |\n" in said
     yield "the programs", all((checkout.top / f"crates/{it}/out/{it}").is_file() for it in PROGRAMS)
