@@ -6,7 +6,7 @@ use Rattle.records.specs.Transaction.{Rows}
 use Rattle.broker_rows.specs.Caller.{Asker}
 use Rattle.broker_rows.specs.Context.{Context}
 use Rattle.broker_rows.specs.Representing.{Represents}
-use Rattle.broker.specs.Askers.{BeginsFor, IsAskerAt, who_of}
+use Rattle.broker.specs.Askers.{BeginsFor, who_of}
 
 -- the rows that a command starts from represent the broker
 pub begins_represented : (asker : Option Asker) (x : Context) (rows : Rows) (b : Broker) → BeginsFor asker x rows b
@@ -25,7 +25,3 @@ pub begins_still : (asker : Option Asker) (x : Context) (old new : Rows) (b : Br
     → BeginsFor asker x old b
     → BeginsFor asker x new b
 begins_still asker x old new b same begins = subst (λ (rows : Rows). BeginsFor asker x rows b) (sym same) begins
-
--- and they say the same of who asks
-pub asker_still : (asker : Option Asker) (old new : Rows) → new ≡ old → IsAskerAt old asker → IsAskerAt new asker
-asker_still asker old new same at = subst (λ (rows : Rows). IsAskerAt rows asker) (sym same) at

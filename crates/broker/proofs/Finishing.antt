@@ -1,5 +1,5 @@
 -- The end of a request: from what was served or refused to the outcome.
-use Rattle.std.specs.Prelude.{◌≡◌, Some, None, Result, Ok, Err, IfOk}
+use Rattle.std.specs.Prelude.{◌≡◌, Option, Some, None, Result, Ok, Err, IfOk}
 use Rattle.std.proofs.Common.{◌∙◌, ap}
 use Rattle.broker_types.specs.Text.{Text}
 use Rattle.broker_types.specs.Answer.{response_of, refused}
@@ -15,24 +15,24 @@ use Rattle.broker_rows.specs.declared.answered.Answered.{Answered}
 use Rattle.broker.specs.Stages.{HasServed}
 
 -- whether the caller was served or refused, the rows represent a broker
-pub represents_some : (c : Text) (rows : Rows) (b : Broker) (served : Result Answered Refusal)
-    (m : Result Wrapped Refusal) → HasServed (Some c) rows b served m
-    → (next : Broker) × Represents (Some c) rows next
-represents_some c rows b (Ok x) (Ok w) h = (counted w.done, h.1)
-represents_some c rows b (Ok x) (Err e) h = absurd h
-represents_some c rows b (Err r) (Ok w) h = absurd h
-represents_some c rows b (Err r) (Err e) h = (b, h.1)
+pub represents_some : (who : Option Text) (rows : Rows) (b : Broker) (served : Result Answered Refusal)
+    (m : Result Wrapped Refusal) → HasServed who rows b served m
+    → (next : Broker) × Represents who rows next
+represents_some who rows b (Ok x) (Ok w) h = (counted w.done, h.1)
+represents_some who rows b (Ok x) (Err e) h = absurd h
+represents_some who rows b (Err r) (Ok w) h = absurd h
+represents_some who rows b (Err r) (Err e) h = (b, h.1)
 
-module _ (c : Text) (old new : Rows) (b : Broker)
-    (ends : (next : Broker) → Represents (Some c) old next → Represents None new (end_spent next (Some c))) where
+module _ (c : Text) (who : Option Text) (old new : Rows) (b : Broker)
+    (ends : (next : Broker) → Represents who old next → Represents None new (end_spent next (Some c))) where
   -- a caller that was served
-  pub finish_served : (x : Answered) (m : Result Wrapped Refusal) (a : Answer) → HasServed (Some c) old b (Ok x) m
+  pub finish_served : (x : Answered) (m : Result Wrapped Refusal) (a : Answer) → HasServed who old b (Ok x) m
       → response_of a ≡ response_to (answered_of x) → Gives a new (finish b (Some c) m)
   finish_served x (Ok w) a h is = record { response = is ∙ ap response_to h.0; represents = ends (counted w.done) h.1 }
   finish_served x (Err e) a h is = absurd h
 
   -- one that was refused
-  pub finish_refused : (r : Refusal) (m : Result Wrapped Refusal) (a : Answer) → HasServed (Some c) old b (Err r) m
+  pub finish_refused : (r : Refusal) (m : Result Wrapped Refusal) (a : Answer) → HasServed who old b (Err r) m
       → response_of a ≡ refused r → Gives a new (finish b (Some c) m)
   finish_refused r (Ok w) a h is = absurd h
   finish_refused r (Err e) a h is = record { response = is ∙ ap refused h.0; represents = ends b h.1 }

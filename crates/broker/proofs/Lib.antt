@@ -1,11 +1,10 @@
 pub mod Asked
-pub mod CommandReads
 pub mod EngineRoutes
 pub mod Finishing
 pub mod KeptReplies
-pub mod KeptUses
 pub mod NeededIdentifiers
 pub mod Permitted
 pub mod RoutedBy
 pub mod Routes
 pub mod Serving
+pub mod UnspentStays

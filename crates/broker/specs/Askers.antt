@@ -1,11 +1,11 @@
 -- Who asks: a caller that may, or nobody, for an open ask (this project's definition).
-use Rattle.std.specs.Prelude.{Option, Some, None, option_map, ⊤}
+use Rattle.std.specs.Prelude.{Option, Some, None, option_map}
 use Rattle.broker_types.specs.Broker.{Broker}
 use Rattle.broker_types.specs.Text.{Text}
 use Rattle.records.specs.Ranges.{IsTokenInRange}
 use Rattle.records.specs.Reading.{IsSomeIn}
 use Rattle.records.specs.Transaction.{Rows}
-use Rattle.broker_rows.specs.Caller.{Asker, AreItsRules, IsCallerAt}
+use Rattle.broker_rows.specs.Caller.{Asker, AreItsRules}
 use Rattle.broker_rows.specs.Context.{Context}
 use Rattle.broker_rows.specs.Operating.{Begins, BeginsBy}
 
@@ -17,11 +17,6 @@ who_of = option_map (λ (a : Asker). a.caller.token)
 abbrev pub BeginsFor : Option Asker → Context → Rows → Broker → Type 0
 BeginsFor None x rows b = Begins None x rows b
 BeginsFor (Some a) x rows b = AreItsRules rows a × BeginsBy a.caller x rows b
-
--- the rows say this of the caller, if there is one
-abbrev pub IsAskerAt : Rows → Option Asker → Type 0
-IsAskerAt rows None = ⊤
-IsAskerAt rows (Some a) = IsCallerAt rows a.caller
 
 -- what its row says can be kept
 abbrev pub IsAskerInRange : Option Asker → Type 0

@@ -1,8 +1,5 @@
-pub mod Answering
 pub mod Askers
-pub mod Laws
 pub mod Meant
-pub mod PermittedRows
 pub mod Safely
 pub mod Stages
 pub mod StoreRows

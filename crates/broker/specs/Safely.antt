@@ -1,12 +1,17 @@
 -- What holds of every answer over a transaction, whatever is asked (this project's definition).
-use Rattle.std.specs.Prelude.{Result, IfOk, IfErr}
+use Rattle.std.specs.Prelude.{ℕ, None, Result, IfOk, IfErr}
 use Rattle.broker_types.specs.Answer.{HasRoom, response_of}
 use Rattle.broker_types.specs.Broker.{Broker}
 use Rattle.broker_types.specs.Fault.{IsMemoryOrStorage}
 use Rattle.broker_types.specs.declared.answer.Answer.{Answer}
+use Rattle.broker_types.specs.declared.ask.Ask.{Ask}
 use Rattle.broker_types.specs.declared.fault.Fault.{Fault}
+use Rattle.broker_types.specs.declared.words.Words.{Words}
 use Rattle.records.specs.Transaction.{Seen, IsHonest, GoesOn, is_storage}
 use Rattle.broker_model.specs.Listed.{IsListed}
+use Rattle.broker_model.specs.Step.{step}
+use Rattle.broker_rows.specs.ClockRow.{NeedsClock}
+use Rattle.broker_rows.specs.Representing.{Gives, Represents}
 
 -- P is what is known of the broker and of the request, among others that the rows represent the broker
 pub record AnswersSafely (old new : Seen) (P : Broker → Type 0) (result : Result Answer Fault) : Type 0 where
@@ -18,3 +23,12 @@ pub record AnswersSafely (old new : Seen) (P : Broker → Type 0) (result : Resu
   pub wants : IsHonest new → (b : Broker) → P b → IfErr result IsMemoryOrStorage
   -- `Storage` comes only from the transaction, which has then failed
   pub goes_on : GoesOn old new (is_storage result)
+
+-- an ask was answered at a moment, with the words from which its identifiers are made, or it failed
+pub record IsHandled (moment : ℕ) (words : Words) (ask : Ask) (old new : Seen) (result : Result Answer Fault) :
+    Type 0 where
+  -- if the rows represent a sound broker, the answer is that of one step of it, and they represent its next broker
+  pub told : IsHonest new → (b : Broker) → Represents None old.rows b
+      → IfOk result (λ a. Gives a new.rows (step b moment words ask))
+  pub safely : AnswersSafely old new (Represents None old.rows) result
+  pub clock : IsHonest new → NeedsClock old.rows result

@@ -1,20 +1,15 @@
 -- What the steps of a request leave (this project's definition).
-use Rattle.std.specs.Prelude.{◌≡◌, Option, Some, None, Result, Ok, Err}
-use Rattle.std.specs.FinMap as map
+use Rattle.std.specs.Prelude.{◌≡◌, Bool, if◌then◌else◌, Option, Some, None, Result, Ok, Err}
 use Rattle.broker_types.specs.Text.{Text}
 use Rattle.broker_types.specs.Broker.{Broker}
 use Rattle.broker_types.specs.RequestError.{EndsOk, EndsRefused}
 use Rattle.broker_types.specs.Spending.{spend}
 use Rattle.broker_types.specs.declared.refusal.Refusal.{Refusal}
-use Rattle.records.specs.declared.kind.Kind.TheVariants as kind
 use Rattle.records.specs.Ranges.{IsTokenInRange}
 use Rattle.records.specs.Reading.{IsSomeIn}
-use Rattle.records.specs.Table.{table_of}
 use Rattle.records.specs.Transaction.{Rows}
-use Rattle.token_tree.specs.TokenRows.{SpendsUse}
 use Rattle.broker_model.specs.Order.{Outcome, Wrapped, for_caller, denied}
 use Rattle.broker_rows.specs.Caller.{Caller, IsCallerOf}
-use Rattle.broker_rows.specs.Ending.{DropsResponse}
 use Rattle.broker_rows.specs.Representing.{Represents}
 use Rattle.broker_rows.specs.declared.answered.Answered.{Answered}
 use Rattle.broker_rows.specs.Done.{IsDone}
@@ -28,20 +23,6 @@ IsCaller b token rows (Some c) =
 IsCaller b token rows None =
     (c : Broker) × ((go : Text → Outcome) → for_caller b token go ≡ denied c) × Represents None rows c
 
--- The response that waits under the client token, if there is a client token and one does, was read. Its rows are
--- gone, and no other row has changed.
-abbrev pub DropsClient : Option Text → Rows → Rows → Type 0
-DropsClient None old new = new ≡ old
-DropsClient (Some t) old new = DropsResponse t old new
-
--- The caller is the client token, and has spent a use; or there is no row of a token of the client token, and then it
--- is dropped as a wrapping token.
-abbrev pub SpendsAsCaller : Option Text → Rows → Rows → Option Caller → Type 0
-SpendsAsCaller token old new (Some c) =
-    (token ≡ Some c.token) × SpendsUse c.token (table_of old) (table_of new) (Some c.known)
-SpendsAsCaller token old new None =
-    ((t : Text) → token ≡ Some t → map.get new (kind.Token, t) ≡ None) × DropsClient token old new
-
 -- what the row of the caller says can be kept, if there is a caller
 abbrev pub IsCallerInRange : Option Caller → Type 0
 IsCallerInRange = IsSomeIn (λ c. IsTokenInRange c.known)
@@ -54,3 +35,8 @@ IsServed who rows x w = IsDone who rows x w.done
 abbrev pub HasServed : Option Text → Rows → Broker → Result Answered Refusal → Result Wrapped Refusal → Type 0
 HasServed who rows b (Ok x) m = EndsOk (IsServed who rows) x m
 HasServed who rows b (Err r) m = EndsRefused (Represents who rows b) r m
+
+-- Who may have spent its last use when a request has been served: its caller, if it was on that. No operation takes a
+-- token's last use.
+abbrev pub may_be_spent : Text → Bool → Option Text
+may_be_spent caller is_last_use = if is_last_use then Some caller else None

@@ -2,12 +2,11 @@
 use Rattle.std.specs.Prelude.{◌≡◌, ◌<◌, ◌∷◌, ℕ, List, true}
 use Rattle.broker_types.specs.Broker.{Broker, Waiting}
 use Rattle.broker_types.specs.Names.{names_of}
-use Rattle.broker_types.specs.Operation.{Answered, nothing, reply, kept_text, missing, Done}
+use Rattle.broker_types.specs.Operation.{reply, Done}
 use Rattle.broker_types.specs.Path.{is_path}
 use Rattle.broker_types.specs.Sound.{IsIdentifier}
 use Rattle.broker_types.specs.Text.{Text}
 use Rattle.broker_types.specs.Used.{are_new}
-use Rattle.broker_types.specs.declared.reply.Reply.{Reply}
 use Rattle.records.specs.declared.kind.Kind.TheVariants as kind
 use Rattle.records.specs.RowForms.{used_row}
 use Rattle.records.specs.Table.{Table, with_row}
@@ -61,10 +60,3 @@ kept_in b t w = marked (with_waiting b t w) w.origin w.accessor
 abbrev pub with_kept : Table → Text → Waiting → Table
 with_kept rows t w =
     with_row (with_row (with_response rows t w) kind.Used w.accessor used_row) kind.Used w.origin used_row
-
--- a reply of status 200 is kept under t, as it waits there; of nothing else there are rows
-abbrev pub with_wrapped : Table → Text → (Reply → Waiting) → Answered → Table
-with_wrapped rows t waits nothing = rows
-with_wrapped rows t waits (reply r made) = with_kept rows t (waits r)
-with_wrapped rows t waits (kept_text text) = rows
-with_wrapped rows t waits (missing r) = rows

@@ -6,6 +6,5 @@ pub(crate) mod finishing;
 pub(crate) mod opening;
 pub(crate) mod operating;
 pub(crate) mod permission;
-pub(crate) mod routing;
 pub(crate) mod serving;
 pub(crate) mod wrap;

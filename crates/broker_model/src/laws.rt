@@ -54,8 +54,7 @@ pub fn wrapping_is_proper()
 
 /// A law: whatever mounts there are, each verb means its operation on the caller's cubbyhole at a path below
 /// `cubbyhole/`, a list of `cubbyhole` itself is one of the whole cubbyhole, and nothing else is allowed there. No row
-/// of a mount is asked for it. The path is of bytes, as that of each request is. So what the law
-/// `answers_read_their_rows` of `broker` says of a read of a cubbyhole, it says of every GET of such a path.
+/// of a mount is asked for it. The path is of bytes, as that of each request is.
 pub fn cubbyholes_are_routed()
     ensures read { MeansBelowCubbyhole verb.Get operations.Read }
     ensures list { MeansBelowCubbyhole verb.List operations.List }

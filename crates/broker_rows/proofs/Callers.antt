@@ -1,65 +1,21 @@
--- The use that a caller spends, and its end: from the rows to the broker.
-use Rattle.std.specs.Prelude.{◌≡◌, ◌==◌, Bool, true, false, take, drop, ◌+◌, if◌then◌else◌}
-use Rattle.std.specs.Prelude.{Option, Some, None, option_map, option_and_then}
+-- The end of a caller: from the rows to the broker.
+use Rattle.std.specs.Prelude.{◌≡◌, ◌==◌, Bool, true, false, if◌then◌else◌}
+use Rattle.std.specs.Prelude.{Option, Some, None, option_map}
 use Rattle.std.specs.Option.{option_map_or}
 use Rattle.std.proofs.Common.{refl, sym, ◌∙◌, ap}
-use Rattle.std.proofs.lemmas.Bool.{false≢true}
 use Rattle.std.proofs.lemmas.Option.{none-some, same_Some}
-use Rattle.broker_types.specs.Text.{Text, same}
+use Rattle.broker_types.specs.Text.{Text}
 use Rattle.broker_types.specs.Map.{get}
 use Rattle.broker_types.specs.Token.{Token}
 use Rattle.broker_types.specs.Broker.{Broker, revoke}
-use Rattle.broker_types.specs.MapLaws.{get-change}
-use Rattle.broker_types.specs.Spending.{spend, one_less, is_spent, end_spent}
-use Rattle.broker_types.specs.SpendingLaws.{spend_sound, end_spent_sound}
-use Rattle.records.specs.declared.kind.Kind.{Kind}
-use Rattle.records.specs.declared.kind.Kind.TheVariants as kind
-use Rattle.records.specs.Parts.{Tells, KeepsOthers, of_tokens, of_cubbyholes}
-use Rattle.records.specs.RowForms.{cubby_row}
-use Rattle.records.specs.Rows.{rows_of, token_len, has_slash, object_row}
-use Rattle.records.specs.Table.{Table, table_of}
+use Rattle.broker_types.specs.Spending.{is_spent, end_spent}
+use Rattle.broker_types.specs.SpendingLaws.{end_spent_sound}
+use Rattle.records.specs.Rows.{rows_of}
+use Rattle.records.specs.Table.{table_of}
 use Rattle.records.specs.TokenEntry.{TokenEntry, token_entry}
 use Rattle.records.specs.Transaction.{Rows}
 use Rattle.broker_model.specs.Forms.{forms}
 use Rattle.broker_rows.specs.Representing.{Represents}
-use Rattle.broker_rows.specs.EndingLaws.{no_token, is_object, is_elsewhere, other_tokens}
-use Rattle.broker_rows.specs.RepresentingLaws.{leases_still, changed_leases}
-
--- ---- a use is spent
-
-module _ (b : Broker) (c : Text) where
-  -- no object changes
-  spent_objects : (t path : Text) → object_row (spend b c).tokens t path ≡ object_row b.tokens t path
-  spent_objects t path =
-      ap (option_and_then (λ (x : Token). option_map (cubby_row t) (get x.cubbyhole path)))
-      (get-change b.tokens c one_less t)
-      ∙ inner (same t c) (get b.tokens t)
-    where
-      inner : (v : Bool) (o : Option Token)
-          → option_and_then (λ (x : Token). option_map (cubby_row t) (get x.cubbyhole path))
-          (option_map (λ x. if v then one_less x else x) o)
-          ≡ option_and_then (λ (x : Token). option_map (cubby_row t) (get x.cubbyhole path)) o
-      inner v None = refl
-      inner true (Some x) = refl
-      inner false (Some x) = refl
-
-  spent_cubbyholes : (k : Kind) (q : Text) → of_cubbyholes k ≡ true → rows_of b k q ≡ rows_of (spend b c) k q
-  unfolding rows_of
-  spent_cubbyholes kind.Cubby q h =
-      ap (λ o. if has_slash q then o else None) (sym (spent_objects (take token_len q) (drop (token_len + 1) q)))
-  spent_cubbyholes _ q h = absurd (false≢true h)
-
-  -- rows of tokens that are those after a use was spent, where nothing else has changed
-  pub represents-spend : (old new : Rows) → Represents None old b → Tells of_tokens (table_of new) (spend b c)
-      → KeepsOthers of_tokens (table_of old) (table_of new) → Represents (Some c) new (spend b c)
-  represents-spend old new st tells others = record {
-    rows = other_tokens b (spend b c).tokens (table_of old) (table_of new) st.rows tells
-        (λ k q h. others k q (no_token k (is_object k h).0) ∙ ap (λ (t : Table). t k q) st.rows
-        ∙ spent_cubbyholes k q h)
-        (leases_still b (spend b c) old new st others (changed_leases b c one_less (λ x. refl)))
-        (λ k q h. others k q (is_elsewhere k h).0);
-    sound = spend_sound forms b c st.sound;
-  }
 
 -- ---- a caller that has spent its last use ends
 

@@ -1,11 +1,9 @@
 pub mod Caller
-pub mod Changed
 pub mod ClockRow
 pub mod Context
 pub mod Done
 pub mod Ending
 pub mod EndingLaws
-pub mod ExpiryLaws
 pub mod Laws
 pub mod Left
 pub mod LeftLaws
@@ -13,10 +11,7 @@ pub mod MarkLaws
 pub mod Marks
 pub mod Operating
 pub mod OperatingLaws
-pub mod ReadableLaws
-pub mod ReadableRow
-pub mod Reads
 pub mod Representing
 pub mod RepresentingLaws
-pub mod UsesLaws
+pub mod SpendingLaws
 pub use Rattle.records.specs.Transaction

@@ -9,11 +9,10 @@ ghost use Rattle.broker_types.specs.Spending as spending;
 ghost use Rattle.broker_types.specs.Text.{Text};
 ghost use Rattle.broker_types.specs.Token.{Tokens};
 ghost use Rattle.cubbyhole.specs.Laws.{without_cubbyholes};
-ghost use Rattle.leases.specs.Endings.{AreReadable, are_owned};
-ghost use Rattle.records.specs.Calls.{IsCall, IsReadFault, IsReading};
+ghost use Rattle.records.specs.Calls.{IsCall, IsReading};
 ghost use Rattle.records.specs.Table.{table_of};
 ghost use Rattle.records.specs.Transaction.{IsHonest};
-ghost use Rattle.broker_rows.specs.Ending.{LeavesNothing, IsSpentAt, EndsCaller};
+ghost use Rattle.broker_rows.specs.Ending.{LeavesNothing};
 ghost use Rattle.broker_rows.specs.Left.{HaveEnded};
 ghost use Rattle.broker_rows.specs.Representing.{Represents};
 
@@ -41,8 +40,7 @@ pub fn leave_nothing<T: RecordsTx>(
         → OnOk result (LeavesNothing ended.now (T.seen tx.old).rows (T.seen tx.new).rows) }
     ensures wants { IsHonest (T.seen tx.new) → (who after : Option Text) (b : Broker) (us : Tokens)
         → HaveEnded who after b us ended.now (T.seen tx.old).rows → IfErr result IsMemoryOrStorage }
-    ensures call { IsCall (T.seen tx.old) (T.seen tx.new) result (IsReadFault (IsHonest (T.seen tx.new)
-        → AreReadable (are_owned ended.now) (table_of (T.seen tx.old).rows) → ⊥)) }
+    ensures call { IsCall (T.seen tx.old) (T.seen tx.new) result IsNotBadStart }
 {
     ended_tokens_leave_nothing();
     leases_go_with_tokens();
@@ -68,10 +66,6 @@ fn drop_cubbyholes<T: RecordsTx>(alloc: Global, tx: &mut T, ended: &[TextBuf]) -
 pub fn end_spent<T: RecordsTx>(alloc: Global, tx: &mut T, caller: &str) -> Result<(), Fault>
     ensures told { IsHonest (T.seen tx.new) → (b : Broker) → Represents (Some caller.now) (T.seen tx.old).rows b
         → OnOk result (Represents None (T.seen tx.new).rows (spending.end_spent b (Some caller.now))) }
-
-    // Whatever the rows are: the caller's row decides whether the caller ends, and the call fails if it is damaged.
-    ensures rows { IsHonest (T.seen tx.new)
-        → OnOk result (EndsCaller caller.now (T.seen tx.old).rows (T.seen tx.new).rows) }
     ensures wants { IsHonest (T.seen tx.new) → (b : Broker) → Represents (Some caller.now) (T.seen tx.old).rows b
         → IfErr result IsMemoryOrStorage }
     ensures call { IsCall (T.seen tx.old) (T.seen tx.new) result IsNotBadStart }
@@ -87,9 +81,6 @@ pub fn end_spent<T: RecordsTx>(alloc: Global, tx: &mut T, caller: &str) -> Resul
 fn is_spent<T: RecordsTx>(alloc: Global, tx: &mut T, caller: &str) -> Result<bool, Fault>
     ensures told { IsHonest (T.seen tx.new) → (b : Broker) → Represents (Some caller.now) (T.seen tx.old).rows b
         → IfOk result (λ v. v ≡ option_map_or spending.is_spent (get b.tokens caller.now) false) }
-
-    // Whatever the rows are: the row decides, and the call fails if it is damaged.
-    ensures found { IsHonest (T.seen tx.new) → IfOk result (IsSpentAt (T.seen tx.old).rows caller.now) }
     ensures wants { IsHonest (T.seen tx.new) → (b : Broker) → Represents (Some caller.now) (T.seen tx.old).rows b
         → IfErr result IsMemoryOrStorage }
     ensures call { IsReading (T.seen tx.old) (T.seen tx.new) result IsNotBadStart }

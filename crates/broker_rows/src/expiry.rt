@@ -1,15 +1,12 @@
 //! The clock of a request, and what has ended by it.
 
-ghost use Rattle.std.specs.Prelude.{◌≡◌, ⊤, max, None, IfOk, IfErr, OnOk};
+ghost use Rattle.std.specs.Prelude.{◌≡◌, ⊤, max, None, IfOk, IfErr};
 ghost use Rattle.broker_types.specs.Broker.{Broker, at_moment};
 ghost use Rattle.broker_types.specs.Fault.{IsMemoryOrStorage};
-ghost use Rattle.records.specs.Calls.{IsChange};
+ghost use Rattle.records.specs.Calls.{IsCall};
 ghost use Rattle.records.specs.ClockLaws.{with_clock};
-ghost use Rattle.records.specs.Parts.{KeepsOthers, of_clock};
 ghost use Rattle.records.specs.Transaction.{IsHonest};
 ghost use Rattle.broker_rows.specs.ClockRow.{NeedsClock};
-ghost use Rattle.broker_rows.specs.Ending.{of_expired, Advances, Expires};
-ghost use Rattle.broker_rows.specs.ReadableRow.{KeepsDamaged};
 ghost use Rattle.broker_rows.specs.Representing.{Represents};
 
 use crate::ending::leave_nothing;
@@ -30,17 +27,7 @@ pub fn expire<T: RecordsTx>(alloc: Global, tx: &mut T, moment: Moment) -> Result
     ensures wants { IsHonest (T.seen tx.new) → (b : Broker) → Represents None (T.seen tx.old).rows b
         → IfErr result IsMemoryOrStorage }
     ensures clock { IsHonest (T.seen tx.new) → NeedsClock (T.seen tx.old).rows result }
-
-    // Whatever the rows are: the clock moves on, and what has come to its end ends.
-    ensures rows { IsHonest (T.seen tx.new)
-        → IfOk result (λ now. Expires moment now (T.seen tx.old).rows (T.seen tx.new).rows) }
-
-    // A token stays if its row is damaged.
-    ensures kept { IsHonest (T.seen tx.new)
-        → OnOk result (KeepsDamaged (T.seen tx.old).rows (T.seen tx.new).rows) }
-
-    // No row changes but those of the clock, of tokens and of what belongs to them, and of responses that wait.
-    ensures call { IsChange (KeepsOthers of_expired) (T.seen tx.old) (T.seen tx.new) result (λ _. ⊤) }
+    ensures call { IsCall (T.seen tx.old) (T.seen tx.new) result (λ _. ⊤) }
 {
     let now = advance_clock(alloc, tx, moment)?;
     let due = tx.due_until(now)?;
@@ -59,13 +46,7 @@ fn advance_clock<T: RecordsTx>(alloc: Global, tx: &mut T, moment: Moment) -> Res
     ensures wants { IsHonest (T.seen tx.new) → (b : Broker) → Represents None (T.seen tx.old).rows b
         → IfErr result IsMemoryOrStorage }
     ensures clock { IsHonest (T.seen tx.new) → NeedsClock (T.seen tx.old).rows result }
-
-    // Whatever the rows are: the clock's row is read, and is that of the later moment.
-    ensures rows { IsHonest (T.seen tx.new)
-        → IfOk result (λ now. Advances moment now (T.seen tx.old).rows (T.seen tx.new).rows) }
-
-    // No other row changes.
-    ensures call { IsChange (KeepsOthers of_clock) (T.seen tx.old) (T.seen tx.new) result (λ _. ⊤) }
+    ensures call { IsCall (T.seen tx.old) (T.seen tx.new) result (λ _. ⊤) }
 {
     let Some(kept) = tx.get(Kind::Clock, "")? else {
         return Err(Fault::BadStart);

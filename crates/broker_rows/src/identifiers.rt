@@ -68,10 +68,6 @@ pub fn token_text(alloc: Global, identifier: &str) -> Result<TextBuf, AllocError
 pub fn are_new<T: RecordsTx>(tx: &mut T, identifiers: &[TextBuf]) -> Result<bool, Fault>
     ensures told { IsHonest (T.seen tx.new) → (who : Option Text) (b : Broker) → Represents who (T.seen tx.old).rows b
         → IfOk result (λ v. v ≡ model.are_new b.used identifiers.now) }
-
-    // Whatever the rows are: what has a row was given out, whether the row is damaged or not.
-    ensures found { IsHonest (T.seen tx.new)
-        → IfOk result (λ v. v ≡ are_unmarked (table (T.seen tx.old)) identifiers.now) }
     ensures call { IsReading (T.seen tx.old) (T.seen tx.new) result IsMemoryOrStorage }
 {
     are_unmarked(tx, identifiers)

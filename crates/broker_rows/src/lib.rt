@@ -10,7 +10,6 @@ mod expiry;
 mod identifiers;
 mod laws;
 mod moments;
-mod spending;
 mod start;
 
 pub use answered::Answered;
@@ -24,5 +23,4 @@ pub use laws::{
     upgraded_rows_represent_the_same_broker,
 };
 pub use moments::{moment, moment_or_none};
-pub use spending::spend;
 pub use start::write_first_rows;

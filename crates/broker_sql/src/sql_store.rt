@@ -8,7 +8,7 @@ ghost use Rattle.broker_types.specs.Broker.{Broker};
 ghost use Rattle.broker_types.specs.Fault.{IsMemoryOrStorage};
 ghost use Rattle.broker_types.specs.First.{first_broker};
 ghost use Rattle.broker_types.specs.Identifier.{id};
-ghost use Rattle.broker_types.specs.Names.{names_of, token_word, accessor_word};
+ghost use Rattle.broker_types.specs.Names.{token_word, accessor_word};
 ghost use Rattle.broker_types.specs.TokenText.{token_text};
 ghost use Rattle.records.specs.Kept.{IsHonestStore, IsReady};
 ghost use Rattle.records.specs.Transaction.{is_storage};
@@ -17,7 +17,6 @@ ghost use Rattle.broker_model.specs.Listed.{IsListed};
 ghost use Rattle.broker_model.specs.Step.{step};
 ghost use Rattle.broker_rows.specs.ClockRow.{NeedsClock};
 ghost use Rattle.broker_rows.specs.Representing.{Represents, Gives};
-ghost use Rattle.broker.specs.Answering.{IsAnsweredBy};
 ghost use Rattle.broker_sql.specs.Atomic.{IsAtomic};
 ghost use Rattle.broker_sql.specs.SqlKept.{sql_kept};
 
@@ -146,9 +145,6 @@ impl<S: Alter> SqlStore<S> {
         ensures room { IfOk result HasRoom }
         ensures clock { IsHonestStore (sql_kept S.Store self.new)
             → NeedsClock (sql_kept S.Store self.old).rows result }
-        ensures answers { IsHonestStore (sql_kept S.Store self.new) → IfOk result
-            (λ a. IsAnsweredBy moment (names_of words.now) (sql_kept S.Store self.old).rows
-            (sql_kept S.Store self.new).rows ask.now (response_of a)) }
         ensures listed { IfOk result (λ a. IsListed (response_of a)) }
         ensures wants { IsHonestStore (sql_kept S.Store self.new) → (b : Broker)
             → Represents None (sql_kept S.Store self.old).rows b → IfErr result IsMemoryOrStorage }

@@ -1,7 +1,6 @@
-//! Rows of keys and of mounts, read.
+//! Rows of keys, read.
 
 ghost use Rattle.std.specs.Prelude.{◌≡◌, Option, IfOk, IfErr};
-ghost use Rattle.broker_types.specs.Broker.{Mount};
 ghost use Rattle.broker_types.specs.Fault.{IsMemoryOrStorage, IsNotBadStart};
 ghost use Rattle.records.specs.Calls.{IsReading};
 ghost use Rattle.records.specs.KeyEntry.{KeyEntry};
@@ -9,30 +8,11 @@ ghost use Rattle.records.specs.Ranges.{IsKeyInRange};
 ghost use Rattle.records.specs.Reading.{IsSomeIn};
 ghost use Rattle.records.specs.Table.{table};
 ghost use Rattle.records.specs.Transaction.{IsHonest};
-ghost use Rattle.kv2.specs.SecretRows.{HasKey, HasMount};
+ghost use Rattle.kv2.specs.SecretRows.{HasKey};
 
 use broker_types::Fault;
-use records::{KeyRecord, Kind, MountRecord, RecordsTx, read_key, read_mount};
+use records::{KeyRecord, Kind, RecordsTx, read_key};
 use std::alloc::Global;
-
-/// The mount of a name, if there is one. It fails as `Damaged` if the row is not one of a mount, and also if
-/// memory runs out or the storage fails.
-pub(crate) fn find_mount<T: RecordsTx>(
-    tx: &mut T,
-    mount: &str,
-) -> Result<Option<MountRecord>, Fault>
-    ensures found { IsHonest (T.seen tx.new) → (m : Option Mount)
-        → HasMount (table (T.seen tx.old)) mount.now m → IfOk result (λ o. o ≡ m) }
-    ensures exact { IsHonest (T.seen tx.new) → IfOk result (HasMount (table (T.seen tx.old)) mount.now) }
-    ensures faults { IsHonest (T.seen tx.new) → (m : Option Mount)
-        → HasMount (table (T.seen tx.old)) mount.now m → IfErr result IsMemoryOrStorage }
-    ensures call { IsReading (T.seen tx.old) (T.seen tx.new) result IsNotBadStart }
-{
-    let Some(kept) = tx.get(Kind::Mount, mount)? else {
-        return Ok(None);
-    };
-    Ok(Some(read_mount(&kept)?))
-}
 
 /// The key of a name without its versions, if there is one. It fails as `Damaged` if the row is not one of a
 /// key, and also if memory runs out or the storage fails.

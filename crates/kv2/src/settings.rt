@@ -13,16 +13,17 @@ ghost use Rattle.kv2.specs.SecretRows as rows;
 ghost use Rattle.kv2.specs.SecretRows.{HasMount, IsReadableMount, KeepsOtherMounts};
 ghost use Rattle.kv2.specs.Secrets as secrets;
 
-use crate::finding::find_mount;
 use broker_types::Fault;
-use records::{Kind, MountRecord, RecordsTx, write_mount};
+use records::{Kind, MountRecord, RecordsTx, read_mount, write_mount};
 use std::alloc::Global;
 
 /// The settings of a mount, if it is there. It fails as `Damaged` if the row is not one of a mount, and also if
 /// memory runs out or the storage fails (Vault's documentation, "KV secrets engine - version 2 (API)", read KV
 /// engine configuration).
 pub fn config<T: RecordsTx>(tx: &mut T, mount: &str) -> Result<Option<MountRecord>, Fault>
-    ensures found { IsHonest (T.seen tx.new) → IfOk result (HasMount (table (T.seen tx.old)) mount.now) }
+    ensures found { IsHonest (T.seen tx.new) → (m : Option Mount)
+        → HasMount (table (T.seen tx.old)) mount.now m → IfOk result (λ o. o ≡ m) }
+    ensures exact { IsHonest (T.seen tx.new) → IfOk result (HasMount (table (T.seen tx.old)) mount.now) }
     ensures told { IsHonest (T.seen tx.new) → (b : Broker) → SoundMounts b.mounts
         → Tells of_mounts (table (T.seen tx.old)) b → IfOk result (λ o. o ≡ secrets.config b mount.now) }
     ensures faults { IsHonest (T.seen tx.new) → (m : Option Mount)
@@ -31,7 +32,10 @@ pub fn config<T: RecordsTx>(tx: &mut T, mount: &str) -> Result<Option<MountRecor
         → Tells of_mounts (table (T.seen tx.old)) b → IfErr result IsMemoryOrStorage }
     ensures call { IsReading (T.seen tx.old) (T.seen tx.new) result IsNotBadStart }
 {
-    find_mount(tx, mount)
+    let Some(kept) = tx.get(Kind::Mount, mount)? else {
+        return Ok(None);
+    };
+    Ok(Some(read_mount(&kept)?))
 }
 
 /// The number that is given, or else the one that is kept.
@@ -72,7 +76,7 @@ pub fn set_config<T: RecordsTx>(
     ensures wide { IsSomeIn IsWide max_versions }
     ensures call { IsChange (KeepsOtherMounts mount.now) (T.seen tx.old) (T.seen tx.new) result IsNotBadStart }
 {
-    let Some(found) = find_mount(tx, mount)? else {
+    let Some(found) = config(tx, mount)? else {
         return Ok(());
     };
     let settings = MountRecord {

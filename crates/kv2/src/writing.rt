@@ -19,11 +19,12 @@ ghost use Rattle.kv2.specs.SecretRows.{HasKey, HasMount, KeepsOtherNames, AreRea
 ghost use Rattle.kv2.specs.Secrets as secrets;
 ghost use Rattle.kv2.specs.Versions as versions;
 
-use crate::finding::{find_key, find_mount};
+use crate::finding::find_key;
 use crate::keys::{secret_name, version_key};
 use crate::limits::GREATEST_VERSION;
 use crate::pruning::prune;
 use crate::secret_version::WrittenVersion;
+use crate::settings::config;
 use broker_types::{Fault, Field, Moment, Reason, Refusal, RequestError};
 use records::{
     KeyRecord, Kind, MountRecord, RecordsTx, VersionRecord, versions_have_keys, write_key,
@@ -175,7 +176,7 @@ fn write_named<T: RecordsTx>(
         → OnAnswer result (AreReadableToWrite (table (T.seen tx.old)) mount.now name.now) }
     ensures call { IsRequestChange (KeepsOtherNames name.now) (T.seen tx.old) (T.seen tx.new) result IsNotBadStart }
 {
-    let Some(settings) = find_mount(tx, mount)? else {
+    let Some(settings) = config(tx, mount)? else {
         return Err(RequestError::Refused(Refusal::NotFound));
     };
     let found = find_key(alloc, tx, name)?;

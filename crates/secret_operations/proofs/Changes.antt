@@ -1,22 +1,18 @@
 -- How the commands end that change versions of a secret by their numbers, by what the call on the rows says.
-use Rattle.std.specs.Prelude.{◌≡◌, ◌||◌, ℕ, List, [], ◌∷◌, true, Option, Ok, ⊤}
-use Rattle.std.proofs.Common.{refl, sym, ap, ◌∙◌, inl, inr}
-use Rattle.std.proofs.lemmas.Bool.{eqb-true, false≢true, or_cases, or_right}
+use Rattle.std.specs.Prelude.{◌≡◌, ℕ, List, Option, Ok, ⊤}
+use Rattle.std.proofs.Common.{refl, sym, ap}
 use Rattle.broker_types.specs.Broker.{Broker}
 use Rattle.broker_types.specs.Operation.{nothing, plainly}
 use Rattle.broker_types.specs.Secret.{Version}
 use Rattle.broker_types.specs.Sound.{Sound, IsSecretName}
-use Rattle.broker_types.specs.Text.{Text, same}
-use Rattle.broker_types.specs.TextLaws.{same_self}
-use Rattle.records.specs.Rows.{version_key}
-use Rattle.records.specs.Table.{Table, table}
+use Rattle.broker_types.specs.Text.{Text}
+use Rattle.records.specs.Table.{table}
 use Rattle.records.specs.Transaction.{Seen, IsHonest}
 use Rattle.records.specs.Parts.{of_secrets, KeepsOthers}
 use Rattle.kv2.specs.Changes.{ChangesVersions}
-use Rattle.kv2.specs.SecretRows.{AreChanged, AreReadableVersions, is_key_of}
 use Rattle.kv2.specs.Secrets.{secret_name, with_versions}
 use Rattle.kv2.specs.SoundLaws.{delete_versions_sound, destroy_sound, undelete_sound}
-use Rattle.kv2.specs.Versions.{is_among, soft_deleted}
+use Rattle.kv2.specs.Versions.{soft_deleted}
 use Rattle.broker_model.specs.Forms.{forms}
 use Rattle.broker_rows.specs.Operating.{ActsAs}
 use Rattle.broker_rows.specs.Representing.{Represents}
@@ -28,28 +24,8 @@ use Rattle.secret_operations.specs.declared.secrets.changes.Change.TheVariants a
 use Rattle.secret_operations.proofs.SecretAnswers.{acts_changed}
 use Rattle.secret_operations.proofs.SecretTables.{changes_inside}
 
--- the key of one of these versions is among theirs
-among_is_key : (name : Text) (ms : List ℕ) (n : ℕ) → is_among ms n ≡ true
-    → is_key_of ms name (version_key name n) ≡ true
-among_is_key name [] n h = absurd (false≢true h)
-among_is_key name (m ∷ ms) n h = elim (or_cases _ _ h) [
-  | inl l ↦ ap (λ b. b || is_key_of ms name (version_key name n))
-      (ap (λ z. same (version_key name n) (version_key name z)) (eqb-true m n l) ∙ same_self (version_key name n))
-  | inr r ↦ or_right (same (version_key name n) (version_key name m)) _ (among_is_key name ms n r)
-]
-
--- the rows of versions that were changed are not damaged
-pub changed_readable : (f : Version → Version) (ns : List ℕ) (name : Text) (old new : Table)
-    → AreChanged f ns name old new
-    → AreReadableVersions old name ns
-changed_readable f ns name old new changed n small among = changed.readable n (among_is_key name ns n among)
-
 module _ (f : Version → Version) (ns : List ℕ) (mount path : Text) (old new : Seen) (done : ⊤)
     (call : ChangesVersions f ns mount path old new (Ok done)) (honest : IsHonest new) where
-  -- the rows of the versions were not damaged
-  pub versions_readable : AreReadableVersions (table old) (secret_name mount path) ns
-  versions_readable = changed_readable f ns (secret_name mount path) (table old) (table new) (call.rows honest)
-
   -- only rows of secrets and of versions have changed
   pub only_secrets : KeepsOthers of_secrets (table old) (table new)
   only_secrets = changes_inside f ns (secret_name mount path) (table old) (table new) (call.rows honest)

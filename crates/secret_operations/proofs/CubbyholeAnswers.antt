@@ -3,7 +3,6 @@
 use Rattle.std.specs.Prelude.{◌≡◌, ◌==◌, ℕ, List, [], ◌∷◌, length, not, Bool}
 use Rattle.std.specs.Prelude.{true, false, Option, None, Result, Ok, Err}
 use Rattle.std.proofs.Common.{arith, refl, sym, ap, subst}
-use Rattle.std.proofs.lemmas.Bool.{true≢false}
 use Rattle.std.proofs.lemmas.Bool.Decides.{nat_tests}
 use Rattle.broker_types.specs.Text.{Text}
 use Rattle.broker_types.specs.Broker.{Broker}
@@ -15,13 +14,10 @@ use Rattle.broker_types.specs.declared.refusal.Refusal.{Refusal}
 use Rattle.broker_types.specs.declared.refusal.Refusal.TheVariants as refusal
 use Rattle.broker_types.specs.declared.request_error.RequestError.{RequestError}
 use Rattle.broker_types.specs.declared.request_error.RequestError.TheVariants.{Refused}
-use Rattle.records.specs.declared.kind.Kind.{Kind}
-use Rattle.records.specs.declared.kind.Kind.TheVariants as kind
-use Rattle.records.specs.Parts.{Tells, KeepsOthers, of_cubbyholes}
-use Rattle.records.specs.Table.{Table, table_of, has_prefix}
+use Rattle.records.specs.Parts.{Tells}
+use Rattle.records.specs.Table.{table_of}
 use Rattle.records.specs.Transaction.{Rows}
 use Rattle.cubbyhole.specs.Cubbyhole.{write, delete}
-use Rattle.cubbyhole.specs.Objects.{object_key, KeepsOtherOwners}
 use Rattle.cubbyhole.specs.SoundLaws.{write_sound, delete_sound}
 use Rattle.broker_model.specs.Forms.{forms}
 use Rattle.broker_model.specs.parts.Lists.{are_none, list_reply, listed}
@@ -31,16 +27,6 @@ use Rattle.broker_rows.specs.Representing.{Represents}
 use Rattle.broker_rows.specs.RepresentingLaws.{everything}
 
 -- ---- an edit
-
--- rows of no cubbyhole are not of that of t
-outside_cubbyhole : (t : Text) (k : Kind) (q : Text) → of_cubbyholes k ≡ false
-    → has_prefix kind.Cubby (object_key t []) k q ≡ false
-outside_cubbyhole t kind.Cubby q h = absurd (true≢false h)
-outside_cubbyhole t _ q h = refl
-
--- so an edit of that of t changes only rows of cubbyholes
-pub only_cubbyholes : (t : Text) (old new : Table) → KeepsOtherOwners t old new → KeepsOthers of_cubbyholes old new
-only_cubbyholes t old new keeps k q h = keeps k q (outside_cubbyhole t k q h)
 
 -- the rows after the write of an object to the caller's cubbyhole are those of the broker after it
 pub represents-write : {who : Option Text} (b : Broker) (old new : Rows) (t path object : Text) → Represents who old b

@@ -28,7 +28,7 @@ use Rattle.broker_types.specs.declared.refusal.Refusal.TheVariants as refusal
 use Rattle.broker_types.specs.declared.refusal.Reason.TheVariants as reason
 use Rattle.records.specs.declared.kind.Kind.TheVariants as kind
 use Rattle.records.specs.PartLaws.{joined_rows}
-use Rattle.records.specs.Parts.{Tells, KeepsOthers, of_leases, of_used}
+use Rattle.records.specs.Parts.{Tells, KeepsOthers, of_leases}
 use Rattle.records.specs.RowForms.{used_row}
 use Rattle.records.specs.Rows.{rows_of}
 use Rattle.records.specs.SplitLaws.{split-lacking}
@@ -44,24 +44,10 @@ use Rattle.leases.specs.Roles as roles
 use Rattle.leases.specs.Roles.{Issued, IssuedLease, role_name, lease_id, new_lease, is_last_use, creds}
 use Rattle.leases.specs.SoundLaws.{shows_in_leases}
 use Rattle.broker_model.specs.Forms.{forms}
-use Rattle.broker_model.specs.parts.Issued.{of_issued}
 use Rattle.broker_rows.specs.Caller.{Caller, IsCallerOf}
-use Rattle.broker_rows.specs.Changed.{ChangesOnly}
-use Rattle.broker_rows.specs.EndingLaws.{neither}
-use Rattle.broker_rows.specs.MarkLaws.{marks_joined, marks_keep}
+use Rattle.broker_rows.specs.MarkLaws.{marks_joined}
 use Rattle.broker_rows.specs.Representing.{Represents}
 use Rattle.secret_operations.specs.Issuing.{IsLeased}
-
--- ---- on any rows
-
-module _ (identifier credential : Text) (old mid new : Rows) where
-  -- only leases, their credentials and identifiers have changed
-  pub only_issued : KeepsOthers of_leases (table_of old) (table_of mid)
-      → table_of new ≡ with_row (with_row (table_of mid) kind.Used credential used_row) kind.Used identifier used_row
-      → ChangesOnly of_issued old new
-  only_issued keeps marks k q h =
-      let apart = neither (of_leases k) (of_used k) h in
-      marks_keep identifier credential (table_of mid) (table_of new) marks k q apart.1 ∙ keeps k q apart.0
 
 -- ---- the name of a role that is there
 

@@ -3,6 +3,5 @@ pub mod CubbyholeAnswers
 pub mod GivenSettings
 pub mod IssuedAnswers
 pub mod IssuedRows
-pub mod Refusals
 pub mod SecretAnswers
 pub mod SecretTables

@@ -15,7 +15,7 @@ use Rattle.broker_types.specs.declared.reply.Reply.{Reply}
 use Rattle.broker_types.specs.declared.request_error.RequestError.{RequestError}
 use Rattle.broker_types.specs.declared.request_error.RequestError.TheVariants.{Refused, Fault}
 use Rattle.api_json.specs.declared.secret_bodies.SecretWrite.{SecretWrite}
-use Rattle.records.specs.Calls.{OnAnswer, OnRefused}
+use Rattle.records.specs.Calls.{OnRefused}
 use Rattle.records.specs.Parts.{Tells, KeepsOthers, of_secrets}
 use Rattle.records.specs.Table.{table_of}
 use Rattle.records.specs.Transaction.{Rows}
@@ -48,12 +48,6 @@ acts_changed b who old new secrets st sound tells keeps =
     (refl, represents-secrets b old new st secrets sound tells keeps)
 
 -- ---- a write
-
--- what holds of an error of a write holds of the same error of another call
-pub on_written : (P : Type 0) (e : RequestError) → OnAnswer {A = WriteAnswer} (Err e) P
-    → OnAnswer {A = Code.Answered} (Err e) P
-on_written P (Refused r) p = p
-on_written P (Fault f) p = p
 
 -- the version that the code answers is the one that the definition has written, and the rows tell the next broker
 abbrev pub IsWrittenAs : Rows → WriteAnswer → Written → Type 0

@@ -6,21 +6,15 @@ ghost use Rattle.broker_types.specs.Limits.{longest_body};
 ghost use Rattle.broker_types.specs.Names.{names_of};
 ghost use Rattle.broker_types.specs.Operation.{nothing, plainly};
 ghost use Rattle.broker_types.specs.Path.{is_path};
-ghost use Rattle.records.specs.Transaction.{IsHonest};
-ghost use Rattle.records.specs.Calls.{OnAnswer, IsRequestCall, IsRequestReading};
-ghost use Rattle.records.specs.Parts.{of_cubbyholes};
+ghost use Rattle.records.specs.Calls.{IsRequestCall, IsRequestReading};
 ghost use Rattle.api_json.specs.Kept.{IsKept};
 ghost use Rattle.api_json.specs.Reads.{IsRead};
 ghost use Rattle.cubbyhole.specs.Cubbyhole as cubbyhole;
 ghost use Rattle.mounts.specs.declared.operation.CubbyholeOperation.TheVariants as operations;
 ghost use Rattle.broker_model.specs.declared.commands.CubbyholeCommand.TheVariants as commands;
 ghost use Rattle.broker_model.specs.parts.Cubbyholes as part;
-ghost use Rattle.broker_model.specs.parts.Cubbyholes.{cubbyhole_changes};
-ghost use Rattle.broker_rows.specs.Changed.{Changes, ChangesOnly};
 ghost use Rattle.broker_rows.specs.Context as known;
 ghost use Rattle.broker_rows.specs.Operating.{Performs};
-ghost use Rattle.broker_rows.specs.ReadableRow.{IsReadableObject};
-ghost use Rattle.broker_rows.specs.Reads.{AreReadableObjects};
 ghost use Rattle.secret_operations.specs.InRange.{IsCubbyholeCommandInRange};
 ghost use Rattle.secret_operations.specs.Paths.{needs_object_path};
 
@@ -79,14 +73,6 @@ pub fn act_on_cubbyholes<T: RecordsTx>(
     ensures told { (needs_object_path command ≡ true → is_path path.now ≡ true)
         → Performs (Some caller.now) context.now [] (T.seen tx.old) (T.seen tx.new)
         (λ b. part.act_on_cubbyhole b caller.now (names_of context.now.words) path.now command) result }
-
-    // Whatever the rows are: it is neither answered nor refused if a row that the command reads is damaged.
-    ensures readable { IsHonest (T.seen tx.new)
-        → OnAnswer result (AreReadableObjects (T.seen tx.old).rows caller.now path.now command) }
-
-    // And what only reads changes no row, and what writes or deletes only rows of cubbyholes.
-    ensures rows { IsHonest (T.seen tx.new)
-        → OnAnswer result (Changes (cubbyhole_changes command) (T.seen tx.old).rows (T.seen tx.new).rows) }
     ensures call { IsRequestCall (T.seen tx.old) (T.seen tx.new) result IsNotBadStart }
 {
     match command {
@@ -115,10 +101,6 @@ fn read<T: RecordsTx>(
 ) -> Result<Answered, RequestError>
     ensures told { Performs (Some caller.now) context.now [] (T.seen tx.old) (T.seen tx.new)
         (λ b. part.act_on_cubbyhole b caller.now (names_of context.now.words) path.now commands.Read) result }
-
-    // Whatever the rows are: a damaged row is answered neither as an object nor as an absent one.
-    ensures readable { IsHonest (T.seen tx.new)
-        → OnAnswer result (IsReadableObject (T.seen tx.old).rows caller.now path.now) }
     ensures call { IsRequestReading (T.seen tx.old) (T.seen tx.new) result IsNotBadStart }
 {
     let Some(object) = cubbyhole::read(context.alloc, tx, caller, path)? else {
@@ -158,10 +140,6 @@ fn write<T: RecordsTx>(
     ensures told { is_path path.now ≡ true → (x : known.Context)
         → Performs (Some caller.now) x [] (T.seen tx.old) (T.seen tx.new)
         (λ b. Ok (plainly nothing (cubbyhole.write b caller.now path.now text.now))) result }
-
-    // Whatever the rows are: only rows of cubbyholes change.
-    ensures rows { IsHonest (T.seen tx.new)
-        → OnAnswer result (ChangesOnly of_cubbyholes (T.seen tx.old).rows (T.seen tx.new).rows) }
     ensures call { IsRequestCall (T.seen tx.old) (T.seen tx.new) result IsNotBadStart }
 {
     cubbyhole::write(alloc, tx, caller, path, text)?;
@@ -177,10 +155,6 @@ fn delete<T: RecordsTx>(
 ) -> Result<Answered, RequestError>
     ensures told { (x : known.Context) → Performs (Some caller.now) x [] (T.seen tx.old) (T.seen tx.new)
         (λ b. Ok (plainly nothing (cubbyhole.delete b caller.now path.now))) result }
-
-    // Whatever the rows are: only rows of cubbyholes change.
-    ensures rows { IsHonest (T.seen tx.new)
-        → OnAnswer result (ChangesOnly of_cubbyholes (T.seen tx.old).rows (T.seen tx.new).rows) }
     ensures call { IsRequestCall (T.seen tx.old) (T.seen tx.new) result IsNotBadStart }
 {
     cubbyhole::delete(alloc, tx, caller, path)?;

@@ -5,18 +5,15 @@ ghost use Rattle.broker_types.specs.Fault.{IsNotBadStart};
 ghost use Rattle.broker_types.specs.Limits.{longest_body};
 ghost use Rattle.broker_types.specs.Name.{is_mount_name};
 ghost use Rattle.broker_types.specs.Names.{names_of};
-ghost use Rattle.records.specs.Transaction.{IsHonest};
-ghost use Rattle.records.specs.Calls.{OnAnswer, IsRequestCall};
+ghost use Rattle.records.specs.Calls.{IsRequestCall};
 ghost use Rattle.api_json.specs.Readers as reader;
 ghost use Rattle.api_json.specs.Reads.{IsRead};
 ghost use Rattle.broker_model.specs.Traits.{names_needed};
 ghost use Rattle.broker_model.specs.declared.commands.IssuedCommand.TheVariants as commands;
 ghost use Rattle.broker_model.specs.parts.Bodies.{read_as};
 ghost use Rattle.broker_model.specs.parts.Issued as part;
-ghost use Rattle.broker_model.specs.parts.Issued.{issued_changes, issued_command, issued_needs};
-ghost use Rattle.broker_rows.specs.Changed.{Changes};
+ghost use Rattle.broker_model.specs.parts.Issued.{issued_command, issued_needs};
 ghost use Rattle.broker_rows.specs.Operating.{ArePrinted, PerformsBy};
-ghost use Rattle.broker_rows.specs.Reads.{AreReadableIssued};
 ghost use Rattle.secret_operations.specs.InRange.{IsIssuedCommandInRange};
 
 mod credentials;
@@ -88,15 +85,6 @@ pub fn act_on_issued<T: RecordsTx>(
         → PerformsBy caller.now context.now (names_needed (issued_needs command) (names_of context.now.words))
         (T.seen tx.old) (T.seen tx.new)
         (λ b. part.act_on_issued b caller.now.token (names_of context.now.words) place.now command) result }
-
-    // Whatever the rows are: it is neither answered nor refused if a row that the command reads is damaged.
-    ensures readable { IsHonest (T.seen tx.new)
-        → OnAnswer result (AreReadableIssued (T.seen tx.old).rows place.now command) }
-
-    // And what only reads changes no row, what sets or removes a role only rows of roles, and what issues a credential
-    // only rows of leases, of credentials and of identifiers given out.
-    ensures rows { IsHonest (T.seen tx.new)
-        → OnAnswer result (Changes (issued_changes command) (T.seen tx.old).rows (T.seen tx.new).rows) }
     ensures call { IsRequestCall (T.seen tx.old) (T.seen tx.new) result IsNotBadStart }
 {
     let mount = place.mount;

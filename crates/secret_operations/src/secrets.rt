@@ -6,13 +6,10 @@ ghost use Rattle.broker_types.specs.Name.{is_mount_name};
 ghost use Rattle.broker_types.specs.Names.{names_of};
 ghost use Rattle.broker_types.specs.Path.{is_path};
 ghost use Rattle.broker_types.specs.Text.{Text};
-ghost use Rattle.records.specs.Transaction.{IsHonest};
-ghost use Rattle.records.specs.Calls.{OnAnswer, IsRequestCall};
+ghost use Rattle.records.specs.Calls.{IsRequestCall};
 ghost use Rattle.broker_model.specs.parts.Secrets as part;
-ghost use Rattle.broker_model.specs.parts.Secrets.{secret_changes, secret_command};
-ghost use Rattle.broker_rows.specs.Changed.{Changes};
+ghost use Rattle.broker_model.specs.parts.Secrets.{secret_command};
 ghost use Rattle.broker_rows.specs.Operating.{Performs};
-ghost use Rattle.broker_rows.specs.Reads.{AreReadableSecrets};
 ghost use Rattle.secret_operations.specs.InRange.{IsSecretCommandInRange};
 ghost use Rattle.secret_operations.specs.Paths.{needs_path};
 ghost use Rattle.broker_types.specs.Limits.{longest_body};
@@ -128,15 +125,6 @@ pub fn act_on_secrets<T: RecordsTx>(
     ensures told { is_mount_name place.now.mount ≡ true → (needs_path command ≡ true → is_path place.now.path ≡ true)
         → (who : Option Text) → Performs who context.now [] (T.seen tx.old) (T.seen tx.new)
         (λ b. part.act_on_secrets b (names_of context.now.words) place.now command) result }
-
-    // Whatever the rows are: it is neither answered nor refused if a row that the command reads is damaged.
-    ensures readable { IsHonest (T.seen tx.new)
-        → OnAnswer result (AreReadableSecrets (T.seen tx.old).rows place.now command) }
-
-    // And what only reads changes no row, what sets settings of the mount only rows of mounts, and all else only rows
-    // of secrets and of versions.
-    ensures rows { IsHonest (T.seen tx.new)
-        → OnAnswer result (Changes (secret_changes command) (T.seen tx.old).rows (T.seen tx.new).rows) }
     ensures call { IsRequestCall (T.seen tx.old) (T.seen tx.new) result IsNotBadStart }
 {
     let alloc = context.alloc;

@@ -1,5 +1,4 @@
 pub mod AclPolicyAnswers
-pub mod ChangedRowsAnswers
 pub mod LeaseAnswers
 pub mod MountAnswers
 pub mod ResponseAnswers

@@ -1,5 +1,5 @@
 -- From rows that changes of mounts left to the brokers that they represent.
-use Rattle.std.specs.Prelude.{◌≡◌, ◌≢◌, Bool, true, false, cond, if◌then◌else◌, Option, Some, None, is_some}
+use Rattle.std.specs.Prelude.{◌≡◌, Bool, true, false, cond, if◌then◌else◌, Option, Some, None, is_some}
 use Rattle.std.specs.Prelude.{Result, Ok, Err, ⊤}
 use Rattle.std.proofs.Common.{refl, sym, ◌∙◌, ap, subst}
 use Rattle.std.proofs.lemmas.Bool.{false≢true, true≢false}
@@ -9,7 +9,6 @@ use Rattle.broker_types.specs.MapLaws.{get-without}
 use Rattle.broker_types.specs.Name.{is_mount_name}
 use Rattle.broker_types.specs.Operation.{nothing, Done, plainly}
 use Rattle.broker_types.specs.Refuse.{◌>>=◌}
-use Rattle.broker_types.specs.RefuseLaws.{no_ok}
 use Rattle.broker_types.specs.RequestError.{EndsOk, EndsErr}
 use Rattle.broker_types.specs.Sound.{Sound}
 use Rattle.broker_types.specs.Text.{Text, same}
@@ -17,21 +16,17 @@ use Rattle.broker_types.specs.TextLaws.{same_true}
 use Rattle.broker_types.specs.declared.refusal.Refusal.{Refusal}
 use Rattle.broker_types.specs.declared.request_error.RequestError.{RequestError}
 use Rattle.broker_types.specs.declared.request_error.RequestError.TheVariants.{Refused, Fault}
-use Rattle.records.specs.Calls.{OnAnswer}
 use Rattle.records.specs.PartLaws.{rows_of-other_mounts, rows_of-other_secrets, rows_of-other_roles}
 use Rattle.records.specs.Parts.{Tells, KeepsOthers, of_mounts, of_secrets, of_roles, of_leases}
-use Rattle.records.specs.Table.{Table, table_of, without_row}
+use Rattle.records.specs.Table.{table_of}
 use Rattle.records.specs.Transaction.{Rows}
-use Rattle.records.specs.declared.kind.Kind.TheVariants as kind
 use Rattle.kv2.specs.Secrets.{drop_mount}
 use Rattle.kv2.specs.SoundLaws.{drop_mount_sound}
-use Rattle.leases.specs.Endings.{Ending, AreReadable}
 use Rattle.leases.specs.KeptLaws.{drop_roles_sound, revoke_under_sound}
 use Rattle.leases.specs.LeaseRows.{RepresentsLeases}
 use Rattle.leases.specs.Leases.{revoke_under}
 use Rattle.leases.specs.Roles.{drop_roles}
 use Rattle.leases.specs.SoundLaws.{shows_in_leases}
-use Rattle.mounts.specs.MountRows as rows
 use Rattle.mounts.specs.MountRows.{AreMounts, IsMountAt}
 use Rattle.mounts.specs.Mounts as mounts
 use Rattle.mounts.specs.SoundLaws.{disabled_sound}
@@ -41,7 +36,6 @@ use Rattle.broker_model.specs.parts.Mounts.{without_kept, disable}
 use Rattle.broker_rows.specs.Operating.{ActsAs}
 use Rattle.broker_rows.specs.Representing.{Represents}
 use Rattle.broker_rows.specs.RepresentingLaws.{represents_next, represents_leases, still_represented}
-use Rattle.broker_rows.specs.declared.answered.Answered as Code
 use Rattle.broker_rows.specs.declared.answered.Answered.TheVariants.{Nothing}
 
 -- ---- a mount that comes
@@ -175,34 +169,3 @@ module _ (b : Broker) (who : Option Text) (old new : Rows) (st : Represents who 
 pub leases_there : {who : Option Text} (b : Broker) (rows : Rows) → Represents who rows b
     → RepresentsLeases (table_of rows) b
 leases_there b rows st = represents_leases b rows rows st (λ k q _. refl)
-
--- ---- whatever the rows are
-
--- leases that can be read could be read before other rows changed
-pub readable_before : (ends : Ending) (old new : Table) → ((q : Text) → new kind.Lease q ≡ old kind.Lease q)
-    → AreReadable ends new → AreReadable ends old
-readable_before ends old new same readable q row is goes = readable q row (same q ∙ is) goes
-
-module _ (old : Table) (name : Text) (P : Type 0) where
-  -- a mount that may go is not refused
-  pub refused_readable : (Q : Type 0) (e : RequestError) → EndsErr Q e (rows.disabled old name)
-      → OnAnswer {A = Code.Answered} (Err e) (mounts.may_go name ≡ Ok tt → old kind.Mount name ≢ None → P)
-  refused_readable Q (Fault f) h = tt
-  refused_readable Q (Refused r) h = by (mounts.may_go name) h
-    where
-      by : (go : Result ⊤ Refusal) → EndsErr Q (Refused r) (go >>= (λ _. Ok (without_row old kind.Mount name)))
-          → go ≡ Ok tt → old kind.Mount name ≢ None → P
-      by (Ok x) h = absurd h
-      by (Err x) h = λ is there. no_ok is
-
-  -- and one that is not there has no row
-  pub absent_readable : (new : Table)
-      → EndsOk (λ was next. (was ≡ is_some (old kind.Mount name)) × (new ≡ next)) false (rows.disabled old name)
-      → mounts.may_go name ≡ Ok tt → old kind.Mount name ≢ None → P
-  absent_readable new ends go there = by (mounts.may_go name) ends
-    where
-      by : (go : Result ⊤ Refusal)
-          → EndsOk (λ was next. (was ≡ is_some (old kind.Mount name)) × (new ≡ next)) false
-          (go >>= (λ _. Ok (without_row old kind.Mount name))) → P
-      by (Ok x) h = absurd (there (none_there (old kind.Mount name) h.0))
-      by (Err x) h = absurd h

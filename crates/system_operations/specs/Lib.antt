@@ -1,4 +1,2 @@
 pub mod InRange
-pub mod ResponseChanges
-pub mod ResponseChangesLaws
 pub mod Rewrapping

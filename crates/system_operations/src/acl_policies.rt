@@ -5,20 +5,15 @@ ghost use Rattle.broker_types.specs.Fault.{IsNotBadStart};
 ghost use Rattle.broker_types.specs.Limits.{longest_body};
 ghost use Rattle.broker_types.specs.Names.{names_of};
 ghost use Rattle.broker_types.specs.Text.{Text};
-ghost use Rattle.records.specs.Transaction.{IsHonest};
-ghost use Rattle.records.specs.Calls.{OnAnswer, IsRequestCall, IsRequestReading};
-ghost use Rattle.records.specs.Parts.{of_policies};
+ghost use Rattle.records.specs.Calls.{IsRequestCall, IsRequestReading};
 ghost use Rattle.api_json.specs.Readers as reader;
 ghost use Rattle.api_json.specs.Reads.{IsRead};
 ghost use Rattle.broker_model.specs.declared.commands.PolicyCommand.TheVariants as commands;
 ghost use Rattle.broker_model.specs.parts.AclPolicies as part;
-ghost use Rattle.broker_model.specs.parts.AclPolicies.{policy_changes, policy_command};
+ghost use Rattle.broker_model.specs.parts.AclPolicies.{policy_command};
 ghost use Rattle.broker_model.specs.parts.Bodies.{read_as};
-ghost use Rattle.broker_rows.specs.Changed.{Changes, ChangesOnly};
 ghost use Rattle.broker_rows.specs.Context as known;
 ghost use Rattle.broker_rows.specs.Operating.{Performs};
-ghost use Rattle.broker_rows.specs.ReadableRow.{IsReadablePolicy};
-ghost use Rattle.broker_rows.specs.Reads.{AreReadablePolicies};
 ghost use Rattle.system_operations.specs.InRange.{IsPolicyCommandInRange};
 
 use api_json::{keys_object, policy_object, policy_text, read_body};
@@ -70,14 +65,6 @@ pub fn act_on_policies<T: RecordsTx>(
     requires { IsPolicyCommandInRange command }
     ensures told { (who : Option Text) → Performs who context.now [] (T.seen tx.old) (T.seen tx.new)
         (λ b. part.act_on_policies b (names_of context.now.words) name.now command) result }
-
-    // Whatever the rows are: it is neither answered nor refused if a row that the command reads is damaged.
-    ensures readable { IsHonest (T.seen tx.new)
-        → OnAnswer result (AreReadablePolicies (T.seen tx.old).rows name.now command) }
-
-    // And what only reads changes no row, and all else only those of policies.
-    ensures rows { IsHonest (T.seen tx.new)
-        → OnAnswer result (Changes (policy_changes command) (T.seen tx.old).rows (T.seen tx.new).rows) }
     ensures call { IsRequestCall (T.seen tx.old) (T.seen tx.new) result IsNotBadStart }
 {
     match command {
@@ -107,10 +94,6 @@ fn show<T: RecordsTx>(
 ) -> Result<Answered, RequestError>
     ensures told { (who : Option Text) → Performs who context.now [] (T.seen tx.old) (T.seen tx.new)
         (λ b. part.show b (names_of context.now.words) name.now) result }
-
-    // Whatever the rows are: a damaged row is answered neither as a policy nor as an absent one.
-    ensures readable { IsHonest (T.seen tx.new)
-        → OnAnswer result (IsReadablePolicy (T.seen tx.old).rows name.now) }
     ensures call { IsRequestReading (T.seen tx.old) (T.seen tx.new) result IsNotBadStart }
 {
     let Some(text) = policies::get(context.alloc, tx, name)? else {
@@ -130,10 +113,6 @@ fn set<T: RecordsTx>(
     requires { length text.now < 2 ^ 32 }
     ensures told { (who : Option Text) (x : known.Context) → Performs who x [] (T.seen tx.old) (T.seen tx.new)
         (λ b. part.set b name.now text.now) result }
-
-    // Whatever the rows are: no row changes but those of policies.
-    ensures rows { IsHonest (T.seen tx.new)
-        → OnAnswer result (ChangesOnly of_policies (T.seen tx.old).rows (T.seen tx.new).rows) }
     ensures call { IsRequestCall (T.seen tx.old) (T.seen tx.new) result IsNotBadStart }
 {
     policies::set(alloc, tx, name, text)?;
@@ -144,10 +123,6 @@ fn set<T: RecordsTx>(
 fn remove<T: RecordsTx>(tx: &mut T, name: &str) -> Result<Answered, RequestError>
     ensures told { (who : Option Text) (x : known.Context) → Performs who x [] (T.seen tx.old) (T.seen tx.new)
         (λ b. part.remove b name.now) result }
-
-    // Whatever the rows are: no row changes but those of policies.
-    ensures rows { IsHonest (T.seen tx.new)
-        → OnAnswer result (ChangesOnly of_policies (T.seen tx.old).rows (T.seen tx.new).rows) }
     ensures call { IsRequestCall (T.seen tx.old) (T.seen tx.new) result IsNotBadStart }
 {
     policies::delete(tx, name)?;

@@ -1,28 +1,21 @@
 //! Requests on mounts (Vault's documentation, "/sys/mounts").
 
-ghost use Rattle.std.specs.Prelude.{◌≡◌, [], true, All, Option, Ok, IfOk, IfErr, OnOk, map};
+ghost use Rattle.std.specs.Prelude.{◌≡◌, [], true, Option, Ok, IfOk, IfErr, OnOk, map};
 ghost use Rattle.broker_types.specs.Broker.{Broker};
 ghost use Rattle.broker_types.specs.Fault.{IsMemoryOrStorage, IsNotBadStart};
 ghost use Rattle.broker_types.specs.Name.{is_mount_name};
 ghost use Rattle.broker_types.specs.Names.{names_of};
 ghost use Rattle.broker_types.specs.Text.{Text};
-ghost use Rattle.records.specs.Calls.{OnAnswer, IsCall, IsRequestCall, IsRequestReading};
-ghost use Rattle.records.specs.Parts.{of_mounts};
-ghost use Rattle.records.specs.Table.{table};
-ghost use Rattle.records.specs.Transaction.{IsHonest, rows_under};
-ghost use Rattle.records.specs.declared.kind.Kind.TheVariants as kind;
-ghost use Rattle.leases.specs.Endings.{AreReadable, is_under};
-ghost use Rattle.mounts.specs.MountRows.{IsMountRow};
+ghost use Rattle.records.specs.Calls.{IsCall, IsRequestCall, IsRequestReading};
+ghost use Rattle.records.specs.Transaction.{IsHonest};
 ghost use Rattle.api_json.specs.Readers as reader;
 ghost use Rattle.api_json.specs.Reads.{IsRead};
 ghost use Rattle.broker_model.specs.declared.commands.MountCommand.TheVariants as commands;
 ghost use Rattle.broker_model.specs.parts.Bodies.{read_as};
 ghost use Rattle.broker_model.specs.parts.Mounts as part;
-ghost use Rattle.broker_model.specs.parts.Mounts.{mount_changes, mount_command, of_kept, of_mounts_and_kept};
-ghost use Rattle.broker_rows.specs.Changed.{Changes, ChangesOnly};
+ghost use Rattle.broker_model.specs.parts.Mounts.{mount_command};
 ghost use Rattle.broker_rows.specs.Context as known;
 ghost use Rattle.broker_rows.specs.Operating.{Performs};
-ghost use Rattle.broker_rows.specs.Reads.{AreReadableMounts};
 ghost use Rattle.broker_rows.specs.Representing.{Represents};
 
 use api_json::{MountCreation, MountObject, mount_creation, mounts_object, read_body};
@@ -68,14 +61,6 @@ pub fn act_on_mounts<T: RecordsTx>(
 ) -> Result<Answered, RequestError>
     ensures told { (who : Option Text) → Performs who context.now [] (T.seen tx.old) (T.seen tx.new)
         (λ b. part.act_on_mounts b (names_of context.now.words) name.now command) result }
-
-    // Whatever the rows are: it is neither answered nor refused if a row that the command reads is damaged.
-    ensures readable { IsHonest (T.seen tx.new)
-        → OnAnswer result (AreReadableMounts (T.seen tx.old).rows name.now command) }
-
-    // And what only reads changes no row, and all else only those of mounts and of what is kept there.
-    ensures rows { IsHonest (T.seen tx.new)
-        → OnAnswer result (Changes (mount_changes command) (T.seen tx.old).rows (T.seen tx.new).rows) }
     ensures call { IsRequestCall (T.seen tx.old) (T.seen tx.new) result IsNotBadStart }
 {
     match command {
@@ -89,10 +74,6 @@ pub fn act_on_mounts<T: RecordsTx>(
 fn list<T: RecordsTx>(tx: &mut T, context: &Context<'_>) -> Result<Answered, RequestError>
     ensures told { (who : Option Text) → Performs who context.now [] (T.seen tx.old) (T.seen tx.new)
         (λ b. Ok (part.list b (names_of context.now.words))) result }
-
-    // Whatever the rows are: no list leaves a damaged row out.
-    ensures readable { IsHonest (T.seen tx.new)
-        → OnAnswer result (All (λ e. IsMountRow e.1) (rows_under (T.seen tx.old).rows kind.Mount [])) }
     ensures call { IsRequestReading (T.seen tx.old) (T.seen tx.new) result IsNotBadStart }
 {
     let alloc = context.alloc;
@@ -160,10 +141,6 @@ fn enable<T: RecordsTx>(
 ) -> Result<Answered, RequestError>
     ensures told { (who : Option Text) (x : known.Context) → Performs who x [] (T.seen tx.old) (T.seen tx.new)
         (λ b. part.enable b name.now asked) result }
-
-    // Whatever the rows are: no row changes but those of mounts.
-    ensures rows { IsHonest (T.seen tx.new)
-        → OnAnswer result (ChangesOnly of_mounts (T.seen tx.old).rows (T.seen tx.new).rows) }
     ensures call { IsRequestCall (T.seen tx.old) (T.seen tx.new) result IsNotBadStart }
 {
     mounts::enable(alloc, tx, name, asked.type_name.as_str(), asked.version)?;
@@ -174,14 +151,6 @@ fn enable<T: RecordsTx>(
 fn disable<T: RecordsTx>(alloc: Global, tx: &mut T, name: &str) -> Result<Answered, RequestError>
     ensures told { (who : Option Text) (x : known.Context) → Performs who x [] (T.seen tx.old) (T.seen tx.new)
         (λ b. part.disable b name.now) result }
-
-    // Whatever the rows are: no mount is disabled with a damaged lease.
-    ensures readable { IsHonest (T.seen tx.new)
-        → OnAnswer result (AreReadableMounts (T.seen tx.old).rows name.now commands.Disable) }
-
-    // And no row changes but those of mounts and of what is kept there.
-    ensures rows { IsHonest (T.seen tx.new)
-        → OnAnswer result (ChangesOnly of_mounts_and_kept (T.seen tx.old).rows (T.seen tx.new).rows) }
     ensures call { IsRequestCall (T.seen tx.old) (T.seen tx.new) result IsNotBadStart }
 {
     let was_there = mounts::disable(tx, name)?;
@@ -199,14 +168,6 @@ fn drop_kept<T: RecordsTx>(alloc: Global, tx: &mut T, name: &str) -> Result<(), 
     ensures told { IsHonest (T.seen tx.new) → (who : Option Text) (b : Broker)
         → Represents who (T.seen tx.old).rows b → is_mount_name name.now ≡ true
         → OnOk result (Represents who (T.seen tx.new).rows (part.without_kept b name.now)) }
-
-    // Whatever the rows are: the leases that go have been read.
-    ensures readable { IsHonest (T.seen tx.new)
-        → OnOk result (AreReadable (is_under name.now) (table (T.seen tx.old))) }
-
-    // And no row changes but those of secrets, roles and leases.
-    ensures rows { IsHonest (T.seen tx.new)
-        → OnOk result (ChangesOnly of_kept (T.seen tx.old).rows (T.seen tx.new).rows) }
     ensures wants { IsHonest (T.seen tx.new) → (who : Option Text) (b : Broker)
         → Represents who (T.seen tx.old).rows b → is_mount_name name.now ≡ true → IfErr result IsMemoryOrStorage }
     ensures call { IsCall (T.seen tx.old) (T.seen tx.new) result IsNotBadStart }

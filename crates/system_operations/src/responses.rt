@@ -1,6 +1,6 @@
 //! Requests on responses that wait under wrapping tokens (Vault's documentation, "/sys/wrapping").
 
-ghost use Rattle.std.specs.Prelude.{◌≡◌, ◌≢◌, ◌≤◌, [], None, Option, Some, IfErr, IfOk, OnOk, length};
+ghost use Rattle.std.specs.Prelude.{◌≡◌, ◌≤◌, [], None, Option, Some, IfErr, IfOk, length};
 ghost use Rattle.broker_types.specs.Broker.{Broker};
 ghost use Rattle.broker_types.specs.Fault.{IsMemoryOrStorage, IsNotBadStart};
 ghost use Rattle.broker_types.specs.Limits.{longest_body};
@@ -8,9 +8,7 @@ ghost use Rattle.broker_types.specs.Names.{names_of};
 ghost use Rattle.broker_types.specs.Text.{Text};
 ghost use Rattle.broker_types.specs.TokenText.{token_text};
 ghost use Rattle.records.specs.Transaction.{IsHonest};
-ghost use Rattle.records.specs.Calls.{OnAnswer, OnRefused, IsCall, IsRequestCall, IsRequestReading};
-ghost use Rattle.records.specs.Table.{table};
-ghost use Rattle.wrapping.specs.WaitingRows.{IsReadableWaiting};
+ghost use Rattle.records.specs.Calls.{IsCall, IsRequestCall, IsRequestReading};
 ghost use Rattle.api_json.specs.Reads.{IsRead};
 ghost use Rattle.broker_model.specs.Order.{wrap_info};
 ghost use Rattle.broker_model.specs.Traits.{names_needed, wrapping_names};
@@ -19,8 +17,6 @@ ghost use Rattle.broker_model.specs.parts.Wrappings as part;
 ghost use Rattle.broker_model.specs.parts.WrappingCommands.{token_meant, wrapping_command, wrapping_needs};
 ghost use Rattle.broker_rows.specs.Context as known;
 ghost use Rattle.broker_rows.specs.Operating.{ArePrinted, Begins, Performs};
-ghost use Rattle.broker_rows.specs.Reads.{AreReadableResponses};
-ghost use Rattle.system_operations.specs.ResponseChanges.{ChangesResponses, HandsOutAt, MovesAt};
 ghost use Rattle.system_operations.specs.Rewrapping.{MovesResponse};
 
 use api_json::{WrapObject, read_body, waiting_object, wrap_object, wrap_reply, wrapping_token};
@@ -110,17 +106,6 @@ pub fn act_on_wrappings<T: RecordsTx>(
         → Performs who context.now (names_needed (wrapping_needs command) (names_of context.now.words))
         (T.seen tx.old) (T.seen tx.new)
         (λ b. part.act_on_wrappings b (names_of context.now.words) command) result }
-
-    // Whatever the rows are: it is neither answered nor refused if the row of the response that is meant is damaged.
-    ensures readable { IsHonest (T.seen tx.new)
-        → OnAnswer result (AreReadableResponses (T.seen tx.old).rows command) }
-
-    // And what is unwrapped is gone then, and what is rewrapped waits under its new wrapping token alone.
-    ensures rows { IsHonest (T.seen tx.new)
-        → IfOk result (ChangesResponses context.now command (T.seen tx.old).rows (T.seen tx.new).rows) }
-
-    // What is refused changes no row.
-    ensures refused { IsHonest (T.seen tx.new) → OnRefused result ((T.seen tx.new).rows ≡ (T.seen tx.old).rows) }
     ensures call { IsRequestCall (T.seen tx.old) (T.seen tx.new) result IsNotBadStart }
 {
     match command {
@@ -142,12 +127,6 @@ fn look_up<T: RecordsTx>(
 ) -> Result<Answered, RequestError>
     ensures told { (who : Option Text) → Performs who context.now [] (T.seen tx.old) (T.seen tx.new)
         (λ b. part.act_on_wrappings b (names_of context.now.words) (commands.LookUp (Some token.now))) result }
-
-    // Whatever the rows are: a damaged row is answered neither as a response nor as an unknown wrapping token.
-    ensures readable { IsHonest (T.seen tx.new)
-        → OnAnswer result (IsReadableWaiting (table (T.seen tx.old)) token.now) }
-    ensures rows { IsHonest (T.seen tx.new) → OnOk result ((T.seen tx.new).rows ≡ (T.seen tx.old).rows) }
-    ensures refused { IsHonest (T.seen tx.new) → OnRefused result ((T.seen tx.new).rows ≡ (T.seen tx.old).rows) }
     ensures call { IsRequestReading (T.seen tx.old) (T.seen tx.new) result IsNotBadStart }
 {
     let Some(response) = look(context.alloc, tx, token)? else {
@@ -170,13 +149,6 @@ fn rewrap<T: RecordsTx>(
     ensures told { (who : Option Text) → Performs who context.now (wrapping_names (names_of context.now.words))
         (T.seen tx.old) (T.seen tx.new)
         (λ b. part.act_on_wrappings b (names_of context.now.words) (commands.Rewrap (Some token.now))) result }
-
-    // Whatever the rows are: a damaged row is neither moved nor refused as an unknown wrapping token.
-    ensures readable { IsHonest (T.seen tx.new)
-        → OnAnswer result (IsReadableWaiting (table (T.seen tx.old)) token.now) }
-    ensures rows { IsHonest (T.seen tx.new) → OnOk result (MovesAt (names_of context.now.words) context.now.clock
-        token.now (T.seen tx.old).rows (T.seen tx.new).rows) }
-    ensures refused { IsHonest (T.seen tx.new) → OnRefused result ((T.seen tx.new).rows ≡ (T.seen tx.old).rows) }
     ensures call { IsRequestCall (T.seen tx.old) (T.seen tx.new) result IsNotBadStart }
 {
     let alloc = context.alloc;
@@ -203,10 +175,6 @@ fn move_response<T: RecordsTx>(
     requires named { new_token.now ≡ token_text (names_of context.now.words).wrapping_token }
     ensures told { (who : Option Text)
         → MovesResponse who context.now (T.seen tx.old) (T.seen tx.new) token.now result }
-    ensures readable { IsHonest (T.seen tx.new)
-        → OnOk result (IsReadableWaiting (table (T.seen tx.old)) token.now) }
-    ensures rows { IsHonest (T.seen tx.new) → IfOk result (λ found. found ≢ None
-        → MovesAt (names_of context.now.words) context.now.clock token.now (T.seen tx.old).rows (T.seen tx.new).rows) }
     ensures unknown { IsHonest (T.seen tx.new) → IfOk result (λ found.
         found ≡ None → (T.seen tx.new).rows ≡ (T.seen tx.old).rows) }
     ensures wants { IsHonest (T.seen tx.new) → (who : Option Text) (b : Broker)
@@ -256,13 +224,6 @@ fn wrap_info(
 fn unwrap<T: RecordsTx>(alloc: Global, tx: &mut T, token: &str) -> Result<Answered, RequestError>
     ensures told { (who : Option Text) (x : known.Context) → Performs who x [] (T.seen tx.old) (T.seen tx.new)
         (λ b. part.act_on_wrappings b (names_of x.words) (commands.Unwrap (Some token.now))) result }
-
-    // Whatever the rows are: a damaged row is neither handed out nor refused as an unknown wrapping token.
-    ensures readable { IsHonest (T.seen tx.new)
-        → OnAnswer result (IsReadableWaiting (table (T.seen tx.old)) token.now) }
-    ensures rows { IsHonest (T.seen tx.new)
-        → IfOk result (HandsOutAt token.now (T.seen tx.old).rows (T.seen tx.new).rows) }
-    ensures refused { IsHonest (T.seen tx.new) → OnRefused result ((T.seen tx.new).rows ≡ (T.seen tx.old).rows) }
     ensures call { IsRequestCall (T.seen tx.old) (T.seen tx.new) result IsNotBadStart }
 {
     let Some(text) = take(alloc, tx, token)? else {

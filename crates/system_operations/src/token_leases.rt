@@ -6,20 +6,14 @@ ghost use Rattle.broker_types.specs.Limits.{longest_body};
 ghost use Rattle.broker_types.specs.Names.{names_of};
 ghost use Rattle.broker_types.specs.Operation.{nothing, plainly};
 ghost use Rattle.broker_types.specs.Text.{Text};
-ghost use Rattle.records.specs.Transaction.{IsHonest};
-ghost use Rattle.records.specs.Calls.{OnAnswer, IsRequestCall, IsRequestReading};
-ghost use Rattle.records.specs.Parts.{of_leases};
-ghost use Rattle.records.specs.Table.{table};
-ghost use Rattle.leases.specs.Endings.{AreReadable, is_named, is_under};
-ghost use Rattle.leases.specs.LeaseRows.{AreTimesInRange, IsReadableLease};
+ghost use Rattle.records.specs.Calls.{IsRequestCall, IsRequestReading};
+ghost use Rattle.leases.specs.LeaseRows.{AreTimesInRange};
 ghost use Rattle.leases.specs.Leases as leases;
 ghost use Rattle.api_json.specs.Reads.{IsRead};
 ghost use Rattle.broker_model.specs.parts.Leases as part;
-ghost use Rattle.broker_model.specs.parts.Leases.{lease_changes, lease_command};
-ghost use Rattle.broker_rows.specs.Changed.{Changes, ChangesOnly};
+ghost use Rattle.broker_model.specs.parts.Leases.{lease_command};
 ghost use Rattle.broker_rows.specs.Context as known;
 ghost use Rattle.broker_rows.specs.Operating.{Performs};
-ghost use Rattle.broker_rows.specs.Reads.{AreReadableLeases};
 
 use api_json::{
     EndTime, LeaseObject, LeaseRenewal, lease_id, lease_object, lease_renewal, lease_reply,
@@ -62,14 +56,6 @@ pub fn act_on_leases<T: RecordsTx>(
 ) -> Result<Answered, RequestError>
     ensures told { (who : Option Text) → Performs who context.now [] (T.seen tx.old) (T.seen tx.new)
         (λ b. part.act_on_leases b (names_of context.now.words) prefix.now command) result }
-
-    // Whatever the rows are: it is neither answered nor refused if a row that the command reads is damaged.
-    ensures readable { IsHonest (T.seen tx.new)
-        → OnAnswer result (AreReadableLeases (T.seen tx.old).rows prefix.now command) }
-
-    // And what only reads changes no row, and all else only those of leases and their credentials.
-    ensures rows { IsHonest (T.seen tx.new)
-        → OnAnswer result (Changes (lease_changes command) (T.seen tx.old).rows (T.seen tx.new).rows) }
     ensures call { IsRequestCall (T.seen tx.old) (T.seen tx.new) result IsNotBadStart }
 {
     match command {
@@ -88,9 +74,6 @@ fn look_up<T: RecordsTx>(
 ) -> Result<Answered, RequestError>
     ensures told { (who : Option Text) → Performs who context.now [] (T.seen tx.old) (T.seen tx.new)
         (λ b. part.look_up b (names_of context.now.words) lease_id) result }
-
-    // Whatever the rows are: a damaged row is answered neither as a lease nor as an unknown id.
-    ensures readable { IsHonest (T.seen tx.new) → OnAnswer result (IsReadableLease (table (T.seen tx.old)) lease_id) }
     ensures call { IsRequestReading (T.seen tx.old) (T.seen tx.new) result IsNotBadStart }
 {
     let times = leases::lookup(tx, lease_id.as_str())?;
@@ -107,14 +90,6 @@ fn renew<T: RecordsTx>(
 ) -> Result<Answered, RequestError>
     ensures told { (who : Option Text) → Performs who context.now [] (T.seen tx.old) (T.seen tx.new)
         (λ b. part.renew b (names_of context.now.words) asked.lease_id asked.increment) result }
-
-    // Whatever the rows are: a damaged row is answered neither as a lease nor as an unknown id.
-    ensures readable { IsHonest (T.seen tx.new)
-        → OnAnswer result (IsReadableLease (table (T.seen tx.old)) asked.lease_id) }
-
-    // And no row changes but those of leases and their credentials.
-    ensures rows { IsHonest (T.seen tx.new)
-        → OnAnswer result (ChangesOnly of_leases (T.seen tx.old).rows (T.seen tx.new).rows) }
     ensures call { IsRequestCall (T.seen tx.old) (T.seen tx.new) result IsNotBadStart }
 {
     let alloc = context.alloc;
@@ -134,14 +109,6 @@ fn renew<T: RecordsTx>(
 fn revoke<T: RecordsTx>(tx: &mut T, lease_id: &str) -> Result<Answered, RequestError>
     ensures told { (who : Option Text) (x : known.Context) → Performs who x [] (T.seen tx.old) (T.seen tx.new)
         (λ b. Ok (plainly nothing (leases.revoke b lease_id.now))) result }
-
-    // Whatever the rows are: it is neither answered nor refused if the row of the lease is damaged.
-    ensures readable { IsHonest (T.seen tx.new)
-        → OnAnswer result (AreReadable (is_named lease_id.now) (table (T.seen tx.old))) }
-
-    // And no row changes but those of leases and their credentials.
-    ensures rows { IsHonest (T.seen tx.new)
-        → OnAnswer result (ChangesOnly of_leases (T.seen tx.old).rows (T.seen tx.new).rows) }
     ensures call { IsRequestCall (T.seen tx.old) (T.seen tx.new) result IsNotBadStart }
 {
     leases::revoke(tx, lease_id)?;
@@ -156,14 +123,6 @@ fn revoke_under<T: RecordsTx>(
 ) -> Result<Answered, RequestError>
     ensures told { (who : Option Text) (x : known.Context) → Performs who x [] (T.seen tx.old) (T.seen tx.new)
         (λ b. Ok (plainly nothing (leases.revoke_under b prefix.now))) result }
-
-    // Whatever the rows are: it is neither answered nor refused if the row of one of them is damaged.
-    ensures readable { IsHonest (T.seen tx.new)
-        → OnAnswer result (AreReadable (is_under prefix.now) (table (T.seen tx.old))) }
-
-    // And no row changes but those of leases and their credentials.
-    ensures rows { IsHonest (T.seen tx.new)
-        → OnAnswer result (ChangesOnly of_leases (T.seen tx.old).rows (T.seen tx.new).rows) }
     ensures call { IsRequestCall (T.seen tx.old) (T.seen tx.new) result IsNotBadStart }
 {
     leases::revoke_under(alloc, tx, prefix)?;

@@ -1,5 +1,5 @@
 -- What is revoked by an accessor: the token that has it, or the wrapping token.
-use Rattle.std.specs.Prelude.{◌≡◌, ◌≢◌, Bool, true, false, is_some, Option, Some, None, Result, Ok, Err}
+use Rattle.std.specs.Prelude.{◌≡◌, ◌≢◌, true, false, is_some, Option, Some, None, Result, Ok, Err}
 use Rattle.std.specs.Option.{option_map_or}
 use Rattle.std.proofs.Common.{refl, sym, ◌∙◌, ap, subst, inl, inr}
 use Rattle.std.proofs.lemmas.Bool.{false≢true}
@@ -17,10 +17,9 @@ use Rattle.broker_types.specs.declared.refusal.Reason.TheVariants as reason
 use Rattle.broker_types.specs.declared.request_error.RequestError.{RequestError}
 use Rattle.broker_types.specs.declared.request_error.RequestError.TheVariants.{Refused}
 use Rattle.records.specs.Parts.{Tells, KeepsOthers, of_waiting}
-use Rattle.records.specs.Table.{Table, table_of}
+use Rattle.records.specs.Table.{table_of}
 use Rattle.records.specs.Transaction.{Rows}
 use Rattle.token_tree.specs.Tokens as tree
-use Rattle.wrapping.specs.AccessorRows.{IsReadableName, IsReadableNamed, DropsNamed, DropsAccessor}
 use Rattle.wrapping.specs.Laws.{NamedHaveTheirAccessors}
 use Rattle.wrapping.specs.Wrapping as wrapping
 use Rattle.broker_model.specs.parts.Tokens.{revoke, revoke_named}
@@ -36,15 +35,6 @@ no_token b t one waits = elim (found_or_not (get b.tokens t)) [
   | inl none ↦ none
   | inr x ↦ absurd (waits (one_kind b t one (λ none. none-some _ (sym none ∙ x.1))))
 ]
-
--- what was dropped by the accessor was read
-pub readable_name : (accessor : Text) (old new : Table) (dropped : Bool) → DropsAccessor accessor old dropped new
-    → IsReadableName old accessor
-readable_name accessor old new dropped d = (d.0, d.1, by d.0 d.2)
-  where
-    by : (o : Option Text) → DropsNamed o old dropped new → IsReadableNamed old o
-    by None none = tt
-    by (Some t) drops = (drops.0, drops.1.was)
 
 module _ (who : Option Text) (b : Broker) (rows : Rows) (accessor : Text) where
   -- what is done with what has the accessor

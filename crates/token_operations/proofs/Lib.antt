@@ -1,6 +1,5 @@
 pub mod Holders
 pub mod Named
-pub mod Refused
 pub mod TokenChecks
 pub mod TokenCreations
 pub mod TokenLists
@@ -12,4 +11,3 @@ pub mod TokenRenewals
 pub mod TokenSets
 pub mod TokenSound
 pub mod TokenTables
-pub mod TokenUses

@@ -23,7 +23,6 @@ use Rattle.records.specs.Transaction.{Rows}
 use Rattle.api_json.specs.declared.token_bodies.TokenCreation.{TokenCreation}
 use Rattle.policies.specs.Allows.{allows}
 use Rattle.policies.specs.Grants.{grants, rules_of}
-use Rattle.policies.specs.PolicyLaws.{readable_policies}
 use Rattle.policies.specs.PolicyRows.{ArePoliciesAt}
 use Rattle.policies.specs.Rules.{Rules}
 use Rattle.policies.specs.declared.capability.Capability.TheVariants.{Sudo}
@@ -32,7 +31,6 @@ use Rattle.broker_model.specs.parts.TokenCreation.{makes_orphans, making_path, i
 use Rattle.broker_model.specs.parts.TokenCreation.{new_parent, new_token}
 use Rattle.broker_model.specs.parts.Tokens.{create, create_with, made}
 use Rattle.broker_rows.specs.Caller.{AreRulesAt}
-use Rattle.token_operations.specs.Sudo.{IsSudoAt}
 use Rattle.token_operations.specs.TokenEntries.{token_told}
 use Rattle.token_operations.specs.TokenRanges.{IsTextPair}
 
@@ -60,20 +58,7 @@ pub sudo_told : (rows : Rows) (names : List Text) (v : Verb) (rules : Rules) (po
     → p ≡ allows (record rules { verb = verb.Write }) path Sudo → p ≡ grants policies names verb.Write path Sudo
 unfolding rules_of
 sudo_told rows names v rules policies path p are known is =
-    is ∙ ap (λ (rs : Rules). allows (record rs { verb = verb.Write }) path Sudo) (are.told policies known)
-
--- so the rows decide
-pub sudo_at : (rows : Rows) (names : List Text) (v : Verb) (rules : Rules) (path : Text) (p : Bool)
-    → AreRulesAt rows names v rules
-    → p ≡ allows (record rules { verb = verb.Write }) path Sudo → IsSudoAt rows names path p
-sudo_at rows names v rules path p are is =
-    let policies = readable_policies (table_of rows) names are.readable in
-    record {
-      policies = policies.0;
-      known = policies.1;
-      readable = are.readable;
-      is = sudo_told rows names v rules policies.0 path p are policies.1 is;
-    }
+    is ∙ ap (λ (rs : Rules). allows (record rs { verb = verb.Write }) path Sudo) (are policies known)
 
 -- ---- what is made
 

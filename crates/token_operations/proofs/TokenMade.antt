@@ -11,18 +11,11 @@ use Rattle.broker_types.specs.Token.{Token}
 use Rattle.broker_types.specs.TokenText.{token_text}
 use Rattle.broker_types.specs.Used.{use_up}
 use Rattle.broker_types.specs.declared.reply.Reply.{Reply}
-use Rattle.records.specs.Parts.{KeepsOthers, of_tokens, of_used}
-use Rattle.records.specs.RowForms.{used_row}
-use Rattle.records.specs.Table.{Table, with_row}
 use Rattle.records.specs.TokenEntry.{token_entry}
 use Rattle.records.specs.Transaction.{Rows}
-use Rattle.records.specs.declared.kind.Kind.TheVariants as kind
 use Rattle.token_tree.specs.Tokens.{created, with_token}
-use Rattle.broker_model.specs.parts.TokenCommands.{of_made}
 use Rattle.broker_model.specs.parts.TokenReplies.{auth_reply}
 use Rattle.broker_model.specs.parts.Tokens.{made}
-use Rattle.broker_rows.specs.EndingLaws.{neither}
-use Rattle.broker_rows.specs.MarkLaws.{marks_keep}
 use Rattle.broker_rows.specs.Representing.{Represents}
 use Rattle.broker_rows.specs.Done.{IsDone}
 use Rattle.broker_rows.specs.declared.answered.Answered.TheVariants.{Made}
@@ -40,13 +33,6 @@ made_done {who} b names x new named st r a shown given = (
   subst (λ i. Represents who new (record
       (with_token b (token_text names.token) x) { used = use_up b.used (names.token ∷ i ∷ []) })) named st,
 )
-
--- whatever the rows are, no other row has changed
-pub made_others : (old mid new : Table) (i j : Text) → KeepsOthers of_tokens old mid
-    → new ≡ with_row (with_row mid kind.Used j used_row) kind.Used i used_row → KeepsOthers of_made old new
-made_others old mid new i j others marks k q h =
-    let apart = neither (of_tokens k) (of_used k) h in
-    marks_keep i j mid new marks k q apart.1 ∙ others k q apart.0
 
 -- ---- no token has an empty text
 

@@ -2,7 +2,7 @@
 use Rattle.std.specs.Prelude.{◌≡◌, ◌+◌, ℕ, List, Bool, true, false, cond, if◌then◌else◌}
 use Rattle.std.specs.Prelude.{Option, Some, None, option_map, option_and_then, take, drop}
 use Rattle.std.specs.FinMap.{get-empty}
-use Rattle.std.proofs.Common.{refl, sym, ◌∙◌, ap, subst}
+use Rattle.std.proofs.Common.{refl, sym, ◌∙◌, ap}
 use Rattle.std.proofs.lemmas.Bool.{false≢true}
 use Rattle.broker_types.specs.Text.{Text, text_cmp, same}
 use Rattle.broker_types.specs.Map.{get, put, empty, change}
@@ -12,35 +12,26 @@ use Rattle.broker_types.specs.TreeLaws.{orphaned_is}
 use Rattle.broker_types.specs.Lineage.{without_descendants, without_parent}
 use Rattle.broker_types.specs.Places.{token, token_identifier, lease_of}
 use Rattle.broker_types.specs.Token.{Token, Tokens}
-use Rattle.broker_types.specs.Broker.{Broker, Waiting, revoke, revoke_orphan}
+use Rattle.broker_types.specs.Broker.{Broker, revoke, revoke_orphan}
 use Rattle.broker_types.specs.RemovalLaws.{revoke_sound, revoke_orphan_sound}
 use Rattle.broker_types.specs.Sound.{IsEnd, Sound}
 use Rattle.records.specs.declared.kind.Kind.{Kind}
 use Rattle.records.specs.declared.kind.Kind.TheVariants as kind
 use Rattle.records.specs.Parts.{Tells, KeepsOthers, of_tokens, of_cubbyholes}
-use Rattle.records.specs.Ranges.{IsWaitingInRange}
-use Rattle.records.specs.Reading.{IsRowOf}
-use Rattle.records.specs.RowForms.{cubby_row, used_row, waiting_row}
+use Rattle.records.specs.RowForms.{cubby_row, used_row}
 use Rattle.records.specs.Rows.{rows_of, token_len, has_slash, object_row}
 use Rattle.records.specs.Table.{Table, table_of, with_row}
 use Rattle.records.specs.Transaction.{Rows}
 use Rattle.token_tree.specs.SoundLaws.{renew_sound}
 use Rattle.token_tree.specs.Tokens.{AreEnded, MayBeMade, created, with_token, with_end, renew}
 use Rattle.broker_model.specs.Forms.{forms}
-use Rattle.leases.specs.Endings.{AreReadable, are_owned}
 use Rattle.leases.specs.LeftLaws.{go_with_tokens, nothing_ends}
-use Rattle.wrapping.specs.WaitingRows.{IsReadableWaiting}
-use Rattle.broker_rows.specs.Ending.{DropsResponse, LeavesNothing}
 use Rattle.broker_rows.specs.Left.{HaveEnded}
 use Rattle.broker_rows.specs.LeftLaws.{revoked_left}
 use Rattle.broker_rows.specs.MarkLaws.{marks_joined}
 use Rattle.broker_rows.specs.Representing.{Represents}
-use Rattle.broker_rows.specs.EndingLaws.{leaves_others, no_token, is_object, is_elsewhere, other_tokens}
-use Rattle.broker_rows.specs.ReadableLaws.{leases_before, readable_alone}
+use Rattle.broker_rows.specs.EndingLaws.{no_token, is_object, is_elsewhere, other_tokens}
 use Rattle.broker_rows.specs.RepresentingLaws.{leases_still, changed_leases}
-use Rattle.token_operations.specs.Revoked.{EndsTokens, IsReadableBy, RevokesBy}
-use Rattle.token_operations.specs.declared.revocation.Descent.{Descent}
-use Rattle.token_operations.specs.declared.revocation.Descent.TheVariants.{Ends, Stays}
 
 -- ---- tokens that end
 
@@ -71,35 +62,6 @@ module _ {who : Option Text} (b : Broker) (t : Text) (old mid : Rows) (ended : L
       kept = λ q y is. let x = orphaned_is b.tokens t q y is in (x.0, x.1, ap (λ (z : Token). z.leases) x.2);
     });
   }
-
-module _ (t : Text) (ended : List Text) (old mid left new : Rows) (leaves : LeavesNothing ended mid left)
-    (drops : DropsResponse t left new) where
-  -- the rows that go with a token that is revoked
-  pub revoked_rows : (d : Descent) → EndsTokens d t old ended mid → RevokesBy d t old new
-  revoked_rows Ends ends = record {
-    left = left;
-    ends = record { ended = ended; left = mid; ends = ends; leaves = leaves };
-    drops = drops;
-  }
-  revoked_rows Stays ends = record {
-    left = left;
-    ends = record { ended = ended; left = mid; ends = ends; leaves = leaves };
-    drops = drops;
-  }
-
-  -- what was read once the tokens had ended could be read before
-  module _ (others : KeepsOthers of_tokens (table_of old) (table_of mid)) where
-    leases : AreReadable (are_owned ended) (table_of old)
-    leases = leases_before (are_owned ended) (table_of old) (table_of mid) others leaves.leases.readable
-
-    response : IsReadableWaiting (table_of old) t
-    response =
-        subst (λ o. (w : Option Waiting) × IsRowOf IsWaitingInRange waiting_row o w)
-        (leaves_others ended mid left leaves kind.Waiting t refl ∙ others kind.Waiting t refl) (drops.0, drops.1.was)
-
-    pub revoked_readable : (d : Descent) → EndsTokens d t old ended mid → IsReadableBy d old t
-    revoked_readable Ends ends = ((ended, ends.descent, ends.readable, leases), response)
-    revoked_readable Stays ends = (readable_alone t old ended mid ends leases, response)
 
 -- ---- rows of cubbyholes and leases that stay
 

@@ -1,6 +1,4 @@
-pub mod ChangedTokens
 pub mod Revoked
-pub mod Sudo
 pub mod TokenEntries
 pub mod TokenMaking
 pub mod TokenRanges

@@ -1,16 +1,10 @@
 -- What a revocation does: of a token with all below it, or of one alone (this project's definition).
-use Rattle.std.specs.Prelude.{List}
 use Rattle.broker_types.specs.Broker.{Broker}
 use Rattle.broker_types.specs.Lineage.{without_descendants, without_parent}
 use Rattle.broker_types.specs.Operation.{Done, nothing, plainly}
 use Rattle.broker_types.specs.Spending.{drop_waiting}
 use Rattle.broker_types.specs.Text.{Text}
 use Rattle.broker_types.specs.Token.{Tokens}
-use Rattle.records.specs.Transaction.{Rows}
-use Rattle.token_tree.specs.Ended.{is_named}
-use Rattle.token_tree.specs.Endings.{EndsAlone, EndsDescent}
-use Rattle.broker_rows.specs.Ending.{Revokes, RevokesOne}
-use Rattle.broker_rows.specs.Reads.{IsReadableRevoked, IsReadableRevokedAlone}
 use Rattle.token_operations.specs.declared.revocation.Descent.{Descent}
 use Rattle.token_operations.specs.declared.revocation.Descent.TheVariants.{Ends, Stays}
 
@@ -22,20 +16,3 @@ left_by Stays = without_parent
 -- these tokens are left, and the response that waits under t, if one does, goes
 abbrev pub revoked : Descent → Broker → Text → Done
 revoked descent b t = plainly nothing (drop_waiting (record b { tokens = left_by descent b.tokens t }) t)
-
--- ---- whatever the rows are
-
--- what is read
-abbrev pub IsReadableBy : Descent → Rows → Text → Type 0
-IsReadableBy Ends = IsReadableRevoked
-IsReadableBy Stays = IsReadableRevokedAlone
-
--- how the tokens end
-abbrev pub EndsTokens : Descent → Text → Rows → List Text → Rows → Type 0
-EndsTokens Ends t = EndsDescent (is_named t)
-EndsTokens Stays t = EndsAlone t
-
--- and what goes with them
-abbrev pub RevokesBy : Descent → Text → Rows → Rows → Type 0
-RevokesBy Ends = Revokes
-RevokesBy Stays = RevokesOne

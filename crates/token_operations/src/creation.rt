@@ -1,6 +1,6 @@
 //! Creation of tokens.
 
-ghost use Rattle.std.specs.Prelude.{◌≡◌, false, Option, IfOk, OnOk};
+ghost use Rattle.std.specs.Prelude.{◌≡◌, Option, IfOk, OnOk};
 ghost use Rattle.broker_types.specs.Broker.{Broker};
 ghost use Rattle.broker_types.specs.Fault.{IsMemoryOrStorage, IsNotBadStart};
 ghost use Rattle.broker_types.specs.Map.{empty};
@@ -9,7 +9,7 @@ ghost use Rattle.broker_types.specs.Text.{Text};
 ghost use Rattle.broker_types.specs.Token.{Token};
 ghost use Rattle.broker_types.specs.TokenText.{token_text};
 ghost use Rattle.broker_types.specs.declared.ask.Verb.TheVariants as verb;
-ghost use Rattle.records.specs.Calls.{OnRefused, IsCall, IsRequestCall};
+ghost use Rattle.records.specs.Calls.{IsCall, IsRequestCall};
 ghost use Rattle.records.specs.Ranges.{IsTokenInRange};
 ghost use Rattle.records.specs.TokenEntry.{token_entry};
 ghost use Rattle.records.specs.Transaction.{IsHonest};
@@ -19,15 +19,12 @@ ghost use Rattle.policies.specs.Allows.{allows};
 ghost use Rattle.policies.specs.declared.capability.Capability.TheVariants as capability;
 ghost use Rattle.broker_model.specs.Forms.{forms};
 ghost use Rattle.broker_model.specs.Traits.{token_names};
-ghost use Rattle.broker_model.specs.parts.TokenCommands.{of_made};
 ghost use Rattle.broker_model.specs.parts.TokenCreation.{making_path};
 ghost use Rattle.broker_model.specs.parts.Tokens as part;
-ghost use Rattle.broker_rows.specs.Caller.{AreItsRules, IsCallerAt};
-ghost use Rattle.broker_rows.specs.Changed.{ChangesOnly};
-ghost use Rattle.broker_rows.specs.Ending.{KeepsUses, has_no_uses};
+ghost use Rattle.broker_rows.specs.Caller.{AreItsRules};
 ghost use Rattle.broker_rows.specs.Operating.{ArePrinted, PerformsBy};
 ghost use Rattle.broker_rows.specs.Representing.{Represents};
-ghost use Rattle.token_operations.specs.TokenMaking.{MayMakeAt, PutsToken};
+ghost use Rattle.token_operations.specs.TokenMaking.{PutsToken};
 
 use crate::new_policies::new_policies;
 use crate::new_token::{check, new_parent, new_record};
@@ -57,18 +54,6 @@ pub(crate) fn create<T: RecordsTx>(
         → PerformsBy asker.now.caller context.now (token_names (names_of context.now.words))
         (T.seen tx.old) (T.seen tx.new)
         (λ b. part.create b asker.now.caller.token (names_of context.now.words) making asked.now) result }
-
-    // Whatever the rows are: it is made only if the row of the caller and those of its policies say that the caller
-    // may.
-    ensures may { IsHonest (T.seen tx.new) → IsCallerAt (T.seen tx.old).rows asker.now.caller
-        → AreItsRules (T.seen tx.old).rows asker.now
-        → OnOk result (MayMakeAt (T.seen tx.old).rows asker.now.caller.token making asked.now) }
-
-    // And no row changes but those of tokens and identifiers. The new token has uses left, and no other loses its last.
-    ensures rows { IsHonest (T.seen tx.new)
-        → OnOk result (ChangesOnly of_made (T.seen tx.old).rows (T.seen tx.new).rows) }
-    ensures uses { IsHonest (T.seen tx.new) → OnOk result (KeepsUses (T.seen tx.old).rows (T.seen tx.new).rows) }
-    ensures refused { IsHonest (T.seen tx.new) → OnRefused result ((T.seen tx.new).rows ≡ (T.seen tx.old).rows) }
     ensures call { IsRequestCall (T.seen tx.old) (T.seen tx.new) result IsNotBadStart }
 {
     let alloc = context.alloc;
@@ -103,14 +88,6 @@ fn make<T: RecordsTx>(
     requires { IsTokenInRange token }
     ensures told { (who : Option Text) → identifier.now ≡ (names_of context.now.words).token
         → PutsToken who context.now (T.seen tx.old) (T.seen tx.new) token result }
-
-    // Whatever the rows are: none changes but those of tokens and identifiers. No token loses its last use, if the new
-    // one has some.
-    ensures rows { IsHonest (T.seen tx.new)
-        → OnOk result (ChangesOnly of_made (T.seen tx.old).rows (T.seen tx.new).rows) }
-    ensures uses { IsHonest (T.seen tx.new) → has_no_uses token ≡ false
-        → OnOk result (KeepsUses (T.seen tx.old).rows (T.seen tx.new).rows) }
-    ensures refused { IsHonest (T.seen tx.new) → OnRefused result ((T.seen tx.new).rows ≡ (T.seen tx.old).rows) }
     ensures call { IsRequestCall (T.seen tx.old) (T.seen tx.new) result IsNotBadStart }
 {
     let (text, accessor) = put(tx, context.alloc, identifier, &token)?;
@@ -130,10 +107,6 @@ fn put<T: RecordsTx>(
         → Represents who (T.seen tx.old).rows b → token_entry x ≡ token.now
         → MayBeMade forms b (token_text identifier.now) x → x.cubbyhole ≡ empty
         → OnOk result (Represents who (T.seen tx.new).rows (created b (token_text identifier.now) x)) }
-    ensures rows { IsHonest (T.seen tx.new)
-        → OnOk result (ChangesOnly of_made (T.seen tx.old).rows (T.seen tx.new).rows) }
-    ensures uses { IsHonest (T.seen tx.new) → has_no_uses token.now ≡ false
-        → OnOk result (KeepsUses (T.seen tx.old).rows (T.seen tx.new).rows) }
     ensures call { IsCall (T.seen tx.old) (T.seen tx.new) result IsMemoryOrStorage }
 {
     let text = token_text(alloc, identifier)?;

@@ -5,16 +5,12 @@ ghost use Rattle.broker_types.specs.Fault.{IsNotBadStart};
 ghost use Rattle.broker_types.specs.Names.{names_of};
 ghost use Rattle.broker_types.specs.Operation as operation;
 ghost use Rattle.broker_types.specs.Text.{Text};
-ghost use Rattle.records.specs.Calls.{OnAnswer, IsRequestReading};
+ghost use Rattle.records.specs.Calls.{IsRequestReading};
 ghost use Rattle.records.specs.Ranges.{IsTokenInRange};
-ghost use Rattle.records.specs.Transaction.{IsHonest};
-ghost use Rattle.token_tree.specs.Accessors.{AreAccessorRows};
 ghost use Rattle.broker_model.specs.parts.TokenReplies.{token_reply};
 ghost use Rattle.broker_model.specs.parts.Tokens as part;
 ghost use Rattle.broker_rows.specs.Done.{answered_of};
 ghost use Rattle.broker_rows.specs.Operating.{Performs};
-ghost use Rattle.broker_rows.specs.ReadableRow.{IsReadableToken};
-ghost use Rattle.broker_rows.specs.Reads.{IsReadableName};
 
 use crate::copying::copied_token;
 use crate::shown::looked_up;
@@ -34,10 +30,6 @@ pub(crate) fn look_up<T: RecordsTx>(
 ) -> Result<Answered, RequestError>
     ensures told { (who : Option Text) → Performs who context.now [] (T.seen tx.old) (T.seen tx.new)
         (λ b. part.look_up b (names_of context.now.words) token.now id.now) result }
-
-    // Whatever the rows are: a damaged row is answered neither as a token nor as an unknown text.
-    ensures readable { IsHonest (T.seen tx.new)
-        → OnAnswer result (IsReadableToken (T.seen tx.old).rows token.now) }
     ensures call { IsRequestReading (T.seen tx.old) (T.seen tx.new) result IsNotBadStart }
 {
     let Some(found) = find(context.alloc, tx, token)? else {
@@ -78,11 +70,6 @@ pub(crate) fn look_up_accessor<T: RecordsTx>(
 ) -> Result<Answered, RequestError>
     ensures told { (who : Option Text) → Performs who context.now [] (T.seen tx.old) (T.seen tx.new)
         (λ b. part.look_up_accessor b (names_of context.now.words) accessor.now) result }
-
-    // Whatever the rows are: it is neither answered nor refused if the row of the accessor is damaged, or that of the
-    // token that it names.
-    ensures readable { IsHonest (T.seen tx.new)
-        → OnAnswer result (IsReadableName (T.seen tx.old).rows (IsReadableToken (T.seen tx.old).rows) accessor.now) }
     ensures call { IsRequestReading (T.seen tx.old) (T.seen tx.new) result IsNotBadStart }
 {
     let Some(token) = find_accessor(tx, accessor)? else {
@@ -98,9 +85,6 @@ pub(crate) fn list_accessors<T: RecordsTx>(
 ) -> Result<Answered, RequestError>
     ensures told { (who : Option Text) → Performs who context.now [] (T.seen tx.old) (T.seen tx.new)
         (λ b. Ok (part.all_accessors b (names_of context.now.words))) result }
-
-    // Whatever the rows are: no list passes over a damaged row.
-    ensures readable { IsHonest (T.seen tx.new) → OnAnswer result (AreAccessorRows (T.seen tx.old).rows) }
     ensures call { IsRequestReading (T.seen tx.old) (T.seen tx.new) result IsNotBadStart }
 {
     let names = accessors(context.alloc, tx)?;

@@ -1,24 +1,20 @@
 //! Renewal of tokens.
 
-ghost use Rattle.std.specs.Prelude.{◌≡◌, [], Option, Some, option_map, OnOk};
+ghost use Rattle.std.specs.Prelude.{◌≡◌, [], Option, Some, option_map};
 ghost use Rattle.broker_types.specs.Broker.{Broker};
 ghost use Rattle.broker_types.specs.Fault.{IsNotBadStart};
 ghost use Rattle.broker_types.specs.Map.{get};
 ghost use Rattle.broker_types.specs.Names.{names_of};
 ghost use Rattle.broker_types.specs.Sound.{IsEnd};
 ghost use Rattle.broker_types.specs.Text.{Text};
-ghost use Rattle.records.specs.Parts.{of_tokens};
 ghost use Rattle.records.specs.Ranges.{IsTokenInRange};
 ghost use Rattle.records.specs.Table.{table};
 ghost use Rattle.records.specs.TokenEntry.{token_entry};
 ghost use Rattle.records.specs.Transaction.{IsHonest};
-ghost use Rattle.records.specs.Calls.{OnAnswer, OnRefused, IsRequestCall};
+ghost use Rattle.records.specs.Calls.{IsRequestCall};
 ghost use Rattle.token_tree.specs.TokenRows.{IsTokenAt};
 ghost use Rattle.broker_model.specs.parts.Tokens as part;
-ghost use Rattle.broker_rows.specs.Changed.{ChangesOnly};
-ghost use Rattle.broker_rows.specs.Ending.{KeepsUses};
 ghost use Rattle.broker_rows.specs.Operating.{ActsAs, Begins, Performs};
-ghost use Rattle.broker_rows.specs.ReadableRow.{IsReadableToken};
 
 use crate::LONGEST_TTL;
 use crate::shown::auth_reply;
@@ -37,16 +33,6 @@ pub(crate) fn renew<T: RecordsTx>(
 ) -> Result<Answered, RequestError>
     ensures told { (who : Option Text) → Performs who context.now [] (T.seen tx.old) (T.seen tx.new)
         (λ b. part.renew b (names_of context.now.words) token.now increment) result }
-
-    // Whatever the rows are: a damaged row is answered neither as a token nor as an unknown text.
-    ensures readable { IsHonest (T.seen tx.new)
-        → OnAnswer result (IsReadableToken (T.seen tx.old).rows token.now) }
-
-    // And no row changes but those of tokens, of which none loses its last use.
-    ensures rows { IsHonest (T.seen tx.new)
-        → OnOk result (ChangesOnly of_tokens (T.seen tx.old).rows (T.seen tx.new).rows) }
-    ensures uses { IsHonest (T.seen tx.new) → OnOk result (KeepsUses (T.seen tx.old).rows (T.seen tx.new).rows) }
-    ensures refused { IsHonest (T.seen tx.new) → OnRefused result ((T.seen tx.new).rows ≡ (T.seen tx.old).rows) }
     ensures call { IsRequestCall (T.seen tx.old) (T.seen tx.new) result IsNotBadStart }
 {
     let Some(found) = find(context.alloc, tx, token)? else {
@@ -68,12 +54,6 @@ fn renew_found<T: RecordsTx>(
     ensures told { IsHonest (T.seen tx.new) → (who : Option Text) (b : Broker)
         → Begins who context.now (T.seen tx.old).rows b → Some found ≡ option_map token_entry (get b.tokens token.now)
         → ActsAs who b (T.seen tx.new).rows result (part.renew b (names_of context.now.words) token.now increment) }
-
-    // Whatever the rows are: none changes but those of tokens, of which none loses its last use.
-    ensures rows { IsHonest (T.seen tx.new)
-        → OnOk result (ChangesOnly of_tokens (T.seen tx.old).rows (T.seen tx.new).rows) }
-    ensures uses { IsHonest (T.seen tx.new) → OnOk result (KeepsUses (T.seen tx.old).rows (T.seen tx.new).rows) }
-    ensures refused { IsHonest (T.seen tx.new) → OnRefused result ((T.seen tx.new).rows ≡ (T.seen tx.old).rows) }
     ensures call { IsRequestCall (T.seen tx.old) (T.seen tx.new) result IsNotBadStart }
 {
     let alloc = context.alloc;

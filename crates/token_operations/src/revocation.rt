@@ -1,23 +1,18 @@
 //! Revocation of tokens and of wrapping tokens.
 
-ghost use Rattle.std.specs.Prelude.{◌≡◌, true, Ok, Option, None, IfOk, IfErr, OnOk};
+ghost use Rattle.std.specs.Prelude.{◌≡◌, Ok, Option, None, IfOk, IfErr};
 ghost use Rattle.broker_types.specs.Broker.{Broker};
 ghost use Rattle.broker_types.specs.Fault.{IsMemoryOrStorage, IsNotBadStart};
 ghost use Rattle.broker_types.specs.Text.{Text};
-ghost use Rattle.records.specs.Table.{table_of};
 ghost use Rattle.records.specs.Transaction.{IsHonest};
-ghost use Rattle.records.specs.Calls.{OnAnswer, OnRefused, IsChange, IsRequestCall};
+ghost use Rattle.records.specs.Calls.{IsChange, IsRequestCall};
 ghost use Rattle.records.specs.Parts.{KeepsOthers, of_tokens};
 ghost use Rattle.token_tree.specs.Tokens as tree;
-ghost use Rattle.wrapping.specs.AccessorRows as wrapping;
-ghost use Rattle.wrapping.specs.AccessorRows.{DropsAccessor};
 ghost use Rattle.broker_model.specs.parts.Tokens as part;
 ghost use Rattle.broker_rows.specs.Left.{HaveEnded};
 ghost use Rattle.broker_rows.specs.Operating.{ActsAs};
-ghost use Rattle.broker_rows.specs.Reads.{IsReadableByAccessor};
 ghost use Rattle.broker_rows.specs.Representing.{Represents};
-ghost use Rattle.token_operations.specs.ChangedTokens.{RevokesNamed};
-ghost use Rattle.token_operations.specs.Revoked.{EndsTokens, IsReadableBy, RevokesBy, left_by, revoked};
+ghost use Rattle.token_operations.specs.Revoked.{left_by, revoked};
 
 use broker_rows::{Answered, leave_nothing};
 use broker_types::{Fault, Reason, Refusal, RequestError, TextBuf};
@@ -46,17 +41,6 @@ pub(crate) fn revoke<T: RecordsTx>(
 ) -> Result<Answered, RequestError>
     ensures told { IsHonest (T.seen tx.new) → (who : Option Text) (b : Broker) → Represents who (T.seen tx.old).rows b
         → ActsAs who b (T.seen tx.new).rows result (Ok (revoked descent b token.now)) }
-
-    // Whatever the rows are: it is neither answered nor refused if the row of a token that ends is damaged, or of a
-    // lease of these, or that of the wrapping token.
-    ensures readable { IsHonest (T.seen tx.new)
-        → OnAnswer result (IsReadableBy descent (T.seen tx.old).rows token.now) }
-
-    // And these rows go, with those of their accessors and what belonged to them. No other row changes, but for those
-    // of children that stay.
-    ensures rows { IsHonest (T.seen tx.new)
-        → OnAnswer result (RevokesBy descent token.now (T.seen tx.old).rows (T.seen tx.new).rows) }
-    ensures refused { IsHonest (T.seen tx.new) → OnRefused result ((T.seen tx.new).rows ≡ (T.seen tx.old).rows) }
     ensures call { IsRequestCall (T.seen tx.old) (T.seen tx.new) result IsNotBadStart }
 {
     let ended = end_tokens(alloc, tx, token, descent)?;
@@ -76,10 +60,6 @@ fn end_tokens<T: RecordsTx>(
     ensures told { IsHonest (T.seen tx.new) → (who : Option Text) (b : Broker) → Represents who (T.seen tx.old).rows b
         → IfOk result (λ list.
         HaveEnded who who b (left_by descent b.tokens token.now) list.items (T.seen tx.new).rows) }
-
-    // Whatever the rows are: those of these tokens were read, and go with those of their accessors.
-    ensures rows { IsHonest (T.seen tx.new) → IfOk result (λ list.
-        EndsTokens descent token.now (T.seen tx.old).rows list.items (T.seen tx.new).rows) }
     ensures wants { IsHonest (T.seen tx.new) → (who : Option Text) (b : Broker) → Represents who (T.seen tx.old).rows b
         → IfErr result IsMemoryOrStorage }
     ensures call { IsChange (KeepsOthers of_tokens) (T.seen tx.old) (T.seen tx.new) result IsNotBadStart }
@@ -99,16 +79,6 @@ pub(crate) fn revoke_accessor<T: RecordsTx>(
 ) -> Result<Answered, RequestError>
     ensures told { IsHonest (T.seen tx.new) → (who : Option Text) (b : Broker) → Represents who (T.seen tx.old).rows b
         → ActsAs who b (T.seen tx.new).rows result (part.revoke_named b accessor.now) }
-
-    // Whatever the rows are: it is neither answered nor refused if the row of the accessor is damaged, or that of the
-    // token that it names, or of one below it, or of a lease of these, or that of the wrapping token that it names.
-    ensures readable { IsHonest (T.seen tx.new)
-        → OnAnswer result (IsReadableByAccessor (T.seen tx.old).rows accessor.now) }
-
-    // And what has the accessor goes, and no other row changes.
-    ensures rows { IsHonest (T.seen tx.new)
-        → OnOk result (RevokesNamed accessor.now (T.seen tx.old).rows (T.seen tx.new).rows) }
-    ensures refused { IsHonest (T.seen tx.new) → OnRefused result ((T.seen tx.new).rows ≡ (T.seen tx.old).rows) }
     ensures call { IsRequestCall (T.seen tx.old) (T.seen tx.new) result IsNotBadStart }
 {
     let Some(token) = find_accessor(tx, accessor)? else {
@@ -127,14 +97,6 @@ fn revoke_wrapping<T: RecordsTx>(
     ensures told { IsHonest (T.seen tx.new) → (who : Option Text) (b : Broker) → Represents who (T.seen tx.old).rows b
         → tree.find_accessor b accessor.now ≡ None
         → ActsAs who b (T.seen tx.new).rows result (part.revoke_named b accessor.now) }
-
-    // Whatever the rows are: it is neither answered nor refused if the row of the accessor is damaged, or that of the
-    // wrapping token that it names.
-    ensures readable { IsHonest (T.seen tx.new)
-        → OnAnswer result (wrapping.IsReadableName (table_of (T.seen tx.old).rows) accessor.now) }
-    ensures rows { IsHonest (T.seen tx.new) → OnOk result
-        (DropsAccessor accessor.now (table_of (T.seen tx.old).rows) true (table_of (T.seen tx.new).rows)) }
-    ensures refused { IsHonest (T.seen tx.new) → OnRefused result ((T.seen tx.new).rows ≡ (T.seen tx.old).rows) }
     ensures call { IsRequestCall (T.seen tx.old) (T.seen tx.new) result IsNotBadStart }
 {
     accessors_name_their_wrapping_tokens();

@@ -1,19 +1,15 @@
 //! Requests on tokens: what they ask for, and what is done (Vault's documentation, "Token auth method (API)").
 
-ghost use Rattle.std.specs.Prelude.{◌≡◌, OnOk, ◌≤◌, IfOk, length};
+ghost use Rattle.std.specs.Prelude.{◌≤◌, IfOk, length};
 ghost use Rattle.broker_types.specs.Fault.{IsNotBadStart};
 ghost use Rattle.broker_types.specs.Names.{names_of};
-ghost use Rattle.records.specs.Calls.{OnAnswer, OnRefused, IsRequestCall};
+ghost use Rattle.records.specs.Calls.{IsRequestCall};
 ghost use Rattle.records.specs.Ranges.{IsTokenInRange};
-ghost use Rattle.records.specs.Transaction.{IsHonest};
 ghost use Rattle.broker_model.specs.Traits.{names_needed};
 ghost use Rattle.broker_model.specs.parts.TokenCommands.{token_needs, token_command};
 ghost use Rattle.broker_model.specs.parts.Tokens as part;
-ghost use Rattle.broker_rows.specs.Caller.{AreItsRules, IsCallerAt};
-ghost use Rattle.broker_rows.specs.Ending.{KeepsUses};
+ghost use Rattle.broker_rows.specs.Caller.{AreItsRules};
 ghost use Rattle.broker_rows.specs.Operating.{ArePrinted, PerformsBy};
-ghost use Rattle.broker_rows.specs.Reads.{AreReadableTokens};
-ghost use Rattle.token_operations.specs.ChangedTokens.{ChangesTokens};
 ghost use Rattle.token_operations.specs.TokenRanges.{IsTokenCommandInRange};
 ghost use Rattle.broker_types.specs.Limits.{longest_body};
 ghost use Rattle.api_json.specs.Readers as reader;
@@ -104,21 +100,6 @@ pub fn act_on_tokens<T: RecordsTx>(
         → PerformsBy asker.now.caller context.now (names_needed (token_needs command) (names_of context.now.words))
         (T.seen tx.old) (T.seen tx.new)
         (λ b. part.act_on_tokens b asker.now.caller.token (names_of context.now.words) command) result }
-
-    // Whatever the rows are: it is neither answered nor refused if a row that the command reads is damaged. That of the
-    // caller was read before.
-    ensures readable { IsHonest (T.seen tx.new) → IsCallerAt (T.seen tx.old).rows asker.now.caller
-        → OnAnswer result (AreReadableTokens (T.seen tx.old).rows asker.now.caller.token command) }
-
-    // And a look-up changes no row, what is revoked is gone, and no other row; a token that is made or renewed changes
-    // only rows of tokens, and of the identifiers that are given out; and what is refused changes no row.
-    ensures rows { IsHonest (T.seen tx.new) → OnOk result
-        (ChangesTokens asker.now.caller.token command (T.seen tx.old).rows (T.seen tx.new).rows) }
-
-    // And each token that had uses left, or was not there, has some left by a row that can be read, or is not there.
-    ensures uses { IsHonest (T.seen tx.new) → IsCallerAt (T.seen tx.old).rows asker.now.caller
-        → OnOk result (KeepsUses (T.seen tx.old).rows (T.seen tx.new).rows) }
-    ensures refused { IsHonest (T.seen tx.new) → OnRefused result ((T.seen tx.new).rows ≡ (T.seen tx.old).rows) }
     ensures call { IsRequestCall (T.seen tx.old) (T.seen tx.new) result IsNotBadStart }
 {
     let alloc = context.alloc;

@@ -5,14 +5,10 @@ ghost use Rattle.broker_types.specs.Broker.{Broker};
 ghost use Rattle.broker_types.specs.Fault.{IsMemoryOrStorage};
 ghost use Rattle.broker_types.specs.Map.{get};
 ghost use Rattle.broker_types.specs.Spending.{drop_waiting};
-ghost use Rattle.broker_types.specs.Text.{Text};
-ghost use Rattle.records.specs.declared.holder.Holder.TheVariants as holder;
-ghost use Rattle.records.specs.declared.kind.Kind.TheVariants as kind;
 ghost use Rattle.records.specs.Calls.{IsCall, IsReading, IsChange, IsReadFault};
 ghost use Rattle.records.specs.Parts.{of_waiting, Tells, KeepsOthers};
 ghost use Rattle.records.specs.Ranges.{IsWaitingInRange};
 ghost use Rattle.records.specs.Reading.{IsSomeIn};
-ghost use Rattle.records.specs.RowForms.{accessor_row};
 ghost use Rattle.records.specs.Table.{table};
 ghost use Rattle.records.specs.Transaction.{IsHonest};
 ghost use Rattle.wrapping.specs.AccessorRows.{NamesAt, DropsAccessor, IsDamagedAccessor, IsDamagedName};
@@ -96,10 +92,6 @@ pub fn drop_token<T: RecordsTx>(alloc: Global, tx: &mut T, token: &str) -> Resul
         Drops token.now (table (T.seen tx.old)) dropped (table (T.seen tx.new))) }
     ensures told { IsHonest (T.seen tx.new) → (b : Broker) → RepresentsWaiting (table (T.seen tx.old)) b
         → OnOk result (Tells of_waiting (table (T.seen tx.new)) (drop_waiting b token.now)) }
-    ensures dropped { IsHonest (T.seen tx.new) → (b : Broker) → RepresentsWaiting (table (T.seen tx.old)) b
-        → IfOk result (λ dropped. dropped ≡ is_some (get b.waiting token.now)) }
-    ensures unknown { IsHonest (T.seen tx.new) → IfOk result (λ dropped.
-        dropped ≡ false → (T.seen tx.new).rows ≡ (T.seen tx.old).rows) }
     ensures wants { IsHonest (T.seen tx.new) → (b : Broker) → RepresentsWaiting (table (T.seen tx.old)) b
         → IfErr result IsMemoryOrStorage }
     ensures call { IsChange (KeepsOthers of_waiting) (T.seen tx.old) (T.seen tx.new) result
@@ -139,9 +131,6 @@ pub fn drop_accessor<T: RecordsTx>(alloc: Global, tx: &mut T, accessor: &str) ->
         → OnOk result (Tells of_waiting (table (T.seen tx.new)) (wrapping.drop_accessor b accessor.now)) }
     ensures dropped { IsHonest (T.seen tx.new) → (b : Broker) → RepresentsWaiting (table (T.seen tx.old)) b
         → IfOk result (λ dropped. dropped ≡ is_some (wrapping.find_accessor b accessor.now)) }
-    ensures of_token { IsHonest (T.seen tx.new) → (t : Text)
-        → table (T.seen tx.old) kind.Accessor accessor.now ≡ Some (accessor_row t holder.Token)
-        → IfOk result (λ dropped. dropped ≡ false) }
     ensures unknown { IsHonest (T.seen tx.new) → IfOk result (λ dropped.
         dropped ≡ false → (T.seen tx.new).rows ≡ (T.seen tx.old).rows) }
     ensures wants { IsHonest (T.seen tx.new) → (b : Broker) → RepresentsWaiting (table (T.seen tx.old)) b
@@ -151,6 +140,6 @@ pub fn drop_accessor<T: RecordsTx>(alloc: Global, tx: &mut T, accessor: &str) ->
 {
     match find_accessor(tx, accessor)? {
         None => Ok(false),
-        Some(token) => drop_token(alloc, tx, token.as_str()),
+        Some(token) => Ok(take_out(alloc, tx, token.as_str())?.is_some()),
     }
 }

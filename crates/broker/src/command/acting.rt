@@ -3,15 +3,12 @@
 ghost use Rattle.std.specs.Prelude.{None};
 ghost use Rattle.broker_types.specs.Fault.{IsNotBadStart};
 ghost use Rattle.broker_types.specs.Names.{names_of};
-ghost use Rattle.records.specs.Calls.{OnAnswer, IsRequestCall};
+ghost use Rattle.records.specs.Calls.{IsRequestCall};
 ghost use Rattle.records.specs.Ranges.{IsTokenInRange};
-ghost use Rattle.records.specs.Transaction.{IsHonest};
 ghost use Rattle.broker_model.specs.Act as model;
 ghost use Rattle.broker_model.specs.Step.{traits};
-ghost use Rattle.broker_rows.specs.Caller.{AreItsRules, IsCallerAt};
-ghost use Rattle.broker_rows.specs.Ending.{KeepsUses};
+ghost use Rattle.broker_rows.specs.Caller.{AreItsRules};
 ghost use Rattle.broker_rows.specs.Operating.{ArePrinted, Performs, PerformsBy};
-ghost use Rattle.broker.specs.Answering.{IsReadableCommand, IsReadableOpenly};
 ghost use Rattle.broker.specs.Meant.{meant, IsInRange, IsWellPlaced};
 
 use crate::answers::PERMISSION_DENIED;
@@ -35,10 +32,6 @@ impl Command<'_> {
         ensures told { Performs None context.now
             ((traits (meant self.entry)).own (names_of context.now.words)) (T.seen tx.old) (T.seen tx.new)
             (λ b. model.act_openly b (names_of context.now.words) (meant self.entry)) result }
-        ensures readable { IsHonest (T.seen tx.new)
-            → OnAnswer result (IsReadableOpenly (T.seen tx.old).rows (meant self.entry)) }
-        ensures uses { IsHonest (T.seen tx.new)
-            → OnAnswer result (KeepsUses (T.seen tx.old).rows (T.seen tx.new).rows) }
         ensures call { IsRequestCall (T.seen tx.old) (T.seen tx.new) result IsNotBadStart }
     {
         match self {
@@ -62,15 +55,6 @@ impl Command<'_> {
             → PerformsBy asker.now.caller context.now
             ((traits (meant self.entry)).own (names_of context.now.words)) (T.seen tx.old) (T.seen tx.new)
             (λ b. model.act_for b asker.now.caller.token (names_of context.now.words) (meant self.entry)) result }
-
-        // Whatever the rows are: it is neither answered nor refused if a row that the command reads is damaged. That of
-        // the caller was read before.
-        ensures readable { IsHonest (T.seen tx.new) → IsCallerAt (T.seen tx.old).rows asker.now.caller
-            → OnAnswer result (IsReadableCommand (T.seen tx.old).rows asker.now.caller.token (meant self.entry)) }
-
-        // And no token has lost its last use.
-        ensures uses { IsHonest (T.seen tx.new) → IsCallerAt (T.seen tx.old).rows asker.now.caller
-            → OnAnswer result (KeepsUses (T.seen tx.old).rows (T.seen tx.new).rows) }
         ensures call { IsRequestCall (T.seen tx.old) (T.seen tx.new) result IsNotBadStart }
     {
         match self {

@@ -6,12 +6,13 @@ ghost use Rattle.broker_types.specs.Fault.{IsMemoryOrStorage, IsNotBadStart};
 ghost use Rattle.records.specs.Calls.{IsCall};
 ghost use Rattle.records.specs.Transaction.{IsHonest};
 ghost use Rattle.broker_rows.specs.Representing.{Represents};
-ghost use Rattle.broker.specs.Stages.{IsCaller, IsCallerInRange, SpendsAsCaller};
+ghost use Rattle.broker.specs.Stages.{IsCaller, IsCallerInRange};
 
-use broker_rows::{Caller, spend};
+use broker_rows::Caller;
 use broker_types::{Ask, Fault};
 use records::RecordsTx;
 use std::alloc::Global;
+use token_tree::spend;
 use wrapping::drop_token;
 
 /// The caller of an ask: its client token, if there is such a token, which spends a use. If it is a wrapping token
@@ -27,11 +28,6 @@ pub(crate) fn find_caller<'a, T: RecordsTx>(
         → IfOk result (IsCaller b ask.now.token (T.seen tx.new).rows) }
     ensures wants { IsHonest (T.seen tx.new) → (b : Broker) → Represents None (T.seen tx.old).rows b
         → IfErr result IsMemoryOrStorage }
-
-    // Whatever the rows are: the row of the client token can be read, if it is there, and says the caller's entry. If
-    // it is not, that of the wrapping token can be read, if this is there, and is gone then.
-    ensures found { IsHonest (T.seen tx.new)
-        → IfOk result (SpendsAsCaller ask.now.token (T.seen tx.old).rows (T.seen tx.new).rows) }
     ensures in_range { IfOk result IsCallerInRange }
     ensures call { IsCall (T.seen tx.old) (T.seen tx.new) result IsNotBadStart }
 {

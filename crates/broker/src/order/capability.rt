@@ -9,7 +9,6 @@ ghost use Rattle.records.specs.Transaction.{IsHonest};
 ghost use Rattle.broker_model.specs.Capabilities as capabilities;
 ghost use Rattle.broker_model.specs.Capabilities.{stored, has_stored};
 ghost use Rattle.broker_rows.specs.Representing.{Represents};
-ghost use Rattle.broker.specs.PermittedRows.{has_row};
 
 use broker_types::{Fault, Refusal, Verb};
 use mounts::{Route, Stores};
@@ -29,10 +28,6 @@ pub(crate) fn capability<T: RecordsTx>(
     ensures told { IsHonest (T.seen tx.new) → (b : Broker) → Represents (Some caller.now) (T.seen tx.old).rows b
         → get b.tokens caller.now ≢ None
         → IfOk result (λ c. c ≡ capabilities.asked_by (has_stored b caller.now) verb found.now) }
-
-    // Whatever the rows are: the keys of rows decide, and no row is read.
-    ensures found { IsHonest (T.seen tx.new)
-        → IfOk result (λ c. c ≡ capabilities.asked_by (has_row (T.seen tx.old).rows caller.now) verb found.now) }
     ensures call { IsReading (T.seen tx.old) (T.seen tx.new) result IsMemoryOrStorage }
 {
     let there = match found {
@@ -51,9 +46,6 @@ fn is_there<T: RecordsTx>(
 ) -> Result<bool, Fault>
     ensures told { IsHonest (T.seen tx.new) → (b : Broker) → Represents (Some caller.now) (T.seen tx.old).rows b
         → get b.tokens caller.now ≢ None → IfOk result (λ v. v ≡ capabilities.stands_there (has_stored b caller.now)
-        (stored (Ok route.now))) }
-    ensures found { IsHonest (T.seen tx.new)
-        → IfOk result (λ v. v ≡ capabilities.stands_there (has_row (T.seen tx.old).rows caller.now)
         (stored (Ok route.now))) }
     ensures call { IsReading (T.seen tx.old) (T.seen tx.new) result IsMemoryOrStorage }
 {

@@ -1,7 +1,7 @@
 //! The end of a request.
 
-ghost use Rattle.std.specs.Prelude.{◌≡◌, None, Some, Result, IfOk, IfErr, OnOk};
-ghost use Rattle.broker_types.specs.Answer.{HasRoom, response_of, refused};
+ghost use Rattle.std.specs.Prelude.{None, Some, Result, IfOk, IfErr, OnOk};
+ghost use Rattle.broker_types.specs.Answer.{HasRoom, response_of};
 ghost use Rattle.broker_types.specs.Broker.{Broker};
 ghost use Rattle.broker_types.specs.Fault.{IsMemoryOrStorage, IsNotBadStart};
 ghost use Rattle.broker_types.specs.Spending as spending;
@@ -10,15 +10,13 @@ ghost use Rattle.records.specs.Calls.{IsCall};
 ghost use Rattle.records.specs.Transaction.{IsHonest};
 ghost use Rattle.broker_model.specs.Listed.{IsListed};
 ghost use Rattle.broker_model.specs.Order as order;
-ghost use Rattle.broker_rows.specs.Ending.{EndsCaller, IsUnspentStill};
 ghost use Rattle.broker_rows.specs.Representing.{Gives, Represents};
-ghost use Rattle.broker_rows.specs.Done.{answered_of};
-ghost use Rattle.broker.specs.Stages.{HasServed};
+ghost use Rattle.broker.specs.Stages.{HasServed, may_be_spent};
 
 use crate::answers::{answer, refuse};
 use broker_rows::{Answered, end_spent};
 use broker_types::{Answer, Fault, Refusal};
-use records::{RecordsTx, token_rows_tell_their_entries};
+use records::RecordsTx;
 use std::alloc::Global;
 
 /// Ends a caller that has spent its last use, whether it was served or refused. Then it answers the request, with room
@@ -30,20 +28,14 @@ pub(crate) fn finish<T: RecordsTx>(
     is_last_use: bool,
     served: Result<Answered, Refusal>,
 ) -> Result<Answer, Fault>
-    ensures told { IsHonest (T.seen tx.new) → IsUnspentStill (T.seen tx.old).rows caller.now is_last_use
-        → (b : Broker) (m : Result order.Wrapped declared.Refusal)
-        → HasServed (Some caller.now) (T.seen tx.old).rows b served m
+    ensures told { IsHonest (T.seen tx.new) → (b : Broker) (m : Result order.Wrapped declared.Refusal)
+        → HasServed (may_be_spent caller.now is_last_use) (T.seen tx.old).rows b served m
         → IfOk result (λ a. Gives a (T.seen tx.new).rows (order.finish b (Some caller.now) m)) }
     ensures wants { IsHonest (T.seen tx.new) → (b : Broker) (m : Result order.Wrapped declared.Refusal)
-        → HasServed (Some caller.now) (T.seen tx.old).rows b served m → IfErr result IsMemoryOrStorage }
+        → HasServed (may_be_spent caller.now is_last_use) (T.seen tx.old).rows b served m
+        → IfErr result IsMemoryOrStorage }
     ensures room { IfOk result HasRoom }
     ensures listed { IfOk result (λ a. IsListed (response_of a)) }
-
-    // Whatever the rows are: the caller's row decides whether the caller ends, and the call fails if it is damaged.
-    ensures rows { IsHonest (T.seen tx.new) → IsUnspentStill (T.seen tx.old).rows caller.now is_last_use
-        → OnOk result (EndsCaller caller.now (T.seen tx.old).rows (T.seen tx.new).rows) }
-    ensures answered { IfOk served (λ x. IfOk result (λ a. response_of a ≡ order.response_to (answered_of x))) }
-    ensures refused { IfErr served (λ r. IfOk result (λ a. response_of a ≡ refused r)) }
     ensures call { IsCall (T.seen tx.old) (T.seen tx.new) result IsNotBadStart }
 {
     end_caller(alloc, tx, caller, is_last_use)?;
@@ -61,16 +53,13 @@ fn end_caller<T: RecordsTx>(
     caller: &str,
     is_last_use: bool,
 ) -> Result<(), Fault>
-    ensures told { IsHonest (T.seen tx.new) → IsUnspentStill (T.seen tx.old).rows caller.now is_last_use → (b : Broker)
-        → Represents (Some caller.now) (T.seen tx.old).rows b
+    ensures told { IsHonest (T.seen tx.new) → (b : Broker)
+        → Represents (may_be_spent caller.now is_last_use) (T.seen tx.old).rows b
         → OnOk result (Represents None (T.seen tx.new).rows (spending.end_spent b (Some caller.now))) }
-    ensures wants { IsHonest (T.seen tx.new) → (b : Broker) → Represents (Some caller.now) (T.seen tx.old).rows b
-        → IfErr result IsMemoryOrStorage }
-    ensures rows { IsHonest (T.seen tx.new) → IsUnspentStill (T.seen tx.old).rows caller.now is_last_use
-        → OnOk result (EndsCaller caller.now (T.seen tx.old).rows (T.seen tx.new).rows) }
+    ensures wants { IsHonest (T.seen tx.new) → (b : Broker)
+        → Represents (may_be_spent caller.now is_last_use) (T.seen tx.old).rows b → IfErr result IsMemoryOrStorage }
     ensures call { IsCall (T.seen tx.old) (T.seen tx.new) result IsNotBadStart }
 {
-    token_rows_tell_their_entries();
     if !is_last_use {
         return Ok(());
     }

@@ -1,6 +1,6 @@
 //! Requests that need no caller (Vault's documentation, "/sys/wrapping").
 
-ghost use Rattle.std.specs.Prelude.{◌≡◌, ◌≤◌, true, None, IfOk, IfErr, OnOk, length};
+ghost use Rattle.std.specs.Prelude.{◌≡◌, ◌≤◌, true, None, IfOk, IfErr, length};
 ghost use Rattle.api_json.specs.Reads.{IsRead};
 ghost use Rattle.broker_types.specs.Broker.{Broker};
 ghost use Rattle.broker_types.specs.Fault.{IsNotBadStart};
@@ -8,7 +8,7 @@ ghost use Rattle.broker_types.specs.Limits.{longest_body};
 ghost use Rattle.broker_types.specs.Names.{names_of};
 ghost use Rattle.broker_types.specs.RequestError.{Ends};
 ghost use Rattle.broker_types.specs.declared.fault.Fault.TheVariants.{Memory};
-ghost use Rattle.records.specs.Calls.{OnAnswer, IsRequestCall};
+ghost use Rattle.records.specs.Calls.{IsRequestCall};
 ghost use Rattle.records.specs.Transaction.{IsHonest};
 ghost use Rattle.broker_model.specs.Serving as serving;
 ghost use Rattle.broker_model.specs.Serving.{answered_openly, served};
@@ -16,18 +16,16 @@ ghost use Rattle.broker_model.specs.parts.WrappingCommands as commands;
 ghost use Rattle.broker_model.specs.parts.WrappingCommands.{is_own, is_own_if_read, token_named};
 ghost use Rattle.broker_rows.specs.Operating.{Begins};
 ghost use Rattle.broker_rows.specs.Representing.{Represents, Gives};
-ghost use Rattle.broker.specs.Answering.{IsReadableOpenAsk};
 ghost use Rattle.broker.specs.Safely.{AnswersSafely};
 ghost use Rattle.broker.specs.Stages.{IsServed};
 
 use crate::answers::{answer, refuse};
 use crate::command::read_command;
 use crate::order::operating::operate;
-use crate::order::routing::find_route;
 use api_json::{read_body, wrapping_token};
 use broker_rows::{Answered, Context};
 use broker_types::{Answer, Ask, CowText, Fault, RequestError, TextBuf, Verb};
-use mounts::{Opens, Routers, operation_at};
+use mounts::{Opens, Routers, operation_at, route};
 use records::RecordsTx;
 use std::alloc::Global;
 
@@ -99,11 +97,6 @@ pub(crate) fn answer_openly<T: RecordsTx>(
     ensures told { serving.is_open ask.now ≡ true → IsHonest (T.seen tx.new) → (b : Broker)
         → Begins None context.now (T.seen tx.old).rows b
         → IfOk result (λ a. Gives a (T.seen tx.new).rows (answered_openly b (names_of context.now.words) ask.now)) }
-
-    // Whatever the rows are: it is not answered if a row that its command reads is damaged, unless an identifier that
-    // it needs was given out.
-    ensures readable { IsHonest (T.seen tx.new)
-        → OnOk result (IsReadableOpenAsk (T.seen tx.old).rows (names_of context.now.words) ask.now) }
     ensures safely { AnswersSafely (T.seen tx.old) (T.seen tx.new)
         (λ b. (serving.is_open ask.now ≡ true) × Begins None context.now (T.seen tx.old).rows b) result }
     ensures faults { IfErr result IsNotBadStart }
@@ -126,15 +119,10 @@ fn serve_openly<T: RecordsTx>(
         → Begins None context.now (T.seen tx.old).rows b
         → Ends (IsServed None (T.seen tx.new).rows) (Represents None (T.seen tx.new).rows b)
         result (served b None (names_of context.now.words) ask.now) }
-
-    // Whatever the rows are: it is neither answered nor refused if a row that its command reads is damaged, unless an
-    // identifier that it needs was given out.
-    ensures readable { IsHonest (T.seen tx.new)
-        → OnAnswer result (IsReadableOpenAsk (T.seen tx.old).rows (names_of context.now.words) ask.now) }
     ensures call { IsRequestCall (T.seen tx.old) (T.seen tx.new) result IsNotBadStart }
 {
     let path = ask.path.as_str();
-    let found = find_route(routers, tx, ask.verb, path)?;
-    let command = read_command(context.alloc, ask, &found?)?;
+    let found = route(routers, tx, ask.verb, path)?;
+    let command = read_command(context.alloc, ask, &found)?;
     operate(tx, context, &None, ask, command)
 }

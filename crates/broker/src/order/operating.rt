@@ -7,16 +7,14 @@ ghost use Rattle.broker_types.specs.Names.{Names, names_of};
 ghost use Rattle.broker_types.specs.RequestError.{Ends, EndsErr};
 ghost use Rattle.broker_types.specs.Text.{Text};
 ghost use Rattle.broker_types.specs.Used.{are_new};
-ghost use Rattle.records.specs.Calls.{OnAnswer, OnRefused, IsRequestCall, IsRequestReading};
+ghost use Rattle.records.specs.Calls.{IsRequestCall, IsRequestReading};
 ghost use Rattle.records.specs.Transaction.{IsHonest};
 ghost use Rattle.broker_model.specs.Act as model;
 ghost use Rattle.broker_model.specs.Serving.{acted, needed_by, operated};
 ghost use Rattle.broker_model.specs.Step.{traits};
-ghost use Rattle.broker_rows.specs.Ending.{KeepsUses};
 ghost use Rattle.broker_rows.specs.Operating.{ActsAs, ArePrinted};
 ghost use Rattle.broker_rows.specs.Representing.{Represents};
-ghost use Rattle.broker.specs.Answering.{IsReadableBy, IsReadableIfNew};
-ghost use Rattle.broker.specs.Askers.{BeginsFor, IsAskerAt, IsAskerInRange, who_of};
+ghost use Rattle.broker.specs.Askers.{BeginsFor, IsAskerInRange, who_of};
 ghost use Rattle.broker.specs.Meant.{meant, IsInRange, IsWellPlaced};
 ghost use Rattle.broker.specs.Stages.{IsServed};
 
@@ -43,16 +41,6 @@ pub(crate) fn operate<T: RecordsTx>(
         → Ends (IsServed (who_of asker.now) (T.seen tx.new).rows)
         (Represents (who_of asker.now) (T.seen tx.new).rows b)
         result (operated b (who_of asker.now) (names_of context.now.words) ask.now (meant command.entry)) }
-
-    // Whatever the rows are: it is neither answered nor refused if a row that the command reads is damaged, unless an
-    // identifier that it needs was given out. The row of the caller was read before.
-    ensures readable { IsHonest (T.seen tx.new) → IsAskerAt (T.seen tx.old).rows asker.now
-        → OnAnswer result (IsReadableIfNew (T.seen tx.old).rows (who_of asker.now) (names_of context.now.words) ask.now
-        (meant command.entry)) }
-
-    // And no token has lost its last use.
-    ensures uses { IsHonest (T.seen tx.new) → IsAskerAt (T.seen tx.old).rows asker.now
-        → OnAnswer result (KeepsUses (T.seen tx.old).rows (T.seen tx.new).rows) }
     ensures call { IsRequestCall (T.seen tx.old) (T.seen tx.new) result IsNotBadStart }
 {
     let needed = needed_identifiers(context.alloc, context.words, ask, &command)?;
@@ -75,9 +63,6 @@ fn check<T: RecordsTx>(
     ensures fresh { IsHonest (T.seen tx.new) → (who : Option Text) (b : Broker)
         → Represents who (T.seen tx.old).rows b → OnOk result (are_new b.used needed.now ≡ true) }
     ensures timed { OnOk result ((not (traits (meant command.now)).must_wrap || nat_lt 0 ask.now.wrap_ttl) ≡ true) }
-    ensures readable { IsHonest (T.seen tx.new) → (who : Option Text) (names : Names)
-        → needed.now ≡ needed_by ask.now names (meant command.now)
-        → OnRefused result (IsReadableIfNew (T.seen tx.old).rows who names ask.now (meant command.now)) }
     ensures call { IsRequestReading (T.seen tx.old) (T.seen tx.new) result IsMemoryOrStorage }
 {
     if !are_new(tx, needed)? {
@@ -107,14 +92,6 @@ fn carry_out<T: RecordsTx>(
         → Ends (IsServed (who_of asker.now) (T.seen tx.new).rows)
         (Represents (who_of asker.now) (T.seen tx.new).rows b)
         result (acted b (who_of asker.now) (names_of context.now.words) ask.now (meant command.entry)) }
-
-    // Whatever the rows are: it is neither answered nor refused if a row that the command reads is damaged.
-    ensures readable { IsHonest (T.seen tx.new) → IsAskerAt (T.seen tx.old).rows asker.now
-        → OnAnswer result (IsReadableBy (T.seen tx.old).rows (who_of asker.now) (meant command.entry)) }
-
-    // And no token has lost its last use.
-    ensures uses { IsHonest (T.seen tx.new) → IsAskerAt (T.seen tx.old).rows asker.now
-        → OnAnswer result (KeepsUses (T.seen tx.old).rows (T.seen tx.new).rows) }
     ensures call { IsRequestCall (T.seen tx.old) (T.seen tx.new) result IsNotBadStart }
 {
     operations_are_proper();
@@ -148,14 +125,6 @@ fn act<T: RecordsTx>(
         → are_new b.used ((traits (meant command.entry)).own (names_of context.now.words)) ≡ true
         → ActsAs (who_of asker.now) b (T.seen tx.new).rows result
         (model.act b (who_of asker.now) (names_of context.now.words) (meant command.entry)) }
-
-    // Whatever the rows are: it is neither answered nor refused if a row that the command reads is damaged.
-    ensures readable { IsHonest (T.seen tx.new) → IsAskerAt (T.seen tx.old).rows asker.now
-        → OnAnswer result (IsReadableBy (T.seen tx.old).rows (who_of asker.now) (meant command.entry)) }
-
-    // And no token has lost its last use.
-    ensures uses { IsHonest (T.seen tx.new) → IsAskerAt (T.seen tx.old).rows asker.now
-        → OnAnswer result (KeepsUses (T.seen tx.old).rows (T.seen tx.new).rows) }
     ensures call { IsRequestCall (T.seen tx.old) (T.seen tx.new) result IsNotBadStart }
 {
     match asker {

@@ -1,20 +1,16 @@
 //! Whether the caller may ask at all.
 
-ghost use Rattle.std.specs.Prelude.{◌≡◌, Any, Some, Option, is_some, IfOk, IfErr};
-ghost use Rattle.broker_types.specs.Broker.{Broker, Mount};
-ghost use Rattle.broker_types.specs.Fault.{IsMemoryOrStorage};
-ghost use Rattle.records.specs.Calls.{IsReadFault, IsReading};
+ghost use Rattle.std.specs.Prelude.{◌≡◌, Some, Option, is_some, IfOk, IfErr};
+ghost use Rattle.broker_types.specs.Broker.{Broker};
+ghost use Rattle.broker_types.specs.Fault.{IsMemoryOrStorage, IsNotBadStart};
+ghost use Rattle.records.specs.Calls.{IsReading};
 ghost use Rattle.records.specs.Ranges.{IsTokenInRange};
 ghost use Rattle.records.specs.Reading.{IsSomeIn};
-ghost use Rattle.records.specs.Table.{table};
 ghost use Rattle.records.specs.Transaction.{IsHonest};
-ghost use Rattle.mounts.specs.MountRows.{IsKnownAt};
-ghost use Rattle.mounts.specs.Route.{cut, route_at, route_of};
+ghost use Rattle.mounts.specs.Route.{route_of};
 ghost use Rattle.broker_model.specs.Permission as permission;
-ghost use Rattle.policies.specs.PolicyRows.{IsUnreadable};
-ghost use Rattle.broker_rows.specs.Caller.{AreRulesAt, IsCallerAt, IsCallerOf};
+ghost use Rattle.broker_rows.specs.Caller.{AreRulesAt, IsCallerOf};
 ghost use Rattle.broker_rows.specs.Representing.{Represents};
-ghost use Rattle.broker.specs.PermittedRows.{IsPermittedAt};
 
 use crate::order::capability::capability;
 use broker_rows::Caller;
@@ -42,19 +38,9 @@ pub(crate) fn permitted<T: RecordsTx>(
         ≡ permission.permits b (Some caller.now.token) ask.now.verb ask.now.path) }
     ensures wants { IsHonest (T.seen tx.new) → (b : Broker)
         → Represents (Some caller.now.token) (T.seen tx.old).rows b → IfErr result IsMemoryOrStorage }
-
-    // Whatever the rows are: those of the caller's policies and of the mount can be read, and they decide.
-    ensures found { IsHonest (T.seen tx.new) → IsCallerAt (T.seen tx.old).rows caller.now → (mount : Option Mount)
-        → IsKnownAt (table (T.seen tx.old)) (cut ask.now.path).0 mount
-        → found.now ≡ route_at mount ask.now.verb ask.now.path → IfOk result (λ rules.
-        IsPermittedAt (T.seen tx.old).rows caller.now.token ask.now.verb ask.now.path (is_some rules)) }
     ensures rules { IsHonest (T.seen tx.new)
         → IfOk result (IsSomeIn (AreRulesAt (T.seen tx.old).rows caller.now.known.policies ask.now.verb)) }
-
-    // And it fails as damaged only if the row of one of the caller's policies is.
-    ensures call { IsReading (T.seen tx.old) (T.seen tx.new) result
-        (IsReadFault (IsHonest (T.seen tx.new)
-        → Any (IsUnreadable (table (T.seen tx.old))) caller.now.known.policies)) }
+    ensures call { IsReading (T.seen tx.old) (T.seen tx.new) result IsNotBadStart }
 {
     let path = ask.path.as_str();
     let asked = capability(alloc, tx, caller.token, ask.verb, found)?;

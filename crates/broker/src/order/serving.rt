@@ -1,21 +1,17 @@
 //! A caller is served.
 
-ghost use Rattle.std.specs.Prelude.{◌≡◌, ◌⊎◌, false, Some, IfOk, IfErr};
-ghost use Rattle.broker_types.specs.Answer.{response_of};
+ghost use Rattle.std.specs.Prelude.{◌≡◌, false, Some, IfOk, IfErr};
 ghost use Rattle.broker_types.specs.Broker.{Broker};
 ghost use Rattle.broker_types.specs.Fault.{IsNotBadStart};
 ghost use Rattle.broker_types.specs.Names.{names_of};
 ghost use Rattle.broker_types.specs.RequestError.{Ends};
-ghost use Rattle.records.specs.Calls.{OnAnswer, IsRequestCall};
+ghost use Rattle.records.specs.Calls.{IsRequestCall};
 ghost use Rattle.records.specs.Ranges.{IsTokenInRange};
 ghost use Rattle.records.specs.Transaction.{IsHonest};
 ghost use Rattle.broker_model.specs.Order as order;
 ghost use Rattle.broker_model.specs.Serving.{is_open, served};
-ghost use Rattle.broker_rows.specs.Caller.{IsCallerAt};
-ghost use Rattle.broker_rows.specs.Ending.{KeepsUses};
 ghost use Rattle.broker_rows.specs.Operating.{BeginsBy};
 ghost use Rattle.broker_rows.specs.Representing.{Represents, Gives};
-ghost use Rattle.broker.specs.Answering.{IsForbidden, IsCarriedOutOrForbidden, MayBeDone};
 ghost use Rattle.broker.specs.Safely.{AnswersSafely};
 ghost use Rattle.broker.specs.Stages.{IsServed};
 
@@ -25,9 +21,10 @@ use crate::command::read_command;
 use crate::order::finishing::finish;
 use crate::order::operating::operate;
 use crate::order::permission::permitted;
-use crate::order::routing::find_route;
+use broker_model::operations_do_as_told;
 use broker_rows::{Answered, Asker, Caller, Context};
 use broker_types::{Answer, Ask, Fault, RequestError};
+use mounts::route;
 use records::RecordsTx;
 
 /// Answers an ask of the caller, which has spent its use: the ask is served or refused, and a caller without uses left
@@ -44,17 +41,11 @@ pub(crate) fn answer_caller<T: RecordsTx>(
         → BeginsBy caller.entry context.now (T.seen tx.old).rows b
         → IfOk result (λ a. Gives a (T.seen tx.new).rows (order.finish b (Some caller.entry.token)
         (served b (Some caller.entry.token) (names_of context.now.words) ask.now))) }
-
-    // Whatever the rows are: they decide whether the caller may ask. If it may, it is not answered if a row that its
-    // command reads is damaged; else it is told that it may not, and nothing is done. Either way it has ended then, if
-    // it has no uses left.
-    ensures readable { IsHonest (T.seen tx.new) → IsCallerAt (T.seen tx.old).rows caller.entry
-        → IfOk result (λ a. IsCarriedOutOrForbidden (T.seen tx.old).rows (T.seen tx.new).rows caller.entry.token
-        (names_of context.now.words) ask.now (response_of a)) }
     ensures safely { AnswersSafely (T.seen tx.old) (T.seen tx.new)
         (λ b. (is_open ask.now ≡ false) × BeginsBy caller.entry context.now (T.seen tx.old).rows b) result }
     ensures faults { IfErr result IsNotBadStart }
 {
+    operations_do_as_told();
     let token = caller.token;
     let is_last_use = caller.is_on_last_use();
     match serve(aids, tx, context, caller, ask) {
@@ -84,21 +75,14 @@ fn serve<T: RecordsTx>(
         → Ends (IsServed (Some caller.entry.token) (T.seen tx.new).rows)
         (Represents (Some caller.entry.token) (T.seen tx.new).rows b)
         result (served b (Some caller.entry.token) (names_of context.now.words) ask.now) }
-
-    // Whatever the rows are: they decide whether the caller may ask. If it may, it is neither answered nor refused if
-    // a row that its command reads is damaged; else it is refused, and no row changes.
-    ensures readable { IsHonest (T.seen tx.new) → IsCallerAt (T.seen tx.old).rows caller.entry
-        → OnAnswer result (MayBeDone (T.seen tx.old).rows caller.entry.token
-        (names_of context.now.words) ask.now
-        ⊎ IsForbidden (T.seen tx.old).rows (T.seen tx.new).rows caller.entry.token ask.now result) }
-
-    // And no token has lost its last use.
-    ensures uses { IsHonest (T.seen tx.new) → IsCallerAt (T.seen tx.old).rows caller.entry
-        → OnAnswer result (KeepsUses (T.seen tx.old).rows (T.seen tx.new).rows) }
     ensures call { IsRequestCall (T.seen tx.old) (T.seen tx.new) result IsNotBadStart }
 {
-    let path = ask.path.as_str();
-    let found = find_route(&aids.routers, tx, ask.verb, path)?;
+    // Who may not ask is denied before it is told that there is no route.
+    let found = match route(&aids.routers, tx, ask.verb, ask.path.as_str()) {
+        Ok(found) => Ok(found),
+        Err(RequestError::Refused(refusal)) => Err(refusal),
+        Err(RequestError::Fault(fault)) => return Err(RequestError::Fault(fault)),
+    };
     let Some(rules) = permitted(&mut aids.policies, context.alloc, tx, &caller, ask, &found)? else {
         return Err(RequestError::Refused(PERMISSION_DENIED));
     };

@@ -21,7 +21,7 @@ ghost use Rattle.broker_model.specs.Order as order;
 ghost use Rattle.broker_rows.specs.Done.{answered_of, counted, IsDone};
 ghost use Rattle.broker_rows.specs.Representing.{Represents};
 ghost use Rattle.broker.specs.Stages.{IsServed};
-ghost use Rattle.broker.specs.Wraps.{IsSoundWrapping, MayWrap, kept_in, waiting_from, with_kept, with_wrapped};
+ghost use Rattle.broker.specs.Wraps.{IsSoundWrapping, MayWrap, kept_in, waiting_from};
 
 use api_json::{WrapObject, reply_text, wrap_object, wrap_reply};
 use broker_model::wrapping_is_proper;
@@ -72,11 +72,6 @@ pub(crate) fn wrap<T: RecordsTx>(
         → MayWrap context.now wrapping.now b own d → IsDone who (T.seen tx.old).rows answered d
         → IfOk result (λ x. IsServed who (T.seen tx.new).rows x
         (order.wrap_200 b wrapping.now.path wrapping.now.ttl (names_of context.now.words) d d.answered)) }
-
-    // Whatever the rows are: those of the response that waits and of its identifiers were put, and no others.
-    ensures rows { IsHonest (T.seen tx.new) → OnOk result (table (T.seen tx.new)
-        ≡ with_wrapped (table (T.seen tx.old)) (token_text wrapping.now.token)
-        (λ r. waiting_from context.now.clock wrapping.now (reply_text r)) (answered_of answered)) }
     ensures call { IsCall (T.seen tx.old) (T.seen tx.new) result IsMemoryOrStorage }
 {
     match answered {
@@ -102,11 +97,6 @@ fn keep<T: RecordsTx>(
         → MayWrap context.now wrapping.now b own d → Represents who (T.seen tx.old).rows (counted d)
         → IfOk result (λ x. IsServed who (T.seen tx.new).rows x
         (order.wrap b wrapping.now.path wrapping.now.ttl (names_of context.now.words) d reply.now made)) }
-
-    // Whatever the rows are: those of the response that waits and of its identifiers were put, and no others.
-    ensures rows { IsHonest (T.seen tx.new) → OnOk result (table (T.seen tx.new)
-        ≡ with_kept (table (T.seen tx.old)) (token_text wrapping.now.token)
-        (waiting_from context.now.clock wrapping.now (reply_text reply.now))) }
     ensures call { IsCall (T.seen tx.old) (T.seen tx.new) result IsMemoryOrStorage }
 {
     let alloc = context.alloc;
@@ -145,10 +135,6 @@ fn put<T: RecordsTx>(
     ensures told { IsHonest (T.seen tx.new) → (who : Option Text) (b : Broker)
         → Represents who (T.seen tx.old).rows b → IsNew b (token_identifier token.now) → IsNew b response.now.accessor
         → OnOk result (table (T.seen tx.new) ≡ rows_of (kept_in b token.now response.now)) }
-
-    // Whatever the rows are: these were put, and no others.
-    ensures rows { IsHonest (T.seen tx.new) → OnOk result (table (T.seen tx.new)
-        ≡ with_kept (table (T.seen tx.old)) token.now response.now) }
     ensures call { IsCall (T.seen tx.old) (T.seen tx.new) result IsMemoryOrStorage }
 {
     store(alloc, tx, token, response)?;

@@ -1,6 +1,6 @@
 //! Credentials of roles, each with a lease.
 
-ghost use Rattle.std.specs.Prelude.{◌≡◌, [], false, true, None, Some, Option, Ok, IfOk};
+ghost use Rattle.std.specs.Prelude.{◌≡◌, [], true, None, Some, Option, Ok, IfOk};
 ghost use Rattle.api_json.specs.Objects.{credential_object};
 ghost use Rattle.api_json.specs.Reply.{lease_reply};
 ghost use Rattle.broker_types.specs.Fault.{IsNotBadStart};
@@ -9,16 +9,10 @@ ghost use Rattle.broker_types.specs.Names.{names_of};
 ghost use Rattle.broker_types.specs.Operation as operation;
 ghost use Rattle.broker_types.specs.Sound.{IsIdentifier};
 ghost use Rattle.broker_types.specs.Text.{Text};
-ghost use Rattle.records.specs.Transaction.{IsHonest};
-ghost use Rattle.records.specs.Calls.{OnAnswer, IsRequestCall, IsRequestReading};
-ghost use Rattle.records.specs.Table.{table};
-ghost use Rattle.leases.specs.LeaseRows.{IsReadableCredential};
-ghost use Rattle.leases.specs.RoleRows.{IsReadableRole};
+ghost use Rattle.records.specs.Calls.{IsRequestCall, IsRequestReading};
 ghost use Rattle.broker_model.specs.Traits.{lease_names};
 ghost use Rattle.broker_model.specs.parts.Issued as part;
-ghost use Rattle.broker_model.specs.parts.Issued.{of_issued};
 ghost use Rattle.broker_model.specs.parts.Place.{at};
-ghost use Rattle.broker_rows.specs.Changed.{ChangesOnly};
 ghost use Rattle.broker_rows.specs.Done.{answered_of};
 ghost use Rattle.broker_rows.specs.Operating.{ArePrinted, Performs, PerformsBy};
 ghost use Rattle.secret_operations.specs.Issuing.{IssuesLease};
@@ -44,14 +38,6 @@ pub(super) fn issue<T: RecordsTx>(
     ensures told { is_mount_name mount.now ≡ true
         → PerformsBy caller.now context.now (lease_names (names_of context.now.words)) (T.seen tx.old) (T.seen tx.new)
         (λ b. part.issue b caller.now.token (names_of context.now.words) (at mount.now name.now)) result }
-
-    // Whatever the rows are: a damaged row is neither one of a role nor of none.
-    ensures readable { IsHonest (T.seen tx.new)
-        → OnAnswer result (IsReadableRole (table (T.seen tx.old)) mount.now name.now) }
-
-    // And only rows of leases, of credentials and of identifiers given out change.
-    ensures rows { IsHonest (T.seen tx.new)
-        → OnAnswer result (ChangesOnly of_issued (T.seen tx.old).rows (T.seen tx.new).rows) }
     ensures call { IsRequestCall (T.seen tx.old) (T.seen tx.new) result IsNotBadStart }
 {
     let names = Names {
@@ -75,12 +61,6 @@ fn put<T: RecordsTx>(
     requires credential { IsIdentifier names.credential.now }
     ensures told { is_mount_name mount.now ≡ true → IssuesLease caller.now context.now mount.now name.now
         names.entry.lease.now names.entry.credential.now (T.seen tx.old) (T.seen tx.new) result }
-    ensures readable { IsHonest (T.seen tx.new)
-        → OnAnswer result (IsReadableRole (table (T.seen tx.old)) mount.now name.now) }
-
-    // And only rows of leases, of credentials and of identifiers given out change.
-    ensures rows { IsHonest (T.seen tx.new)
-        → OnAnswer result (ChangesOnly of_issued (T.seen tx.old).rows (T.seen tx.new).rows) }
     ensures call { IsRequestCall (T.seen tx.old) (T.seen tx.new) result IsNotBadStart }
 {
     let alloc = context.alloc;
@@ -125,10 +105,6 @@ pub(super) fn verify<T: RecordsTx>(
 ) -> Result<Answered, RequestError>
     ensures told { (who : Option Text) → Performs who context.now [] (T.seen tx.old) (T.seen tx.new)
         (λ b. Ok (part.verify b (names_of context.now.words) credential.now)) result }
-
-    // Whatever the rows are: a damaged row is answered neither as a lease nor as none.
-    ensures readable { IsHonest (T.seen tx.new)
-        → OnAnswer result (IsReadableCredential (table (T.seen tx.old)) credential.now) }
     ensures call { IsRequestReading (T.seen tx.old) (T.seen tx.new) result IsNotBadStart }
 {
     let valid = leases::verify(tx, credential)?;

@@ -7,15 +7,10 @@ ghost use Rattle.broker_types.specs.Name.{is_mount_name};
 ghost use Rattle.broker_types.specs.Names.{names_of};
 ghost use Rattle.broker_types.specs.Operation.{nothing, plainly};
 ghost use Rattle.broker_types.specs.Text.{Text};
-ghost use Rattle.records.specs.Transaction.{IsHonest};
-ghost use Rattle.records.specs.Calls.{OnAnswer, IsRequestCall, IsRequestReading};
-ghost use Rattle.records.specs.Parts.{of_roles};
-ghost use Rattle.records.specs.Table.{table};
-ghost use Rattle.leases.specs.RoleRows.{IsReadableRole};
+ghost use Rattle.records.specs.Calls.{IsRequestCall, IsRequestReading};
 ghost use Rattle.leases.specs.Roles as roles;
 ghost use Rattle.broker_model.specs.parts.Issued as part;
 ghost use Rattle.broker_model.specs.parts.Place.{at};
-ghost use Rattle.broker_rows.specs.Changed.{ChangesOnly};
 ghost use Rattle.broker_rows.specs.Context as known;
 ghost use Rattle.broker_rows.specs.Operating.{Performs};
 
@@ -35,10 +30,6 @@ pub(super) fn show<T: RecordsTx>(
 ) -> Result<Answered, RequestError>
     ensures told { (who : Option Text) → Performs who context.now [] (T.seen tx.old) (T.seen tx.new)
         (λ b. part.show_role b (names_of context.now.words) (at mount.now name.now)) result }
-
-    // Whatever the rows are: a damaged row is answered neither as a role nor as an absent one.
-    ensures readable { IsHonest (T.seen tx.new)
-        → OnAnswer result (IsReadableRole (table (T.seen tx.old)) mount.now name.now) }
     ensures call { IsRequestReading (T.seen tx.old) (T.seen tx.new) result IsNotBadStart }
 {
     let Some(found) = role(context.alloc, tx, mount, name)? else {
@@ -61,10 +52,6 @@ pub(super) fn set<T: RecordsTx>(
     ensures told { is_mount_name mount.now ≡ true → (who : Option Text) (x : known.Context)
         → Performs who x [] (T.seen tx.old) (T.seen tx.new)
         (λ b. part.set_role b (at mount.now name.now) asked) result }
-
-    // Whatever the rows are: only rows of roles change.
-    ensures rows { IsHonest (T.seen tx.new)
-        → OnAnswer result (ChangesOnly of_roles (T.seen tx.old).rows (T.seen tx.new).rows) }
     ensures call { IsRequestCall (T.seen tx.old) (T.seen tx.new) result IsNotBadStart }
 {
     set_role(alloc, tx, mount, name, asked.ttl, asked.max_ttl)?;
@@ -80,10 +67,6 @@ pub(super) fn remove<T: RecordsTx>(
 ) -> Result<Answered, RequestError>
     ensures told { (who : Option Text) (x : known.Context) → Performs who x [] (T.seen tx.old) (T.seen tx.new)
         (λ b. Ok (plainly nothing (roles.remove_role b mount.now name.now))) result }
-
-    // Whatever the rows are: only rows of roles change.
-    ensures rows { IsHonest (T.seen tx.new)
-        → OnAnswer result (ChangesOnly of_roles (T.seen tx.old).rows (T.seen tx.new).rows) }
     ensures call { IsRequestCall (T.seen tx.old) (T.seen tx.new) result IsNotBadStart }
 {
     remove_role(alloc, tx, mount, name)?;

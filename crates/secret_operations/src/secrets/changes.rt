@@ -6,18 +6,11 @@ ghost use Rattle.broker_types.specs.Name.{is_mount_name};
 ghost use Rattle.broker_types.specs.Operation.{nothing, plainly};
 ghost use Rattle.broker_types.specs.Path.{is_path};
 ghost use Rattle.broker_types.specs.Text.{Text};
-ghost use Rattle.records.specs.Transaction.{IsHonest};
-ghost use Rattle.records.specs.Calls.{OnAnswer, IsRequestCall};
-ghost use Rattle.records.specs.Parts.{of_secrets};
-ghost use Rattle.records.specs.Table.{table};
+ghost use Rattle.records.specs.Calls.{IsRequestCall};
 ghost use Rattle.kv2.specs.Changes.{ChangesVersions};
-ghost use Rattle.kv2.specs.SecretRows.{AreReadableVersions};
 ghost use Rattle.kv2.specs.Secrets as secrets;
-ghost use Rattle.kv2.specs.Secrets.{secret_name};
-ghost use Rattle.broker_rows.specs.Changed.{ChangesOnly};
 ghost use Rattle.broker_rows.specs.Context as known;
 ghost use Rattle.broker_rows.specs.Operating.{Performs};
-ghost use Rattle.broker_rows.specs.Reads.{IsReadableCurrent};
 ghost use Rattle.secret_operations.specs.VersionChanges.{IsTimely, change_of, changed};
 
 use broker_rows::{Answered, Context};
@@ -36,14 +29,6 @@ pub(super) fn delete_current<T: RecordsTx>(
     ensures told { is_mount_name mount.now ≡ true → is_path path.now ≡ true
         → (who : Option Text) → Performs who context.now [] (T.seen tx.old) (T.seen tx.new)
         (λ b. Ok (plainly nothing (secrets.delete b mount.now path.now))) result }
-
-    // Whatever the rows are: a damaged row is told neither as deleted nor as absent.
-    ensures readable { IsHonest (T.seen tx.new)
-        → OnAnswer result (IsReadableCurrent (T.seen tx.old).rows (secret_name mount.now path.now)) }
-
-    // And only rows of secrets and of versions change.
-    ensures rows { IsHonest (T.seen tx.new)
-        → OnAnswer result (ChangesOnly of_secrets (T.seen tx.old).rows (T.seen tx.new).rows) }
     ensures call { IsRequestCall (T.seen tx.old) (T.seen tx.new) result IsNotBadStart }
 {
     kv2::delete(context.alloc, tx, context.clock, mount, path)?;
@@ -74,14 +59,6 @@ pub(super) fn change_versions<T: RecordsTx>(
         → (who : Option Text) (x : known.Context) → IsTimely x.clock change
         → Performs who x [] (T.seen tx.old) (T.seen tx.new)
         (λ b. Ok (plainly nothing (changed change b mount.now path.now numbers.now))) result }
-
-    // Whatever the rows are: a damaged row is told neither as changed nor as absent.
-    ensures readable { IsHonest (T.seen tx.new) → OnAnswer result
-        (AreReadableVersions (table (T.seen tx.old)) (secret_name mount.now path.now) numbers.now) }
-
-    // And only rows of secrets and of versions change.
-    ensures rows { IsHonest (T.seen tx.new)
-        → OnAnswer result (ChangesOnly of_secrets (T.seen tx.old).rows (T.seen tx.new).rows) }
     ensures call { IsRequestCall (T.seen tx.old) (T.seen tx.new) result IsNotBadStart }
 {
     change_rows(alloc, tx, mount, path, numbers, change)?;
@@ -117,10 +94,6 @@ pub(super) fn remove<T: RecordsTx>(
     ensures told { is_mount_name mount.now ≡ true → is_path path.now ≡ true
         → (who : Option Text) (x : known.Context) → Performs who x [] (T.seen tx.old) (T.seen tx.new)
         (λ b. Ok (plainly nothing (secrets.remove_key b mount.now path.now))) result }
-
-    // Whatever the rows are: only rows of secrets and of versions change.
-    ensures rows { IsHonest (T.seen tx.new)
-        → OnAnswer result (ChangesOnly of_secrets (T.seen tx.old).rows (T.seen tx.new).rows) }
     ensures call { IsRequestCall (T.seen tx.old) (T.seen tx.new) result IsNotBadStart }
 {
     remove_key(alloc, tx, mount, path)?;

@@ -6,18 +6,11 @@ ghost use Rattle.broker_types.specs.Name.{is_mount_name};
 ghost use Rattle.broker_types.specs.Names.{names_of};
 ghost use Rattle.broker_types.specs.Path.{is_path};
 ghost use Rattle.broker_types.specs.Text.{Text};
-ghost use Rattle.records.specs.Transaction.{IsHonest};
-ghost use Rattle.records.specs.Calls.{OnAnswer, IsRequestCall, IsRequestReading};
-ghost use Rattle.records.specs.Parts.{of_secrets};
-ghost use Rattle.records.specs.Table.{table};
+ghost use Rattle.records.specs.Calls.{IsRequestCall, IsRequestReading};
 ghost use Rattle.api_json.specs.Kept.{IsKeptSettings};
-ghost use Rattle.kv2.specs.SecretRows.{IsReadableKey};
-ghost use Rattle.kv2.specs.Secrets.{secret_name};
 ghost use Rattle.broker_model.specs.parts.Place.{at};
 ghost use Rattle.broker_model.specs.parts.Secrets as part;
-ghost use Rattle.broker_rows.specs.Changed.{ChangesOnly};
 ghost use Rattle.broker_rows.specs.Operating.{Performs};
-ghost use Rattle.broker_rows.specs.Reads.{IsReadableWhole};
 
 use crate::secrets::shown::secret_told;
 use api_json::{KeySettings, Pairs, key_object, keys_object};
@@ -35,10 +28,6 @@ pub(super) fn show<T: RecordsTx>(
 ) -> Result<Answered, RequestError>
     ensures told { (who : Option Text) → Performs who context.now [] (T.seen tx.old) (T.seen tx.new)
         (λ b. part.metadata b (names_of context.now.words) (at mount.now path.now)) result }
-
-    // Whatever the rows are: a damaged row is answered neither as metadata nor as an absent secret.
-    ensures readable { IsHonest (T.seen tx.new)
-        → OnAnswer result (IsReadableWhole (T.seen tx.old).rows (secret_name mount.now path.now)) }
     ensures call { IsRequestReading (T.seen tx.old) (T.seen tx.new) result IsNotBadStart }
 {
     let alloc = context.alloc;
@@ -62,14 +51,6 @@ pub(super) fn set<T: RecordsTx>(
     ensures told { is_mount_name mount.now ≡ true → is_path path.now ≡ true
         → (who : Option Text) → Performs who context.now [] (T.seen tx.old) (T.seen tx.new)
         (λ b. Ok (part.set_metadata b (at mount.now path.now) asked)) result }
-
-    // Whatever the rows are: a change of settings over a damaged row is neither answered nor refused.
-    ensures readable { IsHonest (T.seen tx.new)
-        → OnAnswer result (IsReadableKey (table (T.seen tx.old)) (secret_name mount.now path.now)) }
-
-    // And only rows of secrets and of versions change.
-    ensures rows { IsHonest (T.seen tx.new)
-        → OnAnswer result (ChangesOnly of_secrets (T.seen tx.old).rows (T.seen tx.new).rows) }
     ensures call { IsRequestCall (T.seen tx.old) (T.seen tx.new) result IsNotBadStart }
 {
     let alloc = context.alloc;

@@ -4,14 +4,9 @@ ghost use Rattle.std.specs.Prelude.{[], Option, Ok};
 ghost use Rattle.broker_types.specs.Fault.{IsNotBadStart};
 ghost use Rattle.broker_types.specs.Names.{names_of};
 ghost use Rattle.broker_types.specs.Text.{Text};
-ghost use Rattle.records.specs.Transaction.{IsHonest};
-ghost use Rattle.records.specs.Calls.{OnAnswer, IsRequestCall, IsRequestReading};
-ghost use Rattle.records.specs.Parts.{of_mounts};
-ghost use Rattle.records.specs.Table.{table};
-ghost use Rattle.kv2.specs.SecretRows.{IsReadableMount};
+ghost use Rattle.records.specs.Calls.{IsRequestCall, IsRequestReading};
 ghost use Rattle.broker_model.specs.parts.Place.{at};
 ghost use Rattle.broker_model.specs.parts.Secrets as part;
-ghost use Rattle.broker_rows.specs.Changed.{ChangesOnly};
 ghost use Rattle.broker_rows.specs.Context as known;
 ghost use Rattle.broker_rows.specs.Operating.{Performs};
 
@@ -30,10 +25,6 @@ pub(super) fn show<T: RecordsTx>(
 ) -> Result<Answered, RequestError>
     ensures told { (path : Text) (who : Option Text) → Performs who context.now [] (T.seen tx.old) (T.seen tx.new)
         (λ b. part.settings b (names_of context.now.words) (at mount.now path)) result }
-
-    // Whatever the rows are: a damaged row is answered neither as settings nor as an absent mount.
-    ensures readable { IsHonest (T.seen tx.new)
-        → OnAnswer result (IsReadableMount (table (T.seen tx.old)) mount.now) }
     ensures call { IsRequestReading (T.seen tx.old) (T.seen tx.new) result IsNotBadStart }
 {
     let Some(found) = config(tx, mount)? else {
@@ -52,14 +43,6 @@ pub(super) fn set<T: RecordsTx>(
 ) -> Result<Answered, RequestError>
     ensures told { (path : Text) (who : Option Text) (x : known.Context)
         → Performs who x [] (T.seen tx.old) (T.seen tx.new) (λ b. Ok (part.set b (at mount.now path) asked)) result }
-
-    // Whatever the rows are: a change of settings over a damaged row is neither answered nor refused.
-    ensures readable { IsHonest (T.seen tx.new)
-        → OnAnswer result (IsReadableMount (table (T.seen tx.old)) mount.now) }
-
-    // And only rows of mounts change.
-    ensures rows { IsHonest (T.seen tx.new)
-        → OnAnswer result (ChangesOnly of_mounts (T.seen tx.old).rows (T.seen tx.new).rows) }
     ensures call { IsRequestCall (T.seen tx.old) (T.seen tx.new) result IsNotBadStart }
 {
     set_config(alloc, tx, mount, asked.cas_required, asked.max_versions)?;

@@ -5,18 +5,11 @@ ghost use Rattle.broker_types.specs.Fault.{IsNotBadStart};
 ghost use Rattle.broker_types.specs.Names.{names_of};
 ghost use Rattle.broker_types.specs.Path.{is_path};
 ghost use Rattle.broker_types.specs.Text.{Text};
-ghost use Rattle.records.specs.Transaction.{IsHonest};
-ghost use Rattle.records.specs.Calls.{OnAnswer, IsRequestCall, IsRequestReading};
-ghost use Rattle.records.specs.Parts.{of_secrets};
-ghost use Rattle.records.specs.Table.{table};
+ghost use Rattle.records.specs.Calls.{IsRequestCall, IsRequestReading};
 ghost use Rattle.api_json.specs.Kept.{IsKept};
-ghost use Rattle.kv2.specs.SecretRows.{AreReadableToWrite};
-ghost use Rattle.kv2.specs.Secrets.{secret_name};
 ghost use Rattle.broker_model.specs.parts.Place.{at};
 ghost use Rattle.broker_model.specs.parts.Secrets as part;
-ghost use Rattle.broker_rows.specs.Changed.{ChangesOnly};
 ghost use Rattle.broker_rows.specs.Operating.{Performs};
-ghost use Rattle.broker_rows.specs.ReadableRow.{IsReadableSecret};
 
 use crate::secrets::shown::version_answered;
 use api_json::{SecretWrite, VersionObject, version_object};
@@ -35,10 +28,6 @@ pub(super) fn read<T: RecordsTx>(
 ) -> Result<Answered, RequestError>
     ensures told { (who : Option Text) → Performs who context.now [] (T.seen tx.old) (T.seen tx.new)
         (λ b. part.read b (names_of context.now.words) (at mount.now path.now) number) result }
-
-    // Whatever the rows are: a damaged row is answered neither as a version nor as an absent one.
-    ensures readable { IsHonest (T.seen tx.new)
-        → OnAnswer result (IsReadableSecret (T.seen tx.old).rows (at mount.now path.now) number) }
     ensures call { IsRequestReading (T.seen tx.old) (T.seen tx.new) result IsNotBadStart }
 {
     let Some(found) = kv2::read(context.alloc, tx, mount, path, number)? else {
@@ -59,14 +48,6 @@ pub(super) fn write<T: RecordsTx>(
     ensures told { is_path path.now ≡ true
         → (who : Option Text) → Performs who context.now [] (T.seen tx.old) (T.seen tx.new)
         (λ b. part.write b (names_of context.now.words) (at mount.now path.now) asked) result }
-
-    // Whatever the rows are: a write over a damaged row is neither answered nor refused.
-    ensures readable { IsHonest (T.seen tx.new) → OnAnswer result
-        (AreReadableToWrite (table (T.seen tx.old)) mount.now (secret_name mount.now path.now)) }
-
-    // And only rows of secrets and of versions change.
-    ensures rows { IsHonest (T.seen tx.new)
-        → OnAnswer result (ChangesOnly of_secrets (T.seen tx.old).rows (T.seen tx.new).rows) }
     ensures call { IsRequestCall (T.seen tx.old) (T.seen tx.new) result IsNotBadStart }
 {
     let now = context.clock;

@@ -8,12 +8,7 @@ use Rattle.records.specs.CallLaws.{honest_before}
 use Rattle.token_tree.specs.Tokens.{AreEnded}
 use Rattle.broker_model.specs.Forms.{forms}
 use Rattle.broker_rows.proofs.Callers.{represents-unspent, spent_revoked}
-use Rattle.std.specs.Prelude.{true, false, Some, None}
-use Rattle.std.proofs.lemmas.Bool.{true≢false, false≢true}
-use Rattle.records.specs.Transaction.{Rows}
-use Rattle.token_tree.specs.Ended.{is_named}
-use Rattle.token_tree.specs.Endings.{EndsDescent}
-use Rattle.broker_rows.specs.Ending.{IsSpentAt}
+use Rattle.std.specs.Prelude.{Some, None}
 use Rattle.broker_rows.specs.Left.{HaveEnded}
 use Rattle.broker_rows.specs.LeftLaws.{revoked_left}
 use Rattle.broker_rows.specs.Representing.{Represents}
@@ -59,38 +54,6 @@ returns-clause-told g c honest b st =
     (c.in_ok-ended.ensures.told revoked forms b tokens) (c.in_ok-ended.ensures.call.others revoked) in
     on_ok_weaker c.leave_nothing.result (subst (Represents None (seen c.leave_nothing.new.tx).rows) (sym is))
     (c.leave_nothing.ensures.told honest (Some caller) None b (without_descendants b.tokens caller) left)
-
-pub returns-then-not-branch-clause-rows : goal.returns-then-not-branch-clause-rows
-returns-then-not-branch-clause-rows g c honest = record {
-  spent = false;
-  told = subst (IsSpentAt (g.T.RecordsTx.seen c.args.tx.now).rows c.args.caller.now) c.if-not-branch.true
-      (c.in_ok-is_spent.ensures.found honest);
-  stays = λ _. c.in_ok-is_spent.ensures.call.same honest;
-  ends = λ e. absurd (false≢true e);
-}
-
-pub returns-clause-rows : goal.returns-clause-rows
-returns-clause-rows g c honest =
-    let seen = g.T.RecordsTx.seen in
-    let caller = c.args.caller.now in
-    let ended = c.deref.result.now in
-    let old = (seen c.args.tx.now).rows in
-    let mid = (seen c.revoke.new.tx).rows in
-    let revoked = honest_before (seen c.revoke.new.tx)
-    (seen c.leave_nothing.new.tx) _ c.leave_nothing.ensures.call.goes_on honest in
-    let asked = honest_before (seen c.is_spent.new.tx) (seen c.revoke.new.tx) _ c.revoke.ensures.call.goes_on revoked in
-    let ends : EndsDescent (is_named caller) old ended mid =
-    subst (λ (z : Rows). EndsDescent (is_named caller) z ended mid) (c.in_ok-is_spent.ensures.call.same asked)
-    (subst (λ list. EndsDescent (is_named caller) (seen c.is_spent.new.tx).rows list mid) (sym c.deref.ensures.value)
-    (c.in_ok-ended.ensures.rows revoked)) in
-    on_ok_weaker c.leave_nothing.result
-    (λ leaves. record {
-      spent = true;
-      told = subst (IsSpentAt old caller) c.if-not-branch.false (c.in_ok-is_spent.ensures.found asked);
-      stays = λ e. absurd (true≢false e);
-      ends = λ _. record { ended = ended; left = mid; ends = ends; leaves = leaves };
-    })
-    (c.leave_nothing.ensures.rows honest)
 
 pub returns-clause-wants : goal.returns-clause-wants
 returns-clause-wants g c honest b st =

@@ -7,7 +7,6 @@ use Rattle.records.specs.TokenEntry.{TokenEntry}
 use Rattle.broker_model.specs.Forms.{forms}
 use Rattle.broker_types.specs.Map.{get}
 use Rattle.broker_rows.proofs.Callers.{unknown_unspent, limit_told}
-use Rattle.broker_rows.specs.Ending.{has_no_uses}
 use Rattle.broker_rows.specs.RepresentingLaws.{represents_tokens}
 use Rattle.broker_rows.proofs.ending.is_spent.Goals as goal
 
@@ -40,33 +39,3 @@ returns-clause-told g c honest b st =
     ap (λ (e : TokenEntry). e.uses_left) (sym c.token.view_is) ∙ c.in-Some-uses_left.is in
     limit_told (get b.tokens c.args.caller.now) c.in_ok-token.field-0 c.in-Some.token _ told c.in-Some.is
     (ap (λ o. option_map_or (λ n. n == 0) o false) (sym uses))
-
-pub returns-in_default-clause-found : goal.returns-in_default-clause-found
-returns-in_default-clause-found g c honest = (
-  c.in_ok-token.field-0,
-  c.in_ok-token.ensures.in_range,
-  c.in_ok-token.ensures.found honest,
-  sym (ap (λ o. option_map_or has_no_uses o false) (none_of _ c.in_default.not-Some)),
-)
-
-pub returns-in-None-clause-found : goal.returns-in-None-clause-found
-returns-in-None-clause-found g c honest =
-    let uses : c.in-Some.token.uses_left ≡ None = ap (λ (e : TokenEntry). e.uses_left) (sym c.token.view_is)
-    ∙ c.in-None.is in (
-      c.in_ok-token.field-0,
-      c.in_ok-token.ensures.in_range,
-      c.in_ok-token.ensures.found honest,
-      sym (ap (λ o. option_map_or has_no_uses o false) c.in-Some.is
-          ∙ ap (λ o. option_map_or (λ n. n == 0) o false) uses),
-    )
-
-pub returns-clause-found : goal.returns-clause-found
-returns-clause-found g c honest =
-    let uses : c.in-Some.token.uses_left ≡ Some c.in-Some-uses_left.uses =
-    ap (λ (e : TokenEntry). e.uses_left) (sym c.token.view_is) ∙ c.in-Some-uses_left.is in (
-      c.in_ok-token.field-0,
-      c.in_ok-token.ensures.in_range,
-      c.in_ok-token.ensures.found honest,
-      sym (ap (λ o. option_map_or has_no_uses o false) c.in-Some.is
-          ∙ ap (λ o. option_map_or (λ n. n == 0) o false) uses),
-    )

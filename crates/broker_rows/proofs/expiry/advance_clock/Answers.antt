@@ -1,15 +1,14 @@
-use Rattle.std.proofs.Common.{rules, ◌≡◌, [], max, Some, None, sym, ap, subst, ◌∙◌}
+use Rattle.std.proofs.Common.{rules, ◌≡◌, [], max, None, sym, ap, subst, ◌∙◌}
 use Rattle.std.specs.FinMap as map
 use Rattle.records.specs.RowForms.{clock_row}
 use Rattle.records.specs.declared.kind.Kind.TheVariants as kind
 use Rattle.std.proofs.lemmas.Option.{same_Some}
 use Rattle.records.specs.ClockLaws.{with_clock}
-use Rattle.records.specs.Table.{table_of}
 use Rattle.records.specs.ValueLaws.{ok_inj}
 use Rattle.broker_rows.specs.Representing.{Represents}
 use Rattle.broker_rows.specs.RepresentingLaws.{still_represented}
 use Rattle.records.specs.CallLaws.{honest_before}
-use Rattle.broker_rows.proofs.ClockCalls.{clock_found, clock_put, clock_keeps, clock_stays, clock_written}
+use Rattle.broker_rows.proofs.ClockCalls.{clock_found, clock_put}
 use Rattle.broker_rows.proofs.expiry.advance_clock.Goals as goal
 
 pub returns-in_default-clause-wants : goal.returns-in_default-clause-wants
@@ -38,22 +37,6 @@ returns-then-seconds-clause-told g c honest b st =
           (still_represented b old (seen c.get.new.self).rows (c.in_ok-kept.ensures.call.same honest) st),
     )
 
-pub returns-then-seconds-clause-rows : goal.returns-then-seconds-clause-rows
-returns-then-seconds-clause-rows g c honest =
-    let seen = g.T.RecordsTx.seen in
-    let old = (seen c.args.tx.now).rows in
-    let stays : c.later-now.result ≡ c.in_ok-clock.clock = search rules in
-    let was : table_of old kind.Clock [] ≡ Some (clock_row c.in_ok-clock.clock) =
-    sym (c.in_ok-kept.ensures.found honest) ∙ c.in-Some.is ∙ ap Some c.in_ok-clock.ensures.exact.1 in
-    record {
-      clock = c.in_ok-clock.clock;
-      in_range = c.in_ok-clock.ensures.exact.0;
-      was = was;
-      later = c.later-now.ensures.value;
-      is = clock_stays old (seen c.get.new.self).rows c.later-now.result (c.in_ok-kept.ensures.call.same honest)
-          (was ∙ ap (λ n. Some (clock_row n)) (sym stays));
-    }
-
 -- ---- it moves
 
 pub returns-clause-told : goal.returns-clause-told
@@ -71,31 +54,3 @@ returns-clause-told g c honest b st =
           (c.in_ok-put.ensures.rows honest ∙ ap (λ rows. map.insert rows (kind.Clock, []) c.in_ok-row.row)
           (c.in_ok-kept.ensures.call.same mid)),
     )
-
-pub returns-clause-call : goal.returns-clause-call
-returns-clause-call g c =
-    record {
-      others = λ honest.
-          let seen = g.T.RecordsTx.seen in
-          let mid = honest_before (seen c.get.new.self) (seen c.put.new.self) _ c.put.ensures.call.goes_on honest in
-          clock_keeps (seen c.args.tx.now).rows (seen c.put.new.self).rows c.in_ok-row.row
-          (c.in_ok-put.ensures.rows honest ∙ ap (λ rows. map.insert rows (kind.Clock, []) c.in_ok-row.row)
-          (c.in_ok-kept.ensures.call.same mid));
-      faults = tt;
-      goes_on = search rules;
-    }
-
-pub returns-clause-rows : goal.returns-clause-rows
-returns-clause-rows g c honest =
-    let seen = g.T.RecordsTx.seen in
-    let mid = honest_before (seen c.get.new.self) (seen c.put.new.self) _ c.put.ensures.call.goes_on honest in
-    let rows = c.in_ok-put.ensures.rows honest
-    ∙ ap (λ rows. map.insert rows (kind.Clock, []) c.in_ok-row.row) (c.in_ok-kept.ensures.call.same mid) in
-    record {
-      clock = c.in_ok-clock.clock;
-      in_range = c.in_ok-clock.ensures.exact.0;
-      was = sym (c.in_ok-kept.ensures.found mid) ∙ c.in-Some.is ∙ ap Some c.in_ok-clock.ensures.exact.1;
-      later = c.later-now.ensures.value;
-      is = clock_written (seen c.args.tx.now).rows
-          (seen c.put.new.self).rows c.later-now.result c.in_ok-row.row c.in_ok-row.ensures rows;
-    }

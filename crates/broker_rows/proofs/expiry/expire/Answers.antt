@@ -1,4 +1,4 @@
-use Rattle.std.proofs.Common.{rules, sym, subst}
+use Rattle.std.proofs.Common.{sym, subst}
 use Rattle.std.specs.Prelude.{None}
 use Rattle.std.proofs.lemmas.Result.{err_from_is_err_and}
 use Rattle.broker_types.specs.Lineage.{alive_at}
@@ -6,78 +6,11 @@ use Rattle.records.specs.CallLaws.{honest_before, not_damaged}
 use Rattle.records.specs.ClockLaws.{with_clock}
 use Rattle.records.specs.DueRows.{AreDue}
 use Rattle.records.specs.Transaction.{Rows}
-use Rattle.token_tree.specs.Ended.{has_come}
-use Rattle.token_tree.specs.Endings.{EndsDescent}
 use Rattle.token_tree.specs.Tokens.{AreEnded, without_expired}
 use Rattle.broker_model.specs.Forms.{forms}
-use Rattle.broker_rows.specs.Ending.{LeavesNothing}
-use Rattle.broker_rows.specs.ExpiryLaws.{others_expired, damaged_before}
 use Rattle.broker_rows.specs.RepresentingLaws.{represents_tokens, represents_waiting, still_represented}
 use Rattle.broker_rows.proofs.Expired.{due_readable, due_yet, responses_swept, still_due, swept_left}
 use Rattle.broker_rows.proofs.expiry.expire.Goals as goal
-
-pub returns-clause-rows : goal.returns-clause-rows
-returns-clause-rows g c honest =
-    let seen = g.T.RecordsTx.seen in
-    let now = c.in_ok-now.now in
-    let left = honest_before (seen c.leave_nothing.new.tx)
-    (seen c.drop_due.new.tx) _ c.drop_due.ensures.call.goes_on honest in
-    let live = honest_before (seen c.end_due-2.new.tx)
-    (seen c.leave_nothing.new.tx) _ c.leave_nothing.ensures.call.goes_on left in
-    let swept = honest_before (seen c.end_due.new.tx)
-    (seen c.end_due-2.new.tx) _ c.end_due-2.ensures.call.goes_on live in
-    let asked = honest_before (seen c.due_until.new.self)
-    (seen c.end_due.new.tx) _ c.end_due.ensures.call.goes_on swept in
-    let ticked = honest_before (seen c.advance_clock.new.tx)
-    (seen c.due_until.new.self) _ c.due_until.ensures.call.goes_on asked in
-    let timed = (seen c.advance_clock.new.tx).rows in
-    let old = (seen c.due_until.new.self).rows in
-    let same = c.in_ok-due.ensures.call.same asked in
-    let listed : AreDue timed now c.deref.result.now =
-    subst (AreDue timed now) (sym c.deref.ensures.value) (c.in_ok-due.ensures.listed asked) in
-    let due = subst (λ (rows : Rows). AreDue rows now c.deref.result.now) (sym same) listed in
-    let leases = c.in_ok-end_due.ensures.rows live now
-    (still_due timed old (seen c.end_due.new.tx).rows now c.deref-2.result.now
-    (subst (AreDue timed now) (sym c.deref-2.ensures.value) (c.in_ok-due.ensures.listed asked)) same
-    (c.in_ok-ended.ensures.call.others swept)) in
-    let leaves = c.in_ok-leave_nothing.ensures.rows left in
-    record {
-      timed = timed;
-      swept = (seen c.end_due.new.tx).rows;
-      live = (seen c.end_due-2.new.tx).rows;
-      left = (seen c.leave_nothing.new.tx).rows;
-      ended = c.in_ok-ended.ended.items;
-      advances = c.in_ok-now.ensures.rows ticked;
-      ends = subst (λ (rows : Rows). EndsDescent (has_come now) rows c.in_ok-ended.ended.items
-          (seen c.end_due.new.tx).rows) same
-          (c.in_ok-ended.ensures.rows swept due);
-      due = leases;
-      leaves = subst (λ ended. LeavesNothing ended (seen c.end_due-2.new.tx).rows (seen c.leave_nothing.new.tx).rows)
-          c.deref-3.ensures.value leaves;
-      responses = c.in_ok-drop_due.ensures.rows honest now
-          (due_yet timed old (seen c.end_due.new.tx).rows (seen c.end_due-2.new.tx).rows
-          (seen c.leave_nothing.new.tx).rows now c.deref-4.result.now
-          c.deref-3.result.now
-          (subst (AreDue timed now) (sym c.deref-4.ensures.value) (c.in_ok-due.ensures.listed asked)) same
-          (c.in_ok-ended.ensures.call.others swept) leases.others leaves);
-    }
-
-pub returns-clause-call : goal.returns-clause-call
-returns-clause-call g c =
-    let seen = g.T.RecordsTx.seen in
-    record {
-      others = λ honest.
-          others_expired c.args.moment c.in_ok-now.now (seen c.args.tx.now).rows (seen c.drop_due.new.tx).rows
-          (returns-clause-rows g c honest);
-      faults = tt;
-      goes_on = search rules;
-    }
-
-pub returns-clause-kept : goal.returns-clause-kept
-returns-clause-kept g c honest =
-    let seen = g.T.RecordsTx.seen in
-    damaged_before c.args.moment c.in_ok-now.now (seen c.args.tx.now).rows (seen c.drop_due.new.tx).rows
-    (returns-clause-rows g c honest)
 
 pub returns-clause-told : goal.returns-clause-told
 returns-clause-told g c honest b st =

@@ -35,7 +35,7 @@ returns-in_default-clause-told g c honest b sound told =
 pub returns-clause-rows : goal.returns-clause-rows
 returns-clause-rows g c honest m has =
     let seen = g.T.RecordsTx.seen in
-    let first : IsHonest (seen c.find_mount.new.tx) = honest_before _ _ _ c.put.ensures.call.goes_on honest in
+    let first : IsHonest (seen c.config.new.tx) = honest_before _ _ _ c.put.ensures.call.goes_on honest in
     let old = table_of (seen c.args.tx.now).rows in
     let mount = c.args.mount.now in
     let edit = with_settings c.args.cas_required c.args.max_versions in
@@ -44,7 +44,7 @@ returns-clause-rows g c honest m has =
     ∙ ap (λ (m : Mount). unwrap_or c.args.max_versions m.max_versions) c.found.view_is in
     let cas = c.unwrap_or.ensures ∙ ap (λ (m : Mount). unwrap_or c.args.cas_required m.cas_required) c.found.view_is in
     on_ok_weaker c.put.result (λ put.
-    ap table_of put ∙ table_of-insert (seen c.find_mount.new.tx).rows kind.Mount mount c.in_ok-row.row
+    ap table_of put ∙ table_of-insert (seen c.config.new.tx).rows kind.Mount mount c.in_ok-row.row
     ∙ (λ i. with_row (table_of (c.in_ok-found.ensures.call.same first i)) kind.Mount mount
     ((c.in_ok-row.ensures
     ∙ (λ j. mount_row (record { engine = (c.found.view_is j).engine; cas_required = cas j; max_versions = max j })))
@@ -57,7 +57,7 @@ returns-clause-call g c =
     let old = table (seen c.args.tx.now) in
     record {
       others = λ honest.
-          let first : IsHonest (seen c.find_mount.new.tx) = honest_before _ _ _ c.put.ensures.call.goes_on honest in
+          let first : IsHonest (seen c.config.new.tx) = honest_before _ _ _ c.put.ensures.call.goes_on honest in
           on_ok_weaker c.put.result (λ rows. subst (λ (t : Table). KeepsOtherMounts c.args.mount.now old t) (sym rows)
           (settings_keep c.args.mount.now old _))
           (returns-clause-rows g c honest c.in_ok-found.field-0 (c.in_ok-found.ensures.exact first));

@@ -18,7 +18,7 @@ pub returns-clause-rows : goal.returns-clause-rows
 returns-clause-rows g c honest m k has_mount has_key =
     let seen = g.T.RecordsTx.seen in
     let second : IsHonest (seen c.find_key.new.tx) = honest_before _ _ _ c.put_version.ensures.call.goes_on honest in
-    let first : IsHonest (seen c.find_mount.new.tx) = honest_before _ _ _ c.find_key.ensures.call.goes_on second in
+    let first : IsHonest (seen c.config.new.tx) = honest_before _ _ _ c.find_key.ensures.call.goes_on second in
     let same = c.in_ok-settings.ensures.call.same first in
     let old = table_of (seen c.args.tx.now).rows in
     let new = table_of (seen c.put_version.new.tx).rows in
@@ -54,7 +54,7 @@ returns-clause-call g c =
       others = λ honest.
           let second : IsHonest (seen c.find_key.new.tx) =
           honest_before _ _ _ c.put_version.ensures.call.goes_on honest in
-          let first : IsHonest (seen c.find_mount.new.tx) =
+          let first : IsHonest (seen c.config.new.tx) =
           honest_before _ _ _ c.find_key.ensures.call.goes_on second in
           let same = c.in_ok-settings.ensures.call.same first in
           subst (λ (t : Table). KeepsOtherNames name old t) (sym (c.in_ok-put_version.ensures.rows honest

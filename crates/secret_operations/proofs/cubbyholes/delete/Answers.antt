@@ -1,7 +1,6 @@
 use Rattle.std.proofs.Common.{refl}
-use Rattle.records.specs.Table.{table_of}
 use Rattle.broker_rows.specs.RepresentingLaws.{caller_len, everything, tells_part}
-use Rattle.secret_operations.proofs.CubbyholeAnswers.{represents-delete, only_cubbyholes}
+use Rattle.secret_operations.proofs.CubbyholeAnswers.{represents-delete}
 use Rattle.secret_operations.proofs.cubbyholes.delete.Goals as goal
 
 pub returns-clause-told : goal.returns-clause-told
@@ -16,9 +15,3 @@ returns-clause-told g c x honest b starts fresh =
           (c.in_ok-delete.ensures.told honest everything b (tells_part everything b old st)
           (caller_len b old caller st (starts.here caller refl))),
     )
-
-pub returns-clause-rows : goal.returns-clause-rows
-returns-clause-rows g c honest =
-    let seen = g.T.RecordsTx.seen in
-    only_cubbyholes c.args.caller.now (table_of (seen c.args.tx.now).rows) (table_of (seen c.delete.new.tx).rows)
-    (c.in_ok-delete.ensures.call.others honest)

@@ -1,7 +1,6 @@
 use Rattle.std.proofs.Common.{refl}
-use Rattle.records.specs.Table.{table_of}
 use Rattle.broker_rows.specs.RepresentingLaws.{caller_len, everything, tells_part}
-use Rattle.secret_operations.proofs.CubbyholeAnswers.{represents-write, only_cubbyholes}
+use Rattle.secret_operations.proofs.CubbyholeAnswers.{represents-write}
 use Rattle.secret_operations.proofs.cubbyholes.write.Goals as goal
 
 pub returns-clause-told : goal.returns-clause-told
@@ -19,9 +18,3 @@ returns-clause-told g c good x honest b starts fresh =
           (c.in_ok-write.ensures.told honest everything b (tells_part everything b old st) here
           (caller_len b old caller st here)),
     )
-
-pub returns-clause-rows : goal.returns-clause-rows
-returns-clause-rows g c honest =
-    let seen = g.T.RecordsTx.seen in
-    only_cubbyholes c.args.caller.now (table_of (seen c.args.tx.now).rows) (table_of (seen c.write.new.tx).rows)
-    (c.in_ok-write.ensures.call.others honest)

@@ -13,9 +13,3 @@ pub returns-in-RemoveRole-clause-told : goal.returns-in-RemoveRole-clause-told
 returns-in-RemoveRole-clause-told g c named honest b starts new =
     rw (c.in-RemoveRole.is, ← c.place.view_is)
     (c.remove.ensures.told (Some c.args.caller.now.token) c.args.context.now honest b starts.begins refl)
-
-pub returns-in-ShowRole-clause-rows : goal.returns-in-ShowRole-clause-rows
-returns-in-ShowRole-clause-rows g c honest = rw c.in-ShowRole.is (c.show.ensures.call.same honest)
-
-pub returns-in-Verify-clause-rows : goal.returns-in-Verify-clause-rows
-returns-in-Verify-clause-rows g c honest = rw c.in-Verify.is (c.verify.ensures.call.same honest)

@@ -45,16 +45,3 @@ returns-in-Remove-clause-told g c named good who =
     let path =
     subst (λ (p : Place). is_path p.path ≡ true) (sym c.place.view_is) (good (ap needs_path c.in-Remove.is)) in
     rw (c.in-Remove.is, ← c.place.view_is) (c.remove.ensures.told mount path who c.args.context.now)
-
-pub returns-in-ShowSettings-clause-rows : goal.returns-in-ShowSettings-clause-rows
-returns-in-ShowSettings-clause-rows g c honest = rw c.in-ShowSettings.is (c.show.ensures.call.same honest)
-
-pub returns-in-Read-clause-rows : goal.returns-in-Read-clause-rows
-returns-in-Read-clause-rows g c honest = rw c.in-Read.is (c.read.ensures.call.same honest)
-
-pub returns-in-ShowMetadata-clause-rows : goal.returns-in-ShowMetadata-clause-rows
-returns-in-ShowMetadata-clause-rows g c honest =
-    rw c.in-ShowMetadata.is (c.show-in-ShowMetadata.ensures.call.same honest)
-
-pub returns-in-List-clause-rows : goal.returns-in-List-clause-rows
-returns-in-List-clause-rows g c honest = rw c.in-List.is (c.list.ensures.call.same honest)

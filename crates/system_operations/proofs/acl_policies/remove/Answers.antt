@@ -3,10 +3,8 @@ use Rattle.std.proofs.lemmas.Result.{err_from_is_err_and}
 use Rattle.api_json.specs.Kept.{is_object}
 use Rattle.policies.specs.Policies as policies
 use Rattle.policies.specs.SoundLaws.{deleted_sound}
-use Rattle.records.specs.Parts.{of_policies}
 use Rattle.broker_rows.specs.RepresentingLaws.{policies_there}
 use Rattle.system_operations.proofs.AclPolicyAnswers.{acts_changed, acts_refused}
-use Rattle.system_operations.proofs.ChangedRowsAnswers.{only_refused}
 use Rattle.system_operations.proofs.acl_policies.remove.Goals as goal
 
 pub returns-in_err-delete-clause-told : goal.returns-in_err-delete-clause-told
@@ -31,15 +29,3 @@ returns-clause-told g c who x honest b starts fresh =
     (λ next is. deleted_sound b next is_object who name st.sound is)
     (c.in_ok-delete.ensures.told honest b.policies (policies_there b old st))
     (c.in_ok-delete.ensures.call.others honest)
-
-pub returns-in_err-delete-clause-rows : goal.returns-in_err-delete-clause-rows
-returns-in_err-delete-clause-rows g c honest =
-    let seen = g.T.RecordsTx.seen in
-    let old = (seen c.args.tx.now).rows in
-    let new = (seen c.delete.new.tx).rows in
-    let p = err_from_is_err_and c.from_residual.result c.from_residual.ensures.1 in
-    rw (p.1 ∙ ap Err p.2)
-    (only_refused of_policies old new _ c.in_err-delete.field-0.0 (c.in_err-delete.ensures.rows honest))
-
-pub returns-clause-rows : goal.returns-clause-rows
-returns-clause-rows g c honest = c.in_ok-delete.ensures.call.others honest

@@ -49,11 +49,3 @@ returns-clause-told g c who honest b starts fresh =
           (c.in_ok-object.ensures ∙ ap (policy_object name) c.as_str.ensures),
       still_represented b old new (c.in_ok-text.ensures.call.same honest) st,
     )
-
-pub returns-in_default-clause-readable : goal.returns-in_default-clause-readable
-returns-in_default-clause-readable g c honest =
-    (c.in_ok-text.field-0, c.in_ok-text.ensures.short, c.in_ok-text.ensures.found honest)
-
-pub returns-clause-readable : goal.returns-clause-readable
-returns-clause-readable g c honest =
-    (c.in_ok-text.field-0, c.in_ok-text.ensures.short, c.in_ok-text.ensures.found honest)

@@ -1,21 +1,14 @@
-use Rattle.std.proofs.Common.{◌≡◌, Err, refl, ap, subst, ◌∙◌}
+use Rattle.std.proofs.Common.{Err, ap, subst, ◌∙◌}
 use Rattle.std.specs.Prelude.{is_some, if◌then◌else◌}
 use Rattle.std.proofs.lemmas.Result.{err_from_is_err_and}
 use Rattle.broker_types.specs.Map.{get}
 use Rattle.broker_types.specs.Operation.{nothing, plainly}
 use Rattle.broker_types.specs.RequestError.{EndsOk}
-use Rattle.leases.specs.Endings.{AreReadable, is_under}
 use Rattle.mounts.specs.Mounts as mounts
-use Rattle.mounts.specs.MountRows as rows
 use Rattle.records.specs.CallLaws.{honest_before}
-use Rattle.records.specs.Parts.{of_mounts}
-use Rattle.records.specs.Table.{table_of}
-use Rattle.records.specs.declared.kind.Kind.TheVariants as kind
-use Rattle.broker_model.specs.parts.Mounts.{of_kept, of_mounts_and_kept, without_kept}
+use Rattle.broker_model.specs.parts.Mounts.{without_kept}
 use Rattle.broker_rows.specs.RepresentingLaws.{mounts_there}
-use Rattle.system_operations.proofs.ChangedRowsAnswers.{only_refused, only_first, only_both}
 use Rattle.system_operations.proofs.MountAnswers.{IsDisabled, acts_refused, acts_absent, is_gone, acts_disabled}
-use Rattle.system_operations.proofs.MountAnswers.{readable_before, refused_readable, absent_readable}
 use Rattle.system_operations.proofs.mounted_engines.disable.Goals as goal
 
 pub returns-in_err-was_there-clause-told : goal.returns-in_err-was_there-clause-told
@@ -80,58 +73,3 @@ returns-in_err-drop_kept-clause-told g c who x honest b starts fresh =
     let p = err_from_is_err_and c.from_residual-in_err-drop_kept.result c.from_residual-in_err-drop_kept.ensures.1 in
     rw (p.1 ∙ ap Err p.2)
     (c.in_err-drop_kept.ensures.wants honest who (record b { mounts = gone.next }) gone.represents gone.named)
-
-pub returns-in_err-was_there-clause-readable : goal.returns-in_err-was_there-clause-readable
-returns-in_err-was_there-clause-readable g c honest =
-    let seen = g.T.RecordsTx.seen in
-    let old = table_of (seen c.args.tx.now).rows in
-    let name = c.args.name.now in
-    let p = err_from_is_err_and c.from_residual.result c.from_residual.ensures.1 in
-    rw (p.1 ∙ ap Err p.2)
-    (refused_readable old name (AreReadable (is_under name) old) _ c.in_err-was_there.field-0.0
-    (c.in_err-was_there.ensures.rows honest))
-
-pub returns-then-not-was_there-clause-readable : goal.returns-then-not-was_there-clause-readable
-returns-then-not-was_there-clause-readable g c honest go there =
-    let seen = g.T.RecordsTx.seen in
-    let old = table_of (seen c.args.tx.now).rows in
-    let new = table_of (seen c.disable.new.tx).rows in
-    let name = c.args.name.now in
-    absent_readable old name (AreReadable (is_under name) old) new
-    (subst (λ was. EndsOk (λ was next. (was ≡ is_some (old kind.Mount name)) × (new ≡ next)) was
-    (rows.disabled old name))
-    c.if-not-was_there.true (c.in_ok-was_there.ensures.rows honest)) go there
-
-pub returns-clause-readable : goal.returns-clause-readable
-returns-clause-readable g c honest go there =
-    let seen = g.T.RecordsTx.seen in
-    let asked =
-    honest_before (seen c.disable.new.tx) (seen c.drop_kept.new.tx) _ c.drop_kept.ensures.call.goes_on honest in
-    let old = table_of (seen c.args.tx.now).rows in
-    let mid = table_of (seen c.disable.new.tx).rows in
-    let name = c.args.name.now in
-    readable_before (is_under name) old mid (λ q. c.in_ok-was_there.ensures.call.others asked kind.Lease q refl)
-    (c.in_ok-drop_kept.ensures.readable honest)
-
-pub returns-in_err-was_there-clause-rows : goal.returns-in_err-was_there-clause-rows
-returns-in_err-was_there-clause-rows g c honest =
-    let seen = g.T.RecordsTx.seen in
-    let old = (seen c.args.tx.now).rows in
-    let new = (seen c.disable.new.tx).rows in
-    let p = err_from_is_err_and c.from_residual.result c.from_residual.ensures.1 in
-    rw (p.1 ∙ ap Err p.2)
-    (only_refused of_mounts_and_kept old new _ c.in_err-was_there.field-0.0 (c.in_err-was_there.ensures.rows honest))
-
-pub returns-then-not-was_there-clause-rows : goal.returns-then-not-was_there-clause-rows
-returns-then-not-was_there-clause-rows g c honest =
-    let seen = g.T.RecordsTx.seen in
-    only_first of_mounts of_kept (seen c.args.tx.now).rows (seen c.disable.new.tx).rows
-    (c.in_ok-was_there.ensures.call.others honest)
-
-pub returns-clause-rows : goal.returns-clause-rows
-returns-clause-rows g c honest =
-    let seen = g.T.RecordsTx.seen in
-    let asked = honest_before (seen c.disable.new.tx) (seen c.drop_kept.new.tx) _
-    c.drop_kept.ensures.call.goes_on honest in
-    only_both of_mounts of_kept (seen c.args.tx.now).rows (seen c.disable.new.tx).rows (seen c.drop_kept.new.tx).rows
-    (c.in_ok-was_there.ensures.call.others asked) (c.in_ok-drop_kept.ensures.rows honest)

@@ -1,18 +1,11 @@
-use Rattle.std.specs.Prelude.{◌||◌}
-use Rattle.std.proofs.Common.{refl, ◌∙◌}
-use Rattle.std.proofs.lemmas.Result.{on_ok_weaker}
 use Rattle.kv2.specs.Secrets.{drop_mount}
-use Rattle.leases.specs.Endings.{is_under}
 use Rattle.leases.specs.Roles.{drop_roles}
 use Rattle.records.specs.CallLaws.{honest_before, on_both}
-use Rattle.records.specs.Parts.{of_secrets, of_roles, of_leases}
-use Rattle.records.specs.Table.{table_of}
-use Rattle.records.specs.declared.kind.Kind.TheVariants as kind
+use Rattle.records.specs.Parts.{of_secrets, of_roles}
 use Rattle.broker_model.specs.Forms.{forms}
 use Rattle.broker_rows.specs.RepresentingLaws.{tells_part}
-use Rattle.system_operations.proofs.ChangedRowsAnswers.{only_both}
 use Rattle.system_operations.proofs.MountAnswers.{represents-no_secrets, represents-no_roles, represents-no_leases}
-use Rattle.system_operations.proofs.MountAnswers.{leases_there, readable_before}
+use Rattle.system_operations.proofs.MountAnswers.{leases_there}
 use Rattle.system_operations.proofs.mounted_engines.drop_kept.Goals as goal
 
 pub returns-clause-told : goal.returns-clause-told
@@ -59,35 +52,3 @@ returns-clause-wants g c honest who b st named =
     (c.in_ok-drop_roles.ensures.told bare second (tells_part of_roles second mid no_secrets))
     (c.in_ok-drop_roles.ensures.call.others bare) in
     c.revoke_under.ensures.wants honest forms third (leases_there third rest no_roles)
-
-pub returns-clause-readable : goal.returns-clause-readable
-returns-clause-readable g c honest =
-    let seen = g.T.RecordsTx.seen in
-    let name = c.args.name.now in
-    let bare = honest_before (seen c.drop_roles.new.tx) (seen c.revoke_under.new.tx) _
-    c.revoke_under.ensures.call.goes_on honest in
-    let empty =
-    honest_before (seen c.drop_mount.new.tx) (seen c.drop_roles.new.tx) _ c.drop_roles.ensures.call.goes_on bare in
-    let old = table_of (seen c.args.tx.now).rows in
-    let rest = table_of (seen c.drop_roles.new.tx).rows in
-    on_ok_weaker c.revoke_under.result (λ ends. readable_before (is_under name) old rest (λ q.
-    c.in_ok-drop_roles.ensures.call.others bare kind.Lease q refl
-    ∙ c.in_ok-drop_mount.ensures.call.others empty kind.Lease q refl)
-    ends.readable) (c.revoke_under.ensures.rows honest)
-
-pub returns-clause-rows : goal.returns-clause-rows
-returns-clause-rows g c honest =
-    let seen = g.T.RecordsTx.seen in
-    let bare = honest_before (seen c.drop_roles.new.tx) (seen c.revoke_under.new.tx) _
-    c.revoke_under.ensures.call.goes_on honest in
-    let empty = honest_before (seen c.drop_mount.new.tx) (seen c.drop_roles.new.tx) _
-    c.drop_roles.ensures.call.goes_on bare in
-    let old = (seen c.args.tx.now).rows in
-    let mid = (seen c.drop_mount.new.tx).rows in
-    let rest = (seen c.drop_roles.new.tx).rows in
-    let new = (seen c.revoke_under.new.tx).rows in
-    let no_roles = only_both of_secrets of_roles old mid rest (c.in_ok-drop_mount.ensures.call.others empty)
-    (c.in_ok-drop_roles.ensures.call.others bare) in
-    on_ok_weaker c.revoke_under.result
-    (λ keeps. only_both (λ k. of_secrets k || of_roles k) of_leases old rest new no_roles keeps)
-    (c.revoke_under.ensures.call.others honest)

@@ -5,11 +5,9 @@ use Rattle.broker_types.specs.RequestError.{EndsOk, EndsErr}
 use Rattle.mounts.specs.Mounts as mounts
 use Rattle.mounts.specs.MountRows.{AreMounts}
 use Rattle.mounts.specs.SoundLaws.{enabled_sound}
-use Rattle.records.specs.Parts.{of_mounts}
 use Rattle.records.specs.Table.{table_of}
 use Rattle.broker_model.specs.Forms.{forms}
 use Rattle.broker_rows.specs.RepresentingLaws.{mounts_there}
-use Rattle.system_operations.proofs.ChangedRowsAnswers.{only_refused}
 use Rattle.system_operations.proofs.MountAnswers.{acts_enabled, acts_refused}
 use Rattle.system_operations.proofs.mounted_engines.enable.Goals as goal
 
@@ -43,15 +41,3 @@ returns-clause-told g c who x honest b starts fresh =
     (subst (λ type. EndsOk (λ _ next. AreMounts (table_of new) next) c.in_ok-enable.field-0
     (mounts.enabled b.mounts name type asked.version)) c.as_str.ensures ends)
     (c.in_ok-enable.ensures.call.others honest)
-
-pub returns-in_err-enable-clause-rows : goal.returns-in_err-enable-clause-rows
-returns-in_err-enable-clause-rows g c honest =
-    let seen = g.T.RecordsTx.seen in
-    let old = (seen c.args.tx.now).rows in
-    let new = (seen c.enable.new.tx).rows in
-    let p = err_from_is_err_and c.from_residual.result c.from_residual.ensures.1 in
-    rw (p.1 ∙ ap Err p.2)
-    (only_refused of_mounts old new _ c.in_err-enable.field-0.0 (c.in_err-enable.ensures.rows honest))
-
-pub returns-clause-rows : goal.returns-clause-rows
-returns-clause-rows g c honest = c.in_ok-enable.ensures.call.others honest

@@ -46,6 +46,3 @@ returns-clause-told g c who honest b starts fresh =
           ∙ ap (λ (w : Waiting). waiting_object w.path w.created w.ttl) c.response.view_is),
       still_represented b old new (c.in_ok-response.ensures.call.same honest) st,
     )
-
-pub returns-clause-readable : goal.returns-clause-readable
-returns-clause-readable g c honest = (c.in_ok-response.field-0, c.in_ok-response.ensures.found honest)

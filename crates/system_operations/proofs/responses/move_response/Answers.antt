@@ -1,4 +1,4 @@
-use Rattle.std.specs.Prelude.{◌≡◌, ℕ, List, None, Some, length}
+use Rattle.std.specs.Prelude.{◌≡◌, ℕ, List, None, length}
 use Rattle.std.proofs.Common.{ap, arith, get_or, subst, sym, ◌∙◌}
 use Rattle.broker_types.specs.IdentifierLaws.{id-length}
 use Rattle.broker_types.specs.Map.{get}
@@ -6,7 +6,6 @@ use Rattle.broker_types.specs.Names.{names_of}
 use Rattle.broker_types.specs.OptionLaws.{mapped, mapped_none}
 use Rattle.broker_types.specs.Places.{token_identifier}
 use Rattle.broker_types.specs.Text.{Text}
-use Rattle.broker_types.specs.TokenText.{token_text}
 use Rattle.broker_types.specs.UsedLaws.{first_new}
 use Rattle.records.specs.CallLaws.{honest_before}
 use Rattle.records.specs.Parts.{Tells, of_waiting}
@@ -15,7 +14,7 @@ use Rattle.records.specs.Table.{table_of, with_row}
 use Rattle.records.specs.TableLaws.{table_of-injective}
 use Rattle.records.specs.ValueLaws.{none_of}
 use Rattle.records.specs.declared.kind.Kind.TheVariants as kind
-use Rattle.wrapping.specs.WaitingRows.{IsWaitingAt, with_moved}
+use Rattle.wrapping.specs.WaitingRows.{with_moved}
 use Rattle.wrapping.specs.Wrapping.{moved, rewrap}
 use Rattle.broker_rows.specs.Context.{Context}
 use Rattle.broker_rows.specs.RepresentingLaws.{represents_waiting, still_represented}
@@ -84,48 +83,6 @@ returns-clause-told g c who honest b starts fresh =
       represents_moved b names t w.0 w.1 old mid new st c.wrapping_commands_are_proper.ensures.sound
           (printed c.args.own.now names c.requires.own) fresh tells (c.in_ok-response.ensures.call.others first) marks,
     )
-
-pub returns-clause-readable : goal.returns-clause-readable
-returns-clause-readable g c honest =
-    let seen = g.T.RecordsTx.seen in
-    let once =
-    honest_before (seen c.use_up.new.tx) (seen c.use_up-2.new.tx) _ c.in_ok-use_up-2.ensures.call.goes_on honest in
-    let first =
-    honest_before (seen c.rewrap.new.tx) (seen c.use_up.new.tx) _ c.in_ok-use_up.ensures.call.goes_on once in
-    let moves = c.in_ok-response.ensures.rows first in
-    (moves.response, moves.was)
-
-pub returns-clause-rows : goal.returns-clause-rows
-unfolding names_of
-returns-clause-rows g c honest some =
-    let seen = g.T.RecordsTx.seen in
-    let old = (seen c.args.tx.now).rows in
-    let mid = (seen c.rewrap.new.tx).rows in
-    let once =
-    honest_before (seen c.use_up.new.tx) (seen c.use_up-2.new.tx) _ c.in_ok-use_up-2.ensures.call.goes_on honest in
-    let first =
-    honest_before (seen c.rewrap.new.tx) (seen c.use_up.new.tx) _ c.in_ok-use_up.ensures.call.goes_on once in
-    let names = names_of c.args.context.now.words in
-    let t = c.args.token.now in
-    let a = c.as_str-accessor.result.now in
-    let clock : c.context.inside.clock ≡ c.args.context.now.clock = ap (λ (x : Context). x.clock) c.context.view_is in
-    let identifier : c.as_str-identifier.result.now ≡ names.wrapping_token =
-    c.as_str-identifier.ensures ∙ c.index-own-0.is
-    ∙ ap (λ (own : List Text). get_or own 0 c.index-own-0.result) c.requires.own.are in
-    let accessor : a ≡ names.wrapping_accessor =
-    c.as_str-accessor.ensures ∙ c.index-own-1.is
-    ∙ ap (λ (own : List Text). get_or own 1 c.index-own-1.result) c.requires.own.are in
-    let moves = c.in_ok-response.ensures.rows first in
-    let w = mapped (moved a c.context.inside.clock) moves.response c.in-Some.response
-    (sym moves.is_moved ∙ c.in-Some.is) in
-    let is : table_of mid
-    ≡ with_moved (table_of old) t (token_text names.wrapping_token) names.wrapping_accessor c.args.context.now.clock
-    (Some w.0) =
-    moves.is ∙ (λ i. with_moved (table_of old) t (c.requires.named i) (accessor i) (clock i) (w.1 i)) in
-    let marks = c.in_ok-use_up-2.ensures.rows honest
-    ∙ (λ i. with_row (c.in_ok-use_up.ensures.rows once i) kind.Used (identifier i) used_row)
-    ∙ (λ i. with_row (with_row (is i) kind.Used (accessor i) used_row) kind.Used names.wrapping_token used_row) in
-    (w.0, subst (IsWaitingAt (table_of old) t) w.1 moves.was, marks)
 
 pub returns-in_default-clause-unknown : goal.returns-in_default-clause-unknown
 returns-in_default-clause-unknown g c honest none =

@@ -1,6 +1,5 @@
 use Rattle.std.specs.Prelude.{◌≡◌, Err, None}
 use Rattle.std.proofs.Common.{ap, subst, sym, ◌∙◌}
-use Rattle.std.proofs.lemmas.Option.{none-some}
 use Rattle.std.proofs.lemmas.Result.{err_from_is_err_and}
 use Rattle.broker_types.specs.Identifier.{id}
 use Rattle.api_json.specs.Reply.{wrap_reply}
@@ -58,11 +57,3 @@ returns-clause-told g c who honest b starts fresh =
       ap (λ (r : Reply). reply r None) (c.in_ok-wrap_reply.ensures ∙ (λ i. wrap_reply (request i) (info i))),
       is.3,
     )
-
-pub returns-clause-rows : goal.returns-clause-rows
-returns-clause-rows g c honest =
-    c.in_ok-response.ensures.rows honest (λ none. none-some _ (sym none ∙ c.in-Some.is))
-
-pub returns-in_default-clause-refused : goal.returns-in_default-clause-refused
-returns-in_default-clause-refused g c honest =
-    c.in_ok-response.ensures.unknown honest (none_of _ c.in_default.not-Some)

@@ -1,14 +1,11 @@
 use Rattle.std.specs.Prelude.{Err}
-use Rattle.std.proofs.Common.{ap, subst, sym, ◌∙◌}
+use Rattle.std.proofs.Common.{ap, sym, ◌∙◌}
 use Rattle.std.proofs.lemmas.Result.{err_from_is_err_and}
 use Rattle.broker_types.specs.Broker.{Waiting}
 use Rattle.broker_types.specs.Map.{get}
 use Rattle.broker_types.specs.Operation.{kept_text}
 use Rattle.broker_types.specs.OptionLaws.{mapped, mapped_none}
-use Rattle.records.specs.Table.{table_of}
-use Rattle.records.specs.TableLaws.{table_of-injective}
 use Rattle.records.specs.ValueLaws.{none_of}
-use Rattle.wrapping.specs.WaitingRows.{TakesOut, without_entry}
 use Rattle.broker_model.specs.parts.Wrappings.{handed_out}
 use Rattle.broker_rows.specs.RepresentingLaws.{represents_dropped, represents_waiting, still_represented}
 use Rattle.broker_rows.specs.declared.answered.Answered.TheVariants.{Kept}
@@ -49,27 +46,3 @@ returns-clause-told g c who x honest b starts fresh =
       represents_dropped b t old new st (c.in_ok-text.ensures.told honest b there)
           (c.in_ok-text.ensures.call.others honest),
     )
-
-pub returns-clause-readable : goal.returns-clause-readable
-returns-clause-readable g c honest = let out = c.in_ok-text.ensures.rows honest in (out.0, out.1.was)
-
-pub returns-clause-rows : goal.returns-clause-rows
-returns-clause-rows g c honest =
-    let seen = g.T.RecordsTx.seen in
-    let old = (seen c.args.tx.now).rows in
-    let new = (seen c.take.new.tx).rows in
-    let out = c.in_ok-text.ensures.rows honest in
-    let w = mapped (λ (w : Waiting). w.reply) out.0 c.in-Some.text (sym out.2 ∙ c.in-Some.is) in (
-      w.0,
-      subst (λ o. TakesOut c.args.token.now (table_of old) o (table_of new)) w.1 out.1,
-      ap kept_text w.2,
-    )
-
-pub returns-in_default-clause-refused : goal.returns-in_default-clause-refused
-returns-in_default-clause-refused g c honest =
-    let seen = g.T.RecordsTx.seen in
-    let old = (seen c.args.tx.now).rows in
-    let new = (seen c.take.new.tx).rows in
-    let out = c.in_ok-text.ensures.rows honest in
-    let none = mapped_none (λ (w : Waiting). w.reply) out.0 (sym out.2 ∙ none_of _ c.in_default.not-Some) in
-    table_of-injective new old (out.1.is ∙ ap (without_entry (table_of old) c.args.token.now) none)

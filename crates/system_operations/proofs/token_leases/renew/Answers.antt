@@ -12,8 +12,7 @@ use Rattle.broker_rows.specs.Context.{Context}
 use Rattle.broker_rows.specs.Operating.{Performs}
 use Rattle.broker_rows.specs.RepresentingLaws.{represents_leases}
 use Rattle.broker_rows.specs.declared.answered.Answered.TheVariants.{Given}
-use Rattle.system_operations.proofs.ChangedRowsAnswers.{renewal_refused}
-use Rattle.system_operations.proofs.LeaseAnswers.{acts_refused, acts_renewed, others_kept, renewed_of}
+use Rattle.system_operations.proofs.LeaseAnswers.{acts_refused, acts_renewed, renewed_of}
 use Rattle.system_operations.proofs.token_leases.renew.Goals as goal
 
 pub returns-in_err-ends-clause-told : goal.returns-in_err-ends-clause-told
@@ -56,17 +55,3 @@ returns-clause-told g c who =
     (c.as_str-2.ensures.value ∙ c.in_ok-request.ensures ∙ ap id c.request.ensures)
     ∙ ap (λ seconds. lease_reply names.request asked.lease_id seconds None) c.seconds_left-seconds.ensures
     ∙ ap (λ now. lease_reply names.request asked.lease_id (ends - now) None) (sym starts.clock)))
-
-pub returns-in_err-ends-clause-rows : goal.returns-in_err-ends-clause-rows
-returns-in_err-ends-clause-rows g c honest =
-    let seen = g.T.RecordsTx.seen in
-    let old = (seen c.args.tx.now).rows in
-    let new = (seen c.renew.new.tx).rows in
-    let p = err_from_is_err_and c.from_residual.result c.from_residual.ensures.1 in
-    rw (p.1 ∙ ap Err p.2)
-    (renewal_refused old new c.as_str.result.now _ c.in_err-ends.field-0.0
-    (c.in_err-ends.ensures.readable honest) (c.in_err-ends.ensures.rows honest))
-
-pub returns-clause-rows : goal.returns-clause-rows
-returns-clause-rows g c honest =
-    others_kept c.as_str.result.now _ _ (c.in_ok-ends.ensures.call.others honest)

@@ -27,9 +27,3 @@ returns-clause-told g c who x honest b starts fresh =
     (shows_in_leases b (λ t m. without m lease_id))
     (c.in_ok-revoke.ensures.told honest forms b (represents_leases b old old st (λ k q h. refl)))
     (c.in_ok-revoke.ensures.call.others honest)
-
-pub returns-clause-readable : goal.returns-clause-readable
-returns-clause-readable g c honest = (c.in_ok-revoke.ensures.rows honest).readable
-
-pub returns-clause-rows : goal.returns-clause-rows
-returns-clause-rows g c honest = c.in_ok-revoke.ensures.call.others honest

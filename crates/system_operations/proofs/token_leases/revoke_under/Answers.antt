@@ -28,9 +28,3 @@ returns-clause-told g c who x honest b starts fresh =
     (shows_in_leases b (λ t m. keep (λ q. not (is_under prefix q)) m))
     (c.in_ok-revoke_under.ensures.told honest forms b (represents_leases b old old st (λ k q h. refl)))
     (c.in_ok-revoke_under.ensures.call.others honest)
-
-pub returns-clause-readable : goal.returns-clause-readable
-returns-clause-readable g c honest = (c.in_ok-revoke_under.ensures.rows honest).readable
-
-pub returns-clause-rows : goal.returns-clause-rows
-returns-clause-rows g c honest = c.in_ok-revoke_under.ensures.call.others honest

@@ -10,7 +10,6 @@ use Rattle.broker_types.specs.OptionLaws.{mapped}
 use Rattle.broker_types.specs.Sound.{IsIdentifier, IsShortText}
 use Rattle.broker_types.specs.Text.{Text}
 use Rattle.broker_types.specs.declared.ask.Verb.TheVariants as verb
-use Rattle.records.specs.CallLaws.{on_ok}
 use Rattle.records.specs.Ranges.{IsTokenInRange}
 use Rattle.records.specs.TokenEntry.{TokenEntry, token_entry}
 use Rattle.policies.specs.Allows.{allows}
@@ -22,18 +21,16 @@ use Rattle.broker_model.specs.parts.TokenCreation.{making_path, is_privileged, n
 use Rattle.broker_model.specs.parts.TokenCreation.{new_token}
 use Rattle.broker_rows.specs.Caller.{Asker, Caller}
 use Rattle.broker_rows.specs.Context.{Context}
-use Rattle.broker_rows.specs.Ending.{has_no_uses}
 use Rattle.broker_rows.specs.Operating.{ArePrinted}
 use Rattle.broker_rows.specs.RepresentingLaws.{named_policies_there}
 use Rattle.token_operations.specs.TokenEntries.{token_told, new_entry}
 use Rattle.token_operations.specs.TokenRanges.{AreTokenNames, IsInRange}
-use Rattle.token_operations.proofs.TokenCreations.{each_pair, parent_named, sudo_at, sudo_told, create_refused}
+use Rattle.token_operations.proofs.TokenCreations.{each_pair, parent_named, sudo_told, create_refused}
 use Rattle.token_operations.proofs.TokenCreations.{create_made, same_may, same_policies_told}
 use Rattle.token_operations.proofs.TokenMade.{no_empty_token}
 use Rattle.token_operations.proofs.TokenPolicies.{ArePolicies, IsPolicyName, each_passes, new_policies_are}
 use Rattle.token_operations.proofs.TokenRecords.{new_in_range, new_policies_short, same_new}
 use Rattle.token_operations.proofs.TokenSound.{may_be_made, sound_policies}
-use Rattle.token_operations.proofs.TokenUses.{limit_unspent}
 use Rattle.token_operations.proofs.creation.create.Goals as goal
 
 -- the identifiers that were printed are those of a token and of its accessor
@@ -120,35 +117,6 @@ returns-in_err-check-clause-told g c are honest b starts fresh =
     create_refused b caller names making asked x.0 x.1 c.in_err-check.field-0.0 (may ∙ c.in_err-check.was) in
     rw (p.1 ∙ ap Err p.2) (rw refused (refl, st))
 
-pub returns-clause-may : goal.returns-clause-may
-returns-clause-may g c honest at are =
-    let rows = (g.T.RecordsTx.seen c.args.tx.now).rows in
-    let asked = c.args.asked.now in
-    let making = c.args.making in
-    let asker = c.args.asker.now in
-    let e = asker.caller.known in
-    let privileged = c.has_sudo-privileged.result in
-    let known : c.caller.inside.known ≡ e =
-    ap (λ (x : Caller). x.known) (c.caller.view_is ∙ ap (λ (a : Asker). a.caller) c.asker.view_is) in
-    let said = c.has_sudo-privileged.ensures
-    ∙ ap (λ (a : Asker). allows (record a.rules { verb = verb.Write }) (making_path making) capability.Sudo)
-    c.asker.view_is in
-    let given = c.deref.ensures.value ∙ c.in_ok-policies.ensures
-    ∙ ap (λ (y : TokenEntry). new_policies privileged (token_told y) asked) known in
-    on_ok c.make.result (record {
-      caller = e;
-      in_range = c.requires.known;
-      row = at;
-      privileged = privileged;
-      sudo = sudo_at rows e.policies are.0 asker.rules (making_path making) privileged are.1 said;
-      may = (λ i. may_make privileged making (token_told (sym known i)) (sym given i) asked) ∙ sym c.check.ensures
-          ∙ c.in_ok-check.was;
-    })
-
-pub returns-clause-uses : goal.returns-clause-uses
-returns-clause-uses g c honest =
-    c.make.ensures.uses honest (ap has_no_uses c.in_ok-token.ensures.entry ∙ limit_unspent c.args.asked.now.num_uses)
-
 pub returns-clause-told : goal.returns-clause-told
 returns-clause-told g c are honest b starts fresh =
     let asked = c.args.asked.now in
@@ -208,12 +176,6 @@ returns-clause-told g c are honest b starts fresh =
     (starts.begins.here caller refl) policies_are in
     rw (create_made b caller names making asked x.0 x.1 c.in_ok-check.field-0 may)
     (c.make.ensures.told (Some caller) token honest b starts.begins new entry can refl refl)
-
-pub returns-clause-rows : goal.returns-clause-rows
-returns-clause-rows g c = c.make.ensures.rows
-
-pub returns-clause-refused : goal.returns-clause-refused
-returns-clause-refused g c = c.make.ensures.refused
 
 pub returns-clause-call : goal.returns-clause-call
 returns-clause-call g c = c.make.ensures.call

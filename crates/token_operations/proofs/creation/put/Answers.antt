@@ -6,16 +6,14 @@ use Rattle.broker_types.specs.TokenText.{token_text}
 use Rattle.records.specs.CallLaws.{goes_further, honest_before}
 use Rattle.records.specs.Parts.{Tells, of_tokens}
 use Rattle.records.specs.RowForms.{used_row}
-use Rattle.records.specs.Table.{Table, table_of, with_row}
+use Rattle.records.specs.Table.{table_of, with_row}
 use Rattle.records.specs.TokenEntry.{TokenEntry}
 use Rattle.records.specs.declared.kind.Kind.TheVariants as kind
 use Rattle.token_tree.specs.SoundLaws.{create_sound}
 use Rattle.token_tree.specs.Tokens.{with_token}
 use Rattle.broker_model.specs.Forms.{forms}
 use Rattle.broker_rows.specs.RepresentingLaws.{represents_tokens}
-use Rattle.token_operations.proofs.TokenMade.{made_others}
 use Rattle.token_operations.proofs.TokenTables.{represents-created}
-use Rattle.token_operations.proofs.TokenUses.{made_keep}
 use Rattle.token_operations.proofs.creation.put.Goals as goal
 
 pub returns-clause-texts : goal.returns-clause-texts
@@ -46,32 +44,6 @@ returns-clause-told g c honest who b x st entry can bare =
     (c.in_ok-use_up-2.ensures.rows honest
     ∙ (λ i. with_row (c.in_ok-use_up.ensures.rows once i) kind.Used identifier used_row)
     ∙ (λ i. with_row (with_row (table_of mid) kind.Used (accessor i) used_row) kind.Used identifier used_row))
-
--- ---- whatever the rows are
-
-pub returns-clause-rows : goal.returns-clause-rows
-returns-clause-rows g c honest =
-    let seen = g.T.RecordsTx.seen in
-    let once =
-    honest_before (seen c.use_up.new.tx) (seen c.use_up-2.new.tx) _ c.in_ok-use_up-2.ensures.call.goes_on honest in
-    let made = honest_before (seen c.create.new.tx) (seen c.use_up.new.tx) _ c.in_ok-use_up.ensures.call.goes_on once in
-    let i = c.args.identifier.now in
-    made_others (table_of (seen c.args.tx.now).rows) (table_of (seen c.create.new.tx).rows)
-    (table_of (seen c.use_up-2.new.tx).rows) i c.as_str-3.result.now (c.in_ok-create.ensures.call.others made)
-    (c.in_ok-use_up-2.ensures.rows honest
-    ∙ ap (λ (rows : Table). with_row rows kind.Used i used_row) (c.in_ok-use_up.ensures.rows once))
-
-pub returns-clause-uses : goal.returns-clause-uses
-returns-clause-uses g c honest unspent =
-    let seen = g.T.RecordsTx.seen in
-    let once =
-    honest_before (seen c.use_up.new.tx) (seen c.use_up-2.new.tx) _ c.in_ok-use_up-2.ensures.call.goes_on honest in
-    let made = honest_before (seen c.create.new.tx) (seen c.use_up.new.tx) _ c.in_ok-use_up.ensures.call.goes_on once in
-    let i = c.args.identifier.now in
-    made_keep (seen c.args.tx.now).rows (seen c.create.new.tx).rows (seen c.use_up-2.new.tx).rows c.as_str-2.result.now
-    i c.as_str-3.result.now c.args.token.now c.requires unspent (c.in_ok-create.ensures.rows made)
-    (c.in_ok-use_up-2.ensures.rows honest
-    ∙ ap (λ (rows : Table). with_row rows kind.Used i used_row) (c.in_ok-use_up.ensures.rows once))
 
 pub returns-clause-call : goal.returns-clause-call
 returns-clause-call g c =

@@ -36,11 +36,3 @@ returns-clause-told g c who honest b starts fresh =
     (still_represented b rows (seen c.find.new.tx).rows (c.in_ok-found.ensures.call.same honest) starts.represents)
     (c.in_ok-found.ensures.told honest forms b (represents_tokens b rows starts.represents))
     known.clock c.in-Some.found _ starts.clock c.in-Some.is c.in_ok-shown.ensures
-
-pub returns-in_default-clause-readable : goal.returns-in_default-clause-readable
-returns-in_default-clause-readable g c honest =
-    (c.in_ok-found.field-0, c.in_ok-found.ensures.in_range, c.in_ok-found.ensures.found honest)
-
-pub returns-clause-readable : goal.returns-clause-readable
-returns-clause-readable g c honest =
-    (c.in_ok-found.field-0, c.in_ok-found.ensures.in_range, c.in_ok-found.ensures.found honest)

@@ -1,13 +1,10 @@
 use Rattle.std.specs.Prelude.{[], Err, Some}
-use Rattle.std.proofs.Common.{sym, ap, ◌∙◌, subst, rules}
+use Rattle.std.proofs.Common.{sym, ap, ◌∙◌, rules}
 use Rattle.std.proofs.lemmas.Result.{err_from_is_err_and}
 use Rattle.broker_types.specs.Names.{names_of}
 use Rattle.records.specs.CallLaws.{honest_before, on_answer_weaker}
-use Rattle.records.specs.Transaction.{Rows}
 use Rattle.broker_model.specs.Forms.{forms}
 use Rattle.broker_model.specs.parts.Tokens.{look_up}
-use Rattle.broker_rows.specs.ReadableRow.{IsReadableToken}
-use Rattle.broker_rows.specs.Reads.{IfNamed}
 use Rattle.broker_rows.specs.RepresentingLaws.{represents_tokens, still_represented}
 use Rattle.token_operations.proofs.Named.{acts_on_named, acts_on_none}
 use Rattle.token_operations.proofs.lookup.look_up_accessor.Goals as goal
@@ -45,30 +42,6 @@ returns-clause-told g c who honest b starts fresh =
       here = starts.here;
       clock = starts.clock;
     }) fresh)
-
-pub returns-in_default-clause-readable : goal.returns-in_default-clause-readable
-returns-in_default-clause-readable g c honest =
-    let rows = (g.T.RecordsTx.seen c.args.tx.now).rows in (
-      c.in_ok-token.field-0,
-      c.in_ok-token.ensures.found honest,
-      subst (IfNamed (IsReadableToken rows)) (sym c.in_default.is) tt,
-    )
-
-pub returns-clause-readable : goal.returns-clause-readable
-returns-clause-readable g c honest =
-    let seen = g.T.RecordsTx.seen in
-    let rows = (seen c.args.tx.now).rows in
-    let mid =
-    honest_before (seen c.find_accessor.new.tx) (seen c.look_up.new.tx) _ c.look_up.ensures.call.goes_on honest in
-    let is = c.in-Some.is ∙ ap Some (sym c.as_str.ensures) in
-    on_answer_weaker c.look_up.result
-    (λ readable. (
-      c.in_ok-token.field-0,
-      c.in_ok-token.ensures.found mid,
-      subst (IfNamed (IsReadableToken rows)) (sym is)
-          (subst (λ (z : Rows). IsReadableToken z c.as_str.result.now) (c.in_ok-token.ensures.call.same mid) readable),
-    ))
-    (c.look_up.ensures.readable honest)
 
 pub returns-clause-call : goal.returns-clause-call
 returns-clause-call g c =

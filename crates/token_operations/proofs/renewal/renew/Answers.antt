@@ -1,18 +1,14 @@
-use Rattle.std.specs.Prelude.{Err, Some, OnOk}
+use Rattle.std.specs.Prelude.{Err, Some}
 use Rattle.std.proofs.Common.{sym, ap, ◌∙◌, subst}
 use Rattle.std.proofs.lemmas.Result.{err_from_is_err_and}
 use Rattle.broker_types.specs.Names.{names_of}
-use Rattle.records.specs.CallLaws.{honest_before, on_answer}
-use Rattle.records.specs.Parts.{of_tokens}
+use Rattle.records.specs.CallLaws.{honest_before}
 use Rattle.records.specs.Table.{table_of}
 use Rattle.records.specs.Transaction.{Rows}
 use Rattle.records.specs.ValueLaws.{none_of}
 use Rattle.token_tree.specs.TokenRows.{IsTokenAt}
 use Rattle.broker_model.specs.Forms.{forms}
-use Rattle.broker_rows.specs.Changed.{ChangesOnly}
-use Rattle.broker_rows.specs.Ending.{KeepsUses}
 use Rattle.broker_rows.specs.RepresentingLaws.{represents_tokens, still_represented}
-use Rattle.token_operations.proofs.Refused.{refused_weaker}
 use Rattle.token_operations.proofs.TokenRenewals.{acts_unknown}
 use Rattle.token_operations.proofs.renewal.renew.Goals as goal
 
@@ -49,40 +45,6 @@ returns-clause-told g c who honest b starts fresh =
     })
     (sym c.in-Some.is ∙ c.in_ok-found.ensures.told before forms b (represents_tokens b rows starts.represents))
 
-pub returns-in_default-clause-readable : goal.returns-in_default-clause-readable
-returns-in_default-clause-readable g c honest =
-    (c.in_ok-found.field-0, c.in_ok-found.ensures.in_range, c.in_ok-found.ensures.found honest)
-
-pub returns-clause-readable : goal.returns-clause-readable
-returns-clause-readable g c honest =
-    let seen = g.T.RecordsTx.seen in
-    let before =
-    honest_before (seen c.find.new.tx) (seen c.renew_found.new.tx) _ c.renew_found.ensures.call.goes_on honest in
-    on_answer c.renew_found.result (
-      c.in_ok-found.field-0,
-      c.in_ok-found.ensures.in_range,
-      c.in_ok-found.ensures.found before,
-    )
-
-pub returns-clause-rows : goal.returns-clause-rows
-returns-clause-rows g c honest =
-    let seen = g.T.RecordsTx.seen in
-    let new = (seen c.renew_found.new.tx).rows in
-    let before =
-    honest_before (seen c.find.new.tx) (seen c.renew_found.new.tx) _ c.renew_found.ensures.call.goes_on honest in
-    subst (λ (rows : Rows). OnOk c.renew_found.result (ChangesOnly of_tokens rows new))
-    (c.in_ok-found.ensures.call.same before)
-    (c.renew_found.ensures.rows honest)
-
-pub returns-clause-uses : goal.returns-clause-uses
-returns-clause-uses g c honest =
-    let seen = g.T.RecordsTx.seen in
-    let new = (seen c.renew_found.new.tx).rows in
-    let before =
-    honest_before (seen c.find.new.tx) (seen c.renew_found.new.tx) _ c.renew_found.ensures.call.goes_on honest in
-    subst (λ (rows : Rows). OnOk c.renew_found.result (KeepsUses rows new)) (c.in_ok-found.ensures.call.same before)
-    (c.renew_found.ensures.uses honest)
-
 pub renew_found-requires-clause-there : goal.renew_found-requires-clause-there
 renew_found-requires-clause-there g c honest =
     let seen = g.T.RecordsTx.seen in
@@ -90,11 +52,3 @@ renew_found-requires-clause-there g c honest =
     subst (λ (rows : Rows). IsTokenAt (table_of rows) t (Some c.in-Some.found))
     (sym (c.in_ok-found.ensures.call.same honest))
     (subst (IsTokenAt (table_of (seen c.args.tx.now).rows) t) c.in-Some.is (c.in_ok-found.ensures.found honest))
-
-pub returns-clause-refused : goal.returns-clause-refused
-returns-clause-refused g c honest =
-    let seen = g.T.RecordsTx.seen in
-    let before =
-    honest_before (seen c.find.new.tx) (seen c.renew_found.new.tx) _ c.renew_found.ensures.call.goes_on honest in
-    refused_weaker c.renew_found.result (λ same. same ∙ c.in_ok-found.ensures.call.same before)
-    (c.renew_found.ensures.refused honest)

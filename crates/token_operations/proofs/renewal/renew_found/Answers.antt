@@ -1,7 +1,6 @@
 use Rattle.std.specs.Prelude.{Some, is_some, not}
 use Rattle.std.proofs.Common.{◌≡◌, refl, sym, ap, ◌∙◌}
 use Rattle.broker_types.specs.Names.{names_of}
-use Rattle.records.specs.CallLaws.{honest_before}
 use Rattle.records.specs.TokenEntry.{TokenEntry}
 use Rattle.broker_model.specs.Forms.{forms}
 use Rattle.broker_model.specs.parts.TokenReplies.{auth_reply}
@@ -9,7 +8,6 @@ use Rattle.broker_rows.specs.Context.{Context}
 use Rattle.broker_rows.specs.RepresentingLaws.{represents_tokens}
 use Rattle.token_operations.proofs.TokenRenewals.{acts_endless, acts_renewed}
 use Rattle.token_operations.proofs.TokenTables.{represents-renewed}
-use Rattle.token_operations.proofs.TokenUses.{renewed_keep}
 use Rattle.token_operations.proofs.renewal.renew_found.Goals as goal
 
 pub returns-then-is_none-clause-told : goal.returns-then-is_none-clause-told
@@ -41,12 +39,3 @@ returns-clause-told g c honest who b starts here =
     c.new_end-ends.ensures.near
     (c.in_ok-renewed.ensures.told honest forms b (represents_tokens b old st) here)
     (c.in_ok-renewed.ensures.call.others honest))
-
-pub returns-clause-uses : goal.returns-clause-uses
-returns-clause-uses g c honest =
-    let seen = g.T.RecordsTx.seen in
-    let at = c.requires.there (honest_before (seen c.args.tx.now) (seen c.renew.new.tx) _ c.renew.ensures.call.goes_on
-    honest) in
-    renewed_keep (seen c.args.tx.now).rows (seen c.renew.new.tx).rows c.args.token.now c.args.found
-    c.new_end-ends.result
-    c.new_end-ends.ensures.near at (c.in_ok-renewed.ensures.rows honest)

@@ -31,12 +31,6 @@ returns-in-Stays-clause-told g c honest who b st =
     list.items st)
     (did.call.others honest) (did.ended honest forms b tokens) (did.told honest forms b tokens))
 
-pub returns-in-Ends-clause-rows : goal.returns-in-Ends-clause-rows
-returns-in-Ends-clause-rows g c honest = rw c.in-Ends.is (c.revoke.ensures.rows honest)
-
-pub returns-in-Stays-clause-rows : goal.returns-in-Stays-clause-rows
-returns-in-Stays-clause-rows g c honest = rw c.in-Stays.is (c.revoke_one.ensures.rows honest)
-
 pub returns-in-Ends-clause-wants : goal.returns-in-Ends-clause-wants
 returns-in-Ends-clause-wants g c honest who b st =
     c.revoke.ensures.wants honest forms b (represents_tokens b (g.T.RecordsTx.seen c.args.tx.now).rows st)

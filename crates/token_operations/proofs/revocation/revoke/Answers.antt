@@ -2,11 +2,9 @@ use Rattle.std.proofs.Common.{refl, sym, ap, ◌∙◌, subst, Err}
 use Rattle.std.proofs.lemmas.Result.{err_from_is_err_and}
 use Rattle.broker_types.specs.Broker.{Broker}
 use Rattle.records.specs.CallLaws.{honest_before}
-use Rattle.broker_rows.specs.Ending.{LeavesNothing}
 use Rattle.broker_rows.specs.Left.{HaveEnded}
 use Rattle.broker_rows.specs.RepresentingLaws.{represents_dropped, represents_waiting}
 use Rattle.token_operations.specs.Revoked.{left_by}
-use Rattle.token_operations.proofs.TokenTables.{revoked_readable, revoked_rows}
 use Rattle.token_operations.proofs.revocation.revoke.Goals as goal
 
 pub returns-in_err-ended-clause-told : goal.returns-in_err-ended-clause-told
@@ -60,35 +58,3 @@ returns-clause-told g c honest who b st =
       represents_dropped next c.args.token.now left (seen c.drop_token.new.tx).rows rest
           (dropped.told honest next (represents_waiting next left rest)) (dropped.call.others honest),
     )
-
-pub returns-clause-readable : goal.returns-clause-readable
-returns-clause-readable g c honest =
-    let seen = g.T.RecordsTx.seen in
-    let gone = honest_before (seen c.leave_nothing.new.tx) (seen c.drop_token.new.tx) _
-    c.drop_token.ensures.call.goes_on honest in
-    let revoked = honest_before (seen c.end_tokens.new.tx) (seen c.leave_nothing.new.tx) _
-    c.leave_nothing.ensures.call.goes_on gone in
-    let mid = (seen c.end_tokens.new.tx).rows in
-    let left = (seen c.leave_nothing.new.tx).rows in
-    let leaves = subst (λ ended. LeavesNothing ended mid left) c.deref.ensures.value
-    (c.in_ok-leave_nothing.ensures.rows gone) in
-    let dropped = c.in_ok-drop_token.ensures.rows honest in
-    revoked_readable c.args.token.now c.in_ok-ended.ended.items (seen c.args.tx.now).rows mid left
-    (seen c.drop_token.new.tx).rows leaves (dropped.0, dropped.1) (c.in_ok-ended.ensures.call.others revoked)
-    c.args.descent
-    (c.in_ok-ended.ensures.rows revoked)
-
-pub returns-clause-rows : goal.returns-clause-rows
-returns-clause-rows g c honest =
-    let seen = g.T.RecordsTx.seen in
-    let gone = honest_before (seen c.leave_nothing.new.tx) (seen c.drop_token.new.tx) _
-    c.drop_token.ensures.call.goes_on honest in
-    let revoked = honest_before (seen c.end_tokens.new.tx) (seen c.leave_nothing.new.tx) _
-    c.leave_nothing.ensures.call.goes_on gone in
-    let mid = (seen c.end_tokens.new.tx).rows in
-    let left = (seen c.leave_nothing.new.tx).rows in
-    let leaves = subst (λ ended. LeavesNothing ended mid left) c.deref.ensures.value
-    (c.in_ok-leave_nothing.ensures.rows gone) in
-    let dropped = c.in_ok-drop_token.ensures.rows honest in
-    revoked_rows c.args.token.now c.in_ok-ended.ended.items (seen c.args.tx.now).rows mid left
-    (seen c.drop_token.new.tx).rows leaves (dropped.0, dropped.1) c.args.descent (c.in_ok-ended.ensures.rows revoked)

@@ -1,9 +1,7 @@
-use Rattle.std.proofs.Common.{sym, ap, ◌∙◌, subst, Err}
+use Rattle.std.proofs.Common.{sym, ap, ◌∙◌, Err}
 use Rattle.std.proofs.lemmas.Result.{err_from_is_err_and}
-use Rattle.records.specs.Table.{table_of}
-use Rattle.wrapping.specs.AccessorRows.{DropsAccessor}
 use Rattle.broker_rows.specs.RepresentingLaws.{represents_waiting, still_represented}
-use Rattle.token_operations.proofs.Holders.{acts_on_neither, acts_on_wrapping, readable_name}
+use Rattle.token_operations.proofs.Holders.{acts_on_neither, acts_on_wrapping}
 use Rattle.token_operations.proofs.revocation.revoke_wrapping.Goals as goal
 
 pub returns-in_err-drop_accessor-clause-told : goal.returns-in_err-drop_accessor-clause-told
@@ -31,20 +29,3 @@ returns-clause-told g c honest who b st none =
     c.accessors_name_their_wrapping_tokens.ensures.only rows st
     (sym c.if-not-branch.false ∙ told) (c.in_ok-drop_accessor.ensures.told honest b waiting)
     (c.in_ok-drop_accessor.ensures.call.others honest)
-
-pub returns-then-not-branch-clause-readable : goal.returns-then-not-branch-clause-readable
-returns-then-not-branch-clause-readable g c honest = readable_name _ _ _ _ (c.in_ok-drop_accessor.ensures.rows honest)
-
-pub returns-clause-readable : goal.returns-clause-readable
-returns-clause-readable g c honest = readable_name _ _ _ _ (c.in_ok-drop_accessor.ensures.rows honest)
-
-pub returns-then-not-branch-clause-refused : goal.returns-then-not-branch-clause-refused
-returns-then-not-branch-clause-refused g c honest = c.in_ok-drop_accessor.ensures.unknown honest c.if-not-branch.true
-
-pub returns-clause-rows : goal.returns-clause-rows
-returns-clause-rows g c honest =
-    let seen = g.T.RecordsTx.seen in
-    let old = (seen c.args.tx.now).rows in
-    let new = (seen c.drop_accessor.new.tx).rows in
-    subst (λ dropped. DropsAccessor c.args.accessor.now (table_of old) dropped (table_of new)) c.if-not-branch.false
-    (c.in_ok-drop_accessor.ensures.rows honest)

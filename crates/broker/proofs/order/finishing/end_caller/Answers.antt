@@ -1,19 +1,26 @@
-use Rattle.std.specs.Prelude.{false}
-use Rattle.std.proofs.Common.{refl}
-use Rattle.std.proofs.lemmas.Bool.{false≢true}
-use Rattle.broker_rows.specs.UsesLaws.{unspent_represented}
+use Rattle.std.proofs.Common.{subst}
+use Rattle.broker_rows.specs.Representing.{Represents}
+use Rattle.broker.specs.Stages.{may_be_spent}
+use Rattle.broker.proofs.UnspentStays.{unspent_ended}
 use Rattle.broker.proofs.order.finishing.end_caller.Goals as goal
 
 pub returns-then-not-is_last_use-clause-told : goal.returns-then-not-is_last_use-clause-told
-returns-then-not-is_last_use-clause-told g c honest still b st =
-    unspent_represented b c.args.caller.now (g.T.RecordsTx.seen c.args.tx.now).rows
-    c.token_rows_tell_their_entries.ensures st
-    (still c.if-not-is_last_use.true)
+returns-then-not-is_last_use-clause-told g c honest b st =
+    let caller = c.args.caller.now in
+    let rows = (g.T.RecordsTx.seen c.args.tx.now).rows in
+    unspent_ended b caller rows
+    (subst (λ last. Represents (may_be_spent caller last) rows b) c.if-not-is_last_use.true st)
 
-pub returns-then-not-is_last_use-clause-rows : goal.returns-then-not-is_last_use-clause-rows
-returns-then-not-is_last_use-clause-rows g c honest still = record {
-  spent = false;
-  told = still c.if-not-is_last_use.true;
-  stays = λ _. refl;
-  ends = λ e. absurd (false≢true e);
-}
+pub returns-clause-told : goal.returns-clause-told
+returns-clause-told g c honest b st =
+    let caller = c.args.caller.now in
+    let rows = (g.T.RecordsTx.seen c.args.tx.now).rows in
+    c.end_spent.ensures.told honest b
+    (subst (λ last. Represents (may_be_spent caller last) rows b) c.if-not-is_last_use.false st)
+
+pub returns-clause-wants : goal.returns-clause-wants
+returns-clause-wants g c honest b st =
+    let caller = c.args.caller.now in
+    let rows = (g.T.RecordsTx.seen c.args.tx.now).rows in
+    c.end_spent.ensures.wants honest b
+    (subst (λ last. Represents (may_be_spent caller last) rows b) c.if-not-is_last_use.false st)

@@ -18,7 +18,6 @@ use Rattle.broker.specs.Askers.{who_of}
 use Rattle.broker.specs.Meant.{meant}
 use Rattle.broker.specs.Stages.{IsServed}
 use Rattle.broker.proofs.Asked.{begins_clock}
-use Rattle.broker.proofs.KeptUses.{uses_then, wrapped_uses}
 use Rattle.broker.proofs.NeededIdentifiers.{accessor_good, needed_is, own_new, own_printed, printed_is, token_good}
 use Rattle.broker.proofs.Routes.{acted_not, acted_wrapped}
 use Rattle.broker.proofs.order.operating.carry_out.Goals as goal
@@ -100,13 +99,3 @@ returns-clause-told g c placed honest b begins fresh =
       new = all_new;
       proper = c.operations_are_proper.ensures b who c.args.context.now.words command d own does;
     }) done))
-
-pub returns-clause-uses : goal.returns-clause-uses
-returns-clause-uses g c honest at =
-    let seen = g.T.RecordsTx.seen in
-    let old = (seen c.args.tx.now).rows in
-    let mid = (seen c.act-2.new.tx).rows in
-    let new = (seen c.wrap.new.tx).rows in
-    let before = honest_before (seen c.act-2.new.tx) (seen c.wrap.new.tx) _ c.in_ok-wrap.ensures.call.goes_on honest in
-    uses_then old mid new (c.in_ok-answered.ensures.uses before at)
-    (wrapped_uses mid new _ _ _ (c.in_ok-wrap.ensures.rows honest))

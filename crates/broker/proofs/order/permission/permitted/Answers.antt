@@ -1,23 +1,18 @@
-use Rattle.std.specs.Prelude.{◌≢◌, Any, List, None, Some, true, false}
+use Rattle.std.specs.Prelude.{◌≢◌, List, None, Some, true, false}
 use Rattle.std.proofs.Common.{rules, sym, ◌∙◌, ap, subst}
 use Rattle.std.proofs.lemmas.Option.{same_Some}
 use Rattle.std.proofs.lemmas.Result.{err_from_is_err_and}
 use Rattle.broker_types.specs.Map.{get}
 use Rattle.broker_types.specs.Text.{Text}
-use Rattle.records.specs.CallLaws.{fault_then, honest_before}
-use Rattle.records.specs.Ranges.{IsTokenInRange}
-use Rattle.records.specs.Table.{table_of}
-use Rattle.records.specs.Transaction.{IsHonest}
+use Rattle.records.specs.CallLaws.{honest_before}
 use Rattle.api_json.specs.Kept.{is_object}
 use Rattle.policies.specs.Grants.{rules_of}
-use Rattle.policies.specs.PolicyRows.{IsUnreadable}
 use Rattle.broker_model.specs.Capabilities.{asked_by, has_stored}
 use Rattle.broker_model.specs.Permission.{may}
 use Rattle.broker_rows.specs.Caller.{AreRulesAt, Caller}
 use Rattle.broker_rows.specs.Representing.{Represents}
 use Rattle.broker_rows.specs.RepresentingLaws.{named_policies_there, still_represented}
-use Rattle.broker.specs.PermittedRows.{has_row}
-use Rattle.broker.proofs.Permitted.{allowed_by, permitted_told, rules_before, unread_before}
+use Rattle.broker.proofs.Permitted.{permitted_told, rules_before}
 use Rattle.broker.proofs.Serving.{entry_here}
 use Rattle.broker.proofs.order.permission.permitted.Goals as goal
 
@@ -32,7 +27,7 @@ returns-in_err-rules-clause-wants g c honest b st =
     rw (p.1, p.2) (c.in_err-rules.ensures.wants honest is_object b.policies still.sound.policies
     (named_policies_there b (seen c.capability.new.tx).rows c.deref.result.now still))
 
--- ---- whether the caller may ask, by the broker
+-- ---- whether the caller may ask
 
 pub returns-clause-told : goal.returns-clause-told
 returns-clause-told g c honest b st caller routed =
@@ -52,8 +47,9 @@ returns-clause-told g c honest b st caller routed =
     ∙ ap (λ (ns : List Text). rules_of b.policies ns verb) names in
     let asks = c.in_ok-asked.ensures.told mid b (subst (λ (t : Text). Represents (Some t) old b) (sym token) st)
     (subst (λ (t : Text). get b.tokens t ≢ None) (sym token) (entry_here b who caller))
-    ∙ ap (λ (t : Text). asked_by (has_stored b t) verb c.args.found.now) token in
-    permitted_told b who verb path c.args.found.now c.in_ok-asked.asked c.in_ok-rules.rules true caller routed asks said
+    ∙ ap (λ (t : Text). asked_by (has_stored b t) verb c.args.found.now) token
+    ∙ ap (asked_by (has_stored b who.token) verb) routed in
+    permitted_told b who verb path c.in_ok-asked.asked c.in_ok-rules.rules true caller asks said
     (c.if-not-may.ensures
     ∙ ap (λ (p : Text). may c.in_ok-rules.rules p c.in_ok-asked.asked) c.as_str-path.ensures.text)
 
@@ -75,76 +71,12 @@ returns-then-not-may-clause-told g c honest b st caller routed =
     ∙ ap (λ (ns : List Text). rules_of b.policies ns verb) names in
     let asks = c.in_ok-asked.ensures.told mid b (subst (λ (t : Text). Represents (Some t) old b) (sym token) st)
     (subst (λ (t : Text). get b.tokens t ≢ None) (sym token) (entry_here b who caller))
-    ∙ ap (λ (t : Text). asked_by (has_stored b t) verb c.args.found.now) token in
-    permitted_told b who verb path c.args.found.now c.in_ok-asked.asked c.in_ok-rules.rules false caller routed asks
-    said (c.if-not-may.ensures
+    ∙ ap (λ (t : Text). asked_by (has_stored b t) verb c.args.found.now) token
+    ∙ ap (asked_by (has_stored b who.token) verb) routed in
+    permitted_told b who verb path c.in_ok-asked.asked c.in_ok-rules.rules false caller asks said (c.if-not-may.ensures
     ∙ ap (λ (p : Text). may c.in_ok-rules.rules p c.in_ok-asked.asked) c.as_str-path.ensures.text)
 
--- ---- by the rows
-
-pub returns-clause-found : goal.returns-clause-found
-returns-clause-found g c honest at mount known routed =
-    let seen = g.T.RecordsTx.seen in
-    let old = (seen c.args.tx.now).rows in
-    let verb = c.args.ask.now.verb in
-    let path = c.args.ask.now.path in
-    let who = c.args.caller.now in
-    let mid = honest_before (seen c.capability.new.tx)
-    (seen c.rules_of.new.tx) _ c.in_ok-rules.ensures.call.goes_on honest in
-    let token = (λ i. (c.caller-inside.view_is i).token.now) ∙ ap (λ (x : Caller). x.token) c.caller.view_is in
-    let names = c.deref.ensures.value ∙ (λ i. (c.caller-inside.view_is i).known.policies)
-    ∙ ap (λ (x : Caller). x.known.policies) c.caller.view_is in
-    let rules = rules_before old (seen c.capability.new.tx).rows c.deref.result.now who.known.policies verb
-    c.in_ok-rules.rules
-    (c.in_ok-asked.ensures.call.same mid) names
-    (record { readable = c.in_ok-rules.ensures.readable honest; told = c.in_ok-rules.ensures.told honest }) in
-    record {
-      entry = Some who.known;
-      in_range = λ e is. subst IsTokenInRange (same_Some _ _ is) c.requires;
-      token = at;
-      asked = c.in_ok-asked.asked;
-      asks = (
-        mount,
-        known,
-        c.in_ok-asked.ensures.found mid ∙ ap (λ (t : Text). asked_by (has_row old t) verb c.args.found.now) token
-            ∙ ap (asked_by (has_row old who.token) verb) routed,
-      );
-      allowed = allowed_by old who.known.policies verb path c.in_ok-asked.asked c.in_ok-rules.rules true rules
-          (c.if-not-may.ensures
-          ∙ ap (λ (p : Text). may c.in_ok-rules.rules p c.in_ok-asked.asked) c.as_str-path.ensures.text);
-    }
-
-pub returns-then-not-may-clause-found : goal.returns-then-not-may-clause-found
-returns-then-not-may-clause-found g c honest at mount known routed =
-    let seen = g.T.RecordsTx.seen in
-    let old = (seen c.args.tx.now).rows in
-    let verb = c.args.ask.now.verb in
-    let path = c.args.ask.now.path in
-    let who = c.args.caller.now in
-    let mid = honest_before (seen c.capability.new.tx)
-    (seen c.rules_of.new.tx) _ c.in_ok-rules.ensures.call.goes_on honest in
-    let token = (λ i. (c.caller-inside.view_is i).token.now) ∙ ap (λ (x : Caller). x.token) c.caller.view_is in
-    let names = c.deref.ensures.value ∙ (λ i. (c.caller-inside.view_is i).known.policies)
-    ∙ ap (λ (x : Caller). x.known.policies) c.caller.view_is in
-    let rules = rules_before old (seen c.capability.new.tx).rows c.deref.result.now who.known.policies verb
-    c.in_ok-rules.rules
-    (c.in_ok-asked.ensures.call.same mid) names
-    (record { readable = c.in_ok-rules.ensures.readable honest; told = c.in_ok-rules.ensures.told honest }) in
-    record {
-      entry = Some who.known;
-      in_range = λ e is. subst IsTokenInRange (same_Some _ _ is) c.requires;
-      token = at;
-      asked = c.in_ok-asked.asked;
-      asks = (
-        mount,
-        known,
-        c.in_ok-asked.ensures.found mid ∙ ap (λ (t : Text). asked_by (has_row old t) verb c.args.found.now) token
-            ∙ ap (asked_by (has_row old who.token) verb) routed,
-      );
-      allowed = allowed_by old who.known.policies verb path c.in_ok-asked.asked c.in_ok-rules.rules false rules
-          (c.if-not-may.ensures
-          ∙ ap (λ (p : Text). may c.in_ok-rules.rules p c.in_ok-asked.asked) c.as_str-path.ensures.text);
-    }
+-- ---- what its policies say
 
 pub returns-clause-rules : goal.returns-clause-rules
 returns-clause-rules g c honest =
@@ -157,27 +89,5 @@ returns-clause-rules g c honest =
     let rules = rules_before old (seen c.capability.new.tx).rows c.deref.result.now c.args.caller.now.known.policies
     c.args.ask.now.verb c.in_ok-rules.rules
     (c.in_ok-asked.ensures.call.same mid) names
-    (record { readable = c.in_ok-rules.ensures.readable honest; told = c.in_ok-rules.ensures.told honest }) in
+    (c.in_ok-rules.ensures.told honest) in
     λ x is. subst (AreRulesAt old c.args.caller.now.known.policies c.args.ask.now.verb) (same_Some _ _ is) rules
-
-pub returns-in_err-rules-clause-call : goal.returns-in_err-rules-clause-call
-returns-in_err-rules-clause-call g c =
-    let seen = g.T.RecordsTx.seen in
-    let old = (seen c.args.tx.now).rows in
-    let p = err_from_is_err_and c.from_residual-in_err-rules.result c.from_residual-in_err-rules.ensures.1 in
-    let before : (IsHonest (seen c.rules_of.new.tx)
-    → Any (IsUnreadable (table_of (seen c.capability.new.tx).rows)) c.deref.result.now)
-    → IsHonest (seen c.rules_of.new.tx) → Any (IsUnreadable (table_of old)) c.args.caller.now.known.policies =
-    λ unread honest.
-    let mid = honest_before (seen c.capability.new.tx)
-    (seen c.rules_of.new.tx) _ c.in_err-rules.ensures.call.goes_on honest in
-    let names = c.deref.ensures.value ∙ (λ i. (c.caller-inside.view_is i).known.policies)
-    ∙ ap (λ (x : Caller). x.known.policies) c.caller.view_is in
-    unread_before old (seen c.capability.new.tx).rows c.deref.result.now c.args.caller.now.known.policies
-    (c.in_ok-asked.ensures.call.same mid) names
-    (unread honest) in
-    record {
-      same = search rules;
-      faults = rw (p.1, p.2) (fault_then before _ c.in_err-rules.ensures.call.faults);
-      goes_on = search rules;
-    }

@@ -8,11 +8,10 @@ use Rattle.broker_types.specs.Sound.{IsSoundWaiting}
 use Rattle.broker_types.specs.TokenText.{token_text}
 use Rattle.records.specs.RangeLaws.{waiting_in_range}
 use Rattle.records.specs.Rows.{rows_of}
-use Rattle.records.specs.Table.{table_of}
 use Rattle.api_json.specs.Reply.{reply_text, wrap_reply}
 use Rattle.broker_model.specs.Order.{wrap_info}
 use Rattle.broker_rows.specs.Done.{counted}
-use Rattle.broker.specs.Wraps.{Wrapping, kept_in, waiting_from, with_kept}
+use Rattle.broker.specs.Wraps.{Wrapping, kept_in, waiting_from}
 use Rattle.broker.proofs.KeptReplies.{accessor_new, kept_served, token_new}
 use Rattle.broker.proofs.order.wrap.keep.Goals as goal
 
@@ -22,19 +21,6 @@ put-requires g c =
 
 pub told-requires : goal.told-requires
 told-requires g c = ap (λ (w : Waiting). w.created) c.waiting-response.ensures.value
-
-pub returns-clause-rows : goal.returns-clause-rows
-returns-clause-rows g c honest =
-    let seen = g.T.RecordsTx.seen in
-    let x = c.args.context.now in
-    let w = c.args.wrapping.now in
-    let text : c.as_str.result.now ≡ reply_text c.args.reply.now = c.as_str.ensures ∙ c.in_ok-text.ensures in
-    let is = c.waiting-response.ensures.value
-    ∙ ap (waiting_from x.clock w) text in
-    let made : c.in_ok-wrapping_token.wrapping_token ≡ token_text w.token = c.in_ok-wrapping_token.ensures
-    ∙ ap (λ (v : Wrapping). token_text v.token) c.wrapping.view_is in
-    let named : c.as_str-2.result.now ≡ token_text w.token = c.as_str-2.ensures ∙ made in
-    c.in_ok-put.ensures.rows honest ∙ (λ i. with_kept (table_of (seen c.args.tx.now).rows) (named i) (is i))
 
 pub returns-clause-told : goal.returns-clause-told
 returns-clause-told g c honest who b own d may st =

@@ -61,11 +61,5 @@ put-requires-clause-credential g c =
     subst IsIdentifier (sym (c.as_str-2.ensures ∙ c.index-own-1.is))
     (c.requires.own.good 1 c.index-own-1.result (omega (arith, ap length c.requires.own.are)))
 
-pub returns-clause-readable : goal.returns-clause-readable
-returns-clause-readable g c = c.in_ok-lease.ensures.readable
-
-pub returns-clause-rows : goal.returns-clause-rows
-returns-clause-rows g c = c.in_ok-lease.ensures.rows
-
 pub returns-clause-call : goal.returns-clause-call
 returns-clause-call g c = record { faults = tt; goes_on = c.in_ok-lease.ensures.call.goes_on }

@@ -1,9 +1,8 @@
 use Rattle.std.specs.Prelude.{length}
 use Rattle.std.specs.Option.{option_map_or}
-use Rattle.std.proofs.Common.{◌≡◌, ◌==◌, ℕ, Ok, Err, false, refl, sym, ap, subst, arith, ◌∙◌}
+use Rattle.std.proofs.Common.{◌≡◌, ◌==◌, Ok, Err, false, refl, sym, ap, subst, arith, ◌∙◌}
 use Rattle.std.proofs.lemmas.Result.{err_from_is_err_and}
 use Rattle.broker_types.specs.IdentifierLaws.{id-length}
-use Rattle.broker_types.specs.Text.{Text}
 use Rattle.records.specs.CallLaws.{honest_before}
 use Rattle.records.specs.Parts.{of_roles}
 use Rattle.records.specs.RowForms.{used_row}
@@ -11,14 +10,12 @@ use Rattle.records.specs.Table.{with_row}
 use Rattle.records.specs.declared.kind.Kind.TheVariants as kind
 use Rattle.leases.specs.Roles.{creds}
 use Rattle.broker_model.specs.Forms.{forms}
-use Rattle.broker_model.specs.parts.Issued.{of_issued}
 use Rattle.broker_rows.specs.Context.{Context}
 use Rattle.broker_rows.specs.Caller.{Caller}
 use Rattle.broker_rows.specs.RepresentingLaws.{represents_leases, still_represented, tells_part}
 use Rattle.secret_operations.specs.Issuing.{IssuesLease}
 use Rattle.secret_operations.proofs.IssuedAnswers.{ends_weaker}
-use Rattle.secret_operations.proofs.IssuedRows.{last_use, id_new, credential_new, leased, only_issued}
-use Rattle.secret_operations.proofs.Refusals.{unchanged_by_role}
+use Rattle.secret_operations.proofs.IssuedRows.{last_use, id_new, credential_new, leased}
 use Rattle.secret_operations.proofs.issued.credentials.put.Goals as goal
 
 pub creds-requires : goal.creds-requires
@@ -90,23 +87,3 @@ returns-clause-told g c is_mount =
     leased b token st.sound mount name named credential is_mount c.requires.named c.requires.credential new here old
     (seen c.creds.new.tx).rows
     (seen c.use_up-2.new.tx).rows st (c.in_ok-lease.ensures.call.others made) marks c.in_ok-lease.lease ends)
-
-pub returns-in_err-lease-clause-rows : goal.returns-in_err-lease-clause-rows
-returns-in_err-lease-clause-rows g c honest =
-    let seen = g.T.RecordsTx.seen in
-    let p = err_from_is_err_and c.from_residual.result c.from_residual.ensures.1 in
-    rw (p.1 ∙ ap Err p.2)
-    (unchanged_by_role of_issued (seen c.args.tx.now).rows (seen c.creds.new.tx).rows (Text × ℕ) c.args.mount.now
-    c.args.name.now c.in_err-lease.field-0.0 _ (c.in_err-lease.ensures.readable honest)
-    (c.in_err-lease.ensures.rows honest))
-
-pub returns-clause-rows : goal.returns-clause-rows
-returns-clause-rows g c honest =
-    let seen = g.T.RecordsTx.seen in
-    let once =
-    honest_before (seen c.use_up.new.tx) (seen c.use_up-2.new.tx) _ c.in_ok-use_up-2.ensures.call.goes_on honest in
-    let made = honest_before (seen c.creds.new.tx) (seen c.use_up.new.tx) _ c.in_ok-use_up.ensures.call.goes_on once in
-    only_issued c.args.names.lease.now c.args.names.credential.now (seen c.args.tx.now).rows (seen c.creds.new.tx).rows
-    (seen c.use_up-2.new.tx).rows (c.in_ok-lease.ensures.call.others made)
-    (c.in_ok-use_up-2.ensures.rows honest
-    ∙ (λ i. with_row (c.in_ok-use_up.ensures.rows once i) kind.Used c.args.names.lease.now used_row))

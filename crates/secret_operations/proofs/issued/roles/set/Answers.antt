@@ -2,9 +2,7 @@ use Rattle.std.proofs.Common.{Err, ap, ◌∙◌}
 use Rattle.std.proofs.lemmas.Result.{err_from_is_err_and}
 use Rattle.records.specs.Parts.{of_roles}
 use Rattle.broker_rows.specs.RepresentingLaws.{tells_part}
-use Rattle.broker_rows.specs.declared.answered.Answered.{Answered}
 use Rattle.secret_operations.proofs.IssuedAnswers.{acts_set, acts_not_set}
-use Rattle.secret_operations.proofs.Refusals.{unchanged_by_ends}
 use Rattle.secret_operations.proofs.issued.roles.set.Goals as goal
 
 pub returns-in_err-set_role-clause-told : goal.returns-in_err-set_role-clause-told
@@ -27,11 +25,3 @@ returns-clause-told g c is_mount who x honest b starts fresh =
     (c.in_ok-set_role.ensures.told honest b (tells_part of_roles b old st))
     (c.in_ok-set_role.ensures.call.others honest) is_mount c.requires.ttl
     c.requires.max_ttl
-
-pub returns-in_err-set_role-clause-rows : goal.returns-in_err-set_role-clause-rows
-returns-in_err-set_role-clause-rows g c honest =
-    let seen = g.T.RecordsTx.seen in
-    let p = err_from_is_err_and c.from_residual.result c.from_residual.ensures.1 in
-    rw (p.1 ∙ ap Err p.2)
-    (unchanged_by_ends of_roles (seen c.args.tx.now).rows (seen c.set_role.new.tx).rows Answered
-    c.in_err-set_role.field-0.0 _ (c.in_err-set_role.ensures.rows honest))

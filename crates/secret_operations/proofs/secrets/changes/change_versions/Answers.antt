@@ -10,7 +10,6 @@ use Rattle.broker_rows.specs.RepresentingLaws.{tells_part}
 use Rattle.broker_rows.specs.declared.answered.Answered.TheVariants.{Nothing}
 use Rattle.secret_operations.specs.VersionChanges.{IsTimely, change_of}
 use Rattle.secret_operations.proofs.Changes.{acts_on_versions, as_changed, changed_sound}
-use Rattle.secret_operations.proofs.Changes.{only_secrets, versions_readable}
 use Rattle.secret_operations.proofs.secrets.changes.change_versions.Goals as goal
 
 pub returns-in_err-change_rows-clause-told : goal.returns-in_err-change_rows-clause-told
@@ -35,15 +34,3 @@ returns-clause-told g c named good who x timely honest b starts fresh =
     c.in_ok-change_rows.field-0 c.in_ok-change_rows.ensures honest b who st
     (is_secret_name mount path named (record { good = good; utf8 = c.utf8.path }))
     (subst (Sound forms who) (sym is) (changed_sound b mount path ns who st.sound c.args.change)))
-
-pub returns-clause-readable : goal.returns-clause-readable
-returns-clause-readable g c honest =
-    let seen = g.T.RecordsTx.seen in
-    versions_readable (change_of c.args.change) c.args.numbers.now c.args.mount.now c.args.path.now
-    (seen c.args.tx.now) (seen c.change_rows.new.tx) c.in_ok-change_rows.field-0 c.in_ok-change_rows.ensures honest
-
-pub returns-clause-rows : goal.returns-clause-rows
-returns-clause-rows g c honest =
-    let seen = g.T.RecordsTx.seen in
-    only_secrets (change_of c.args.change) c.args.numbers.now c.args.mount.now c.args.path.now
-    (seen c.args.tx.now) (seen c.change_rows.new.tx) c.in_ok-change_rows.field-0 c.in_ok-change_rows.ensures honest

@@ -2,14 +2,11 @@ use Rattle.std.proofs.Common.{Err, ap, sym, ◌∙◌}
 use Rattle.std.proofs.lemmas.Result.{err_from_is_err_and}
 use Rattle.records.specs.Parts.{of_secrets}
 use Rattle.records.specs.Table.{table_of}
-use Rattle.kv2.specs.SecretRows.{current_of}
 use Rattle.kv2.specs.Secrets.{secret_name, delete}
 use Rattle.kv2.specs.SoundLaws.{delete_sound, is_secret_name}
-use Rattle.kv2.specs.Versions.{soft_deleted}
 use Rattle.broker_model.specs.Forms.{forms}
 use Rattle.broker_rows.specs.Context.{Context}
 use Rattle.broker_rows.specs.RepresentingLaws.{tells_part}
-use Rattle.secret_operations.proofs.Changes.{changed_readable}
 use Rattle.secret_operations.proofs.SecretAnswers.{acts_changed}
 use Rattle.secret_operations.proofs.SecretTables.{keeps_outside}
 use Rattle.secret_operations.proofs.secrets.changes.delete_current.Goals as goal
@@ -35,22 +32,3 @@ returns-clause-told g c named good who honest b starts fresh =
     (ap (λ (x : Context). x.clock) c.context.view_is ∙ sym starts.clock)
     (is_secret_name mount path named (record { good = good; utf8 = c.utf8.path })))
     (keeps_outside (secret_name mount path) (table_of old) (table_of new) (c.in_ok-delete.ensures.call.others honest))
-
-pub returns-clause-readable : goal.returns-clause-readable
-returns-clause-readable g c honest =
-    let seen = g.T.RecordsTx.seen in
-    let old = table_of (seen c.args.tx.now).rows in
-    let new = table_of (seen c.delete.new.tx).rows in
-    let key = c.in_ok-delete.ensures.readable honest in (
-      key.0,
-      key.1,
-      changed_readable (soft_deleted c.context.inside.clock) (current_of key.0)
-          (secret_name c.args.mount.now c.args.path.now) old new
-          (c.in_ok-delete.ensures.rows honest key.0 key.1),
-    )
-
-pub returns-clause-rows : goal.returns-clause-rows
-returns-clause-rows g c honest =
-    let seen = g.T.RecordsTx.seen in
-    keeps_outside (secret_name c.args.mount.now c.args.path.now) (table_of (seen c.args.tx.now).rows)
-    (table_of (seen c.delete.new.tx).rows) (c.in_ok-delete.ensures.call.others honest)

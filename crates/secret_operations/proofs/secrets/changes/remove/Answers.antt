@@ -21,9 +21,3 @@ returns-clause-told g c named good who x honest b starts fresh =
     (is_secret_name mount path named (record { good = good; utf8 = c.utf8.path })))
     (keeps_outside (secret_name mount path) (table_of old) (table_of new)
     (c.in_ok-remove_key.ensures.call.others honest))
-
-pub returns-clause-rows : goal.returns-clause-rows
-returns-clause-rows g c honest =
-    let seen = g.T.RecordsTx.seen in
-    keeps_outside (secret_name c.args.mount.now c.args.path.now) (table_of (seen c.args.tx.now).rows)
-    (table_of (seen c.remove_key.new.tx).rows) (c.in_ok-remove_key.ensures.call.others honest)

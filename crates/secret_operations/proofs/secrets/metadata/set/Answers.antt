@@ -42,9 +42,3 @@ returns-clause-told g c named good who honest b starts fresh =
     (ap (λ (x : Context). x.clock) c.context.view_is ∙ sym starts.clock)))
     (keeps_outside (secret_name mount path) (table_of old) (table_of new)
     (c.in_ok-set_metadata.ensures.call.others honest))
-
-pub returns-clause-rows : goal.returns-clause-rows
-returns-clause-rows g c honest =
-    let seen = g.T.RecordsTx.seen in
-    keeps_outside (secret_name c.args.mount.now c.args.path.now) (table_of (seen c.args.tx.now).rows)
-    (table_of (seen c.set_metadata.new.tx).rows) (c.in_ok-set_metadata.ensures.call.others honest)

@@ -1,11 +1,10 @@
 use Rattle.std.proofs.Common.{refl}
 use Rattle.records.specs.Parts.{of_mounts}
-use Rattle.records.specs.Table.{table_of}
 use Rattle.kv2.specs.Secrets.{set_config}
 use Rattle.kv2.specs.SoundLaws.{set_config_sound}
 use Rattle.broker_model.specs.Forms.{forms}
 use Rattle.broker_rows.specs.RepresentingLaws.{tells_part}
-use Rattle.secret_operations.proofs.SecretTables.{only_mounts, represents-settings}
+use Rattle.secret_operations.proofs.SecretTables.{represents-settings}
 use Rattle.secret_operations.proofs.secrets.settings.set.Goals as goal
 
 pub returns-clause-told : goal.returns-clause-told
@@ -23,9 +22,3 @@ returns-clause-told g c path who x honest b starts fresh =
           (c.in_ok-set_config.ensures.told honest b st.sound.mounts (tells_part of_mounts b old st))
           (c.in_ok-set_config.ensures.call.others honest),
     )
-
-pub returns-clause-rows : goal.returns-clause-rows
-returns-clause-rows g c honest =
-    let seen = g.T.RecordsTx.seen in
-    only_mounts c.args.mount.now (table_of (seen c.args.tx.now).rows) (table_of (seen c.set_config.new.tx).rows)
-    (c.in_ok-set_config.ensures.call.others honest)

@@ -7,19 +7,14 @@ use Rattle.broker_types.specs.Names.{names_of}
 use Rattle.broker_types.specs.Operation.{reply}
 use Rattle.broker_types.specs.RequestError.{EndsOk, EndsErr}
 use Rattle.records.specs.Parts.{of_secrets, of_mounts}
-use Rattle.records.specs.Table.{table_of}
-use Rattle.kv2.specs.SecretRows.{AreReadableToWrite}
 use Rattle.kv2.specs.Secrets as secrets
 use Rattle.kv2.specs.Versions.{WriteAnswer}
 use Rattle.broker_model.specs.Forms.{forms}
 use Rattle.broker_model.specs.parts.Place.{at}
 use Rattle.broker_model.specs.parts.SecretReplies.{version_made, written_reply}
 use Rattle.broker_rows.specs.Context.{Context}
-use Rattle.broker_rows.specs.declared.answered.Answered.{Answered}
 use Rattle.broker_rows.specs.RepresentingLaws.{tells_part}
-use Rattle.secret_operations.proofs.Refusals.{unchanged_if_refused}
-use Rattle.secret_operations.proofs.SecretAnswers.{IsWrittenAs, acts_written, acts_not_written, on_written}
-use Rattle.secret_operations.proofs.SecretTables.{keeps_outside}
+use Rattle.secret_operations.proofs.SecretAnswers.{IsWrittenAs, acts_written, acts_not_written}
 use Rattle.secret_operations.proofs.secrets.versions.write.Goals as goal
 
 pub returns-in_err-written-clause-told : goal.returns-in_err-written-clause-told
@@ -72,26 +67,3 @@ returns-clause-told g c good who honest b starts fresh =
     c.as_slice.ensures.value)
     ∙ ap (λ (v : WriteAnswer). reply (written_reply names.request c.context.inside.clock v.custom_metadata v.number)
     None) c.written.view_is)
-
-pub returns-in_err-written-clause-readable : goal.returns-in_err-written-clause-readable
-returns-in_err-written-clause-readable g c honest =
-    let old = table_of (g.T.RecordsTx.seen c.args.tx.now).rows in
-    let mount = c.args.mount.now in
-    let p = err_from_is_err_and c.from_residual.result c.from_residual.ensures.1 in
-    rw (p.1 ∙ ap Err p.2)
-    (on_written (AreReadableToWrite old mount (secrets.secret_name mount c.args.path.now)) c.in_err-written.field-0.0
-    (c.in_err-written.ensures.readable honest))
-
-pub returns-in_err-written-clause-rows : goal.returns-in_err-written-clause-rows
-returns-in_err-written-clause-rows g c honest =
-    let seen = g.T.RecordsTx.seen in
-    let p = err_from_is_err_and c.from_residual.result c.from_residual.ensures.1 in
-    rw (p.1 ∙ ap Err p.2)
-    (unchanged_if_refused of_secrets (seen c.args.tx.now).rows (seen c.write.new.tx).rows Answered WriteAnswer
-    c.in_err-written.field-0.0 (c.in_err-written.ensures.refused honest))
-
-pub returns-clause-rows : goal.returns-clause-rows
-returns-clause-rows g c honest =
-    let seen = g.T.RecordsTx.seen in
-    keeps_outside (secrets.secret_name c.args.mount.now c.args.path.now) (table_of (seen c.args.tx.now).rows)
-    (table_of (seen c.write.new.tx).rows) (c.in_ok-written.ensures.call.others honest)
