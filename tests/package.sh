@@ -3,21 +3,8 @@
 # is installed, and there types the quick start of README.md on a PATH without the toolchain. The last line is
 # 'N passed, M failed'; the status is 0 if nothing failed.
 set -u
-cd "$(dirname "$0")/.."
-
-passed=0
-failed=0
-found=$(mktemp -d)
-trap 'rm -rf "$found"' EXIT
-
-pass() { passed=$((passed + 1)); }
-fail() { echo "package, $1: $2"; failed=$((failed + 1)); }
-
-finish() {
-    echo "$passed passed, $failed failed"
-    [ "$failed" -eq 0 ]
-    exit
-}
+. "$(dirname "$0")/lib.sh"
+make_folder
 
 # The folders of the PATH that have no toolchain.
 path_without_toolchain() {
@@ -82,12 +69,5 @@ PATH=$(tools)
 export PATH
 if command -v rt > /dev/null; then fail "the path" "it has the toolchain"; fi
 python3 tests/quick_start.py "$unpacked" > "$found/quick" 2>&1
-head -n -1 "$found/quick"
-line=$(tail -n 1 "$found/quick")
-if [[ $line =~ ^([0-9]+)\ passed,\ ([0-9]+)\ failed$ ]]; then
-    passed=$((passed + BASH_REMATCH[1]))
-    failed=$((failed + BASH_REMATCH[2]))
-else
-    fail "quick start" "it ended with: $line"
-fi
+tally "$found/quick" "quick start"
 finish

@@ -5,27 +5,8 @@
 # from what is found. Files whose keys have rows of format 1 stop while they are opened, which rewrites these rows. The
 # last line is 'N passed, M failed'; the status is 0 if nothing failed.
 set -u
-cd "$(dirname "$0")/.."
-
-passed=0
-failed=0
-found=$(mktemp -d)
-trap 'rm -rf "$found"' EXIT
-
-pass() { passed=$((passed + 1)); }
-fail() { echo "restarts, $1: $2"; failed=$((failed + 1)); }
-
-# Runs a script that ends with its own counts, and adds them: count NAME COMMAND..
-count() {
-    "${@:2}" > "$found/counted"
-    if [[ $(tail -n 1 "$found/counted") =~ ^([0-9]+)\ passed,\ ([0-9]+)\ failed$ ]]; then
-        passed=$((passed + BASH_REMATCH[1]))
-        failed=$((failed + BASH_REMATCH[2]))
-        sed "\$d; s/^/restarts $1, /" "$found/counted"
-    else
-        fail "$1" "it did not end"
-    fi
-}
+. "$(dirname "$0")/lib.sh"
+make_folder
 
 # Stops a run of all events but the last at each call on each file, and sends the last one to the broker that is found.
 # There the step that was stopped was taken sometimes, and sometimes not. Without it the reply to the last event has to
@@ -47,26 +28,14 @@ again() {
     fi
 }
 
-# A wrong command line has to be refused with a usage message: refuse ARGUMENT..
-refuse() {
-    tests/trial_restarts "$@" < /dev/null > "$found/out" 2> "$found/err"
-    if [ $? -eq 2 ] && [ ! -s "$found/out" ] && grep -q '^usage: trial_restarts ' "$found/err"; then
-        pass
-    else
-        fail "the command line '$*'" "it is taken: $(head -c 200 "$found/err")"
-    fi
-}
-
 for disk in mixed torn; do
-    count "reopened $disk" tests/rows.sh tests/trial_restarts reopened "$disk"
+    count_as "reopened $disk" tests/rows.sh tests/trial_restarts reopened "$disk"
     again wrapped_reply_once "$disk"
 done
-count stopped python3 tests/stopped_runs.py
-refuse
-refuse stopped
-refuse stop torn
-refuse reopened mixed torn
-refuse upgraded
-
-echo "$passed passed, $failed failed"
-[ "$failed" -eq 0 ]
+count_as stopped python3 tests/stopped_runs.py
+refuse tests/trial_restarts
+refuse tests/trial_restarts stopped
+refuse tests/trial_restarts stop torn
+refuse tests/trial_restarts reopened mixed torn
+refuse tests/trial_restarts upgraded
+finish

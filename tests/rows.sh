@@ -3,20 +3,15 @@
 # standard error: tests/rows.sh [COMMAND..], which is `bin/brokerd replay` if none is given. The last line is
 # 'N passed, M failed'; the status is 0 if nothing failed.
 set -u
-cd "$(dirname "$0")/.."
+. "$(dirname "$0")/lib.sh"
+make_folder
 [ $# -gt 0 ] || set -- bin/brokerd replay
 command=("$@")
 
 rows=tests/rows
-passed=0
-failed=0
-found=$(mktemp -d)
-trap 'rm -rf "$found"' EXIT
 
-fail() {
-    echo "row $1: $2"
-    failed=$((failed + 1))
-}
+# What fails is a row, and is told as one.
+fail() { echo "row $1: $2"; failed=$((failed + 1)); }
 
 # Says what differs from the row: nothing if all is as it should be.
 difference() {
@@ -36,8 +31,7 @@ difference() {
 # The first use builds the program, and says so on standard error.
 if ! "${command[@]}" < "$rows/first_run.replay" > /dev/null; then
     fail "first_run" "${command[*]} cannot be built, or fails"
-    echo "$passed passed, $failed failed"
-    exit 1
+    finish
 fi
 
 while IFS='|' read -r _ name _ status word _; do
@@ -45,7 +39,7 @@ while IFS='|' read -r _ name _ status word _; do
     word=$(echo "${word//\`/}" | sed 's/^ *//; s/ *$//')
     what=$(difference "$name" "${status// /}" "$word")
     if [ -z "$what" ]; then
-        passed=$((passed + 1))
+        pass
     else
         fail "$name" "$what"
     fi
@@ -55,6 +49,4 @@ for file in "$rows"/*.replay; do
     name=$(basename "$file" .replay)
     grep -q "^| \`$name\` |" "$rows/INDEX.md" || fail "$name" "it is not in INDEX.md"
 done
-
-echo "$passed passed, $failed failed"
-[ "$failed" -eq 0 ]
+finish

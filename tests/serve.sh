@@ -6,22 +6,10 @@
 # minutes, and more with Ansible. BROKERD and CLIENT name other programs. The last line is 'N passed, M failed'; the
 # status is 0 if nothing failed.
 set -u
-cd "$(dirname "$0")/.."
-
-passed=0
-failed=0
+. "$(dirname "$0")/lib.sh"
+make_folder
 pid=
-found=$(mktemp -d)
 trap 'stop; rm -rf "$found"' EXIT
-
-pass() { passed=$((passed + 1)); }
-fail() { echo "serve, $1: $2"; failed=$((failed + 1)); }
-
-finish() {
-    echo "$passed passed, $failed failed"
-    [ "$failed" -eq 0 ]
-    exit
-}
 
 stop() {
     [ -z "$pid" ] && return
@@ -79,19 +67,6 @@ run() {
         fail "$name" "no $text in $(head -c 200 "$found/err")"
     else
         pass
-    fi
-}
-
-# Adds the counts of a command, whose output is in a file and ends with 'N passed, M failed': tally FILE COMMAND
-tally() {
-    local line
-    line=$(tail -n 1 "$1")
-    head -n -1 "$1"
-    if [[ $line =~ ^([0-9]+)\ passed,\ ([0-9]+)\ failed$ ]]; then
-        passed=$((passed + BASH_REMATCH[1]))
-        failed=$((failed + BASH_REMATCH[2]))
-    else
-        fail "$2" "it ended with: $line"
     fi
 }
 
@@ -281,12 +256,7 @@ with sqlite3.connect('$file') as database:
     run "a folder that is not there" 1 'fault 2' serve --listen 127.0.0.1:0 --db "$found/none/broker.db"
 }
 
-# The program of the release, or one that is built, is put in its place.
-if [ -z "${BROKERD:-}" ] && ! bin/run-program --build brokerd; then
-    fail "brokerd" "it cannot be built"
-    finish
-fi
-program=${BROKERD:-crates/brokerd/out/brokerd}
+need brokerd
 head -c 1048577 /dev/zero > "$found/long"
 
 start --until-stopped
