@@ -10,4 +10,4 @@ if [ -z "${BROKERD:-}" ] && ! bin/run-program --build brokerd; then
     echo "0 passed, 1 failed"
     exit 1
 fi
-exec python3 tests/clients/backups.py "${BROKERD:-crates/brokerd/out/brokerd}" "${1:-20}"
+exec python3 tests/served/backups.py "${BROKERD:-crates/brokerd/out/brokerd}" "${1:-20}"

@@ -41,10 +41,10 @@ from pathlib import Path
 TESTS = Path(__file__).resolve().parent
 sys.path.insert(0, str(TESTS / "known_system"))
 
-from clients.broker import Broker, connect, reply  # noqa: E402
 from drawn_requests import FIRST, RECENT, REQUESTS, Drawer, identifier  # noqa: E402
 from known import ACCEPTED, RECEIVED, SENDING, TOLD, Known  # noqa: E402
 from reference.broker.connections import Server  # noqa: E402
+from served.broker import Broker, connect, reply  # noqa: E402
 import chacha20  # noqa: E402
 
 CONNECTIONS = 64

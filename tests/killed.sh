@@ -11,4 +11,4 @@ if [ -z "${BROKERD:-}" ] && ! bin/run-program --build brokerd; then
     echo "0 passed, 1 failed"
     exit 1
 fi
-exec python3 tests/clients/killed.py "${BROKERD:-crates/brokerd/out/brokerd}" "${1:-50}"
+exec python3 tests/served/killed.py "${BROKERD:-crates/brokerd/out/brokerd}" "${1:-50}"

@@ -10,4 +10,4 @@ if [ -z "${BROKERD:-}" ] && ! bin/run-program --build brokerd; then
     echo "0 passed, 1 failed"
     exit 1
 fi
-exec python3 tests/clients/limits.py "${BROKERD:-crates/brokerd/out/brokerd}" "$@"
+exec python3 tests/served/limits.py "${BROKERD:-crates/brokerd/out/brokerd}" "$@"

@@ -11,4 +11,4 @@ if [ -z "${BROKERD:-}" ] && ! bin/run-program --build brokerd; then
     echo "0 passed, 1 failed"
     exit 1
 fi
-exec python3 tests/clients/proxied.py "${BROKERD:-crates/brokerd/out/brokerd}" "$@"
+exec python3 tests/served/proxied.py "${BROKERD:-crates/brokerd/out/brokerd}" "$@"

@@ -19,7 +19,7 @@ import sys
 from pathlib import Path
 
 TOP = Path(__file__).resolve().parent.parent
-sys.path.insert(0, str(TOP / "tests/clients"))
+sys.path.insert(0, str(TOP / "tests/served"))
 import broker  # noqa: E402
 
 PORT = "8200"

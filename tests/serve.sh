@@ -18,7 +18,7 @@ stop() {
     pid=
 }
 
-free_port() { python3 -c 'import sys; sys.path.insert(0, "tests/clients"); import broker; print(broker.free_port())'; }
+free_port() { python3 -c 'import sys; sys.path.insert(0, "tests/served"); import broker; print(broker.free_port())'; }
 
 is_listened_on() { (exec 3<> "/dev/tcp/127.0.0.1/$port") 2> /dev/null; }
 
@@ -76,13 +76,13 @@ count() {
     tally "$found/log" "$*"
 }
 
-# Does so with several scripts of tests/clients, which run at the same time, since most of their time they wait. Each is
+# Does so with several scripts of tests/served, which run at the same time, since most of their time they wait. Each is
 # one word with its further arguments.
 count_together() {
     local place words running=()
     for place in $(seq $#); do
         read -ra words <<< "${!place}"
-        timeout 120 python3 "tests/clients/${words[0]}" "$program" "${words[@]:1}" > "$found/log$place" 2>&1 &
+        timeout 120 python3 "tests/served/${words[0]}" "$program" "${words[@]:1}" > "$found/log$place" 2>&1 &
         running+=($!)
     done
     wait "${running[@]}"
@@ -307,17 +307,17 @@ if [ "$status" -eq 0 ] && [ ! -s "$found/served.err" ]; then pass; else fail "af
 
 serve_without_an_end
 keep_in_a_file
-count python3 tests/clients/databases.py "$program"
-count python3 tests/clients/large_files.py "$program"
-count python3 tests/clients/damaged.py "$program"
-limit=300 count python3 tests/clients/remembered.py "$program"
+count python3 tests/served/databases.py "$program"
+count python3 tests/served/large_files.py "$program"
+count python3 tests/served/damaged.py "$program"
+limit=300 count python3 tests/served/remembered.py "$program"
 count python3 tests/upgrade/opened.py "$program"
 count python3 tests/upgrade/rewritten.py "$program"
 count python3 tests/upgrade/killed.py "$program" --keys 5000
 count_together many_peers.py slow_peers.py "slow_peers.py --alone" scarce_descriptors.py stopping.py
-count python3 tests/clients/logged.py "$program"
-count python3 tests/clients/short_lives.py "$program" 4000
-count python3 tests/clients/fault_at_once.py "$program"
+count python3 tests/served/logged.py "$program"
+count python3 tests/served/short_lives.py "$program" 4000
+count python3 tests/served/fault_at_once.py "$program"
 count python3 tests/drawn_at_once.py "$program"
-limit=600 count python3 tests/clients/closed_connections.py "$program" 100000
+limit=600 count python3 tests/served/closed_connections.py "$program" 100000
 finish

@@ -7,8 +7,10 @@ The last line is 'N passed, M failed'.
 """
 
 import sys
+from pathlib import Path
 
-from broker import connect, reply, request
+sys.path.insert(0, str(Path(__file__).resolve().parent.parent / "served"))
+from broker import connect, reply, request  # noqa: E402
 
 
 def main():

@@ -13,7 +13,8 @@ import re
 import sys
 from pathlib import Path
 
-from broker import connect, exchange, request
+sys.path.insert(0, str(Path(__file__).resolve().parent.parent / "served"))
+from broker import connect, exchange, request  # noqa: E402
 
 PAGE = Path(__file__).resolve().parent.parent.parent / "docs/CLIENTS.md"
 POLICY = '{"path":{"vault-kv/data/*":{"capabilities":["read"]}}}'

@@ -35,9 +35,9 @@ from pathlib import Path
 
 from hostile import HEAP, HERE, Report, Tally, aim, build, environment, scratch
 
-sys.path.append(str(HERE.parent / "clients"))
+sys.path.append(str(HERE.parent / "served"))
 
-from broker import request  # noqa: E402  what the clients' scripts share
+from broker import request  # noqa: E402  what the scripts of tests/served share
 
 SECONDS = 60.0  # for a start, a reply and an end
 SETTLED = 0.2  # seconds in which a program that goes on, and waits for clients, takes no processor time

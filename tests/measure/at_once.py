@@ -32,7 +32,7 @@ import tempfile
 from pathlib import Path
 
 MEASURE = Path(__file__).resolve().parent
-sys.path[:0] = [str(MEASURE / "baseline"), str(MEASURE.parent / "clients")]
+sys.path[:0] = [str(MEASURE / "baseline"), str(MEASURE.parent / "served")]
 
 from broker import Broker, connect, processor_seconds, reply, request  # noqa: E402
 from etcd_requests import Etcd, put, range_of  # noqa: E402

@@ -21,7 +21,7 @@ from pathlib import Path
 
 import many_rows
 
-sys.path.insert(0, str(Path(__file__).resolve().parent.parent / "clients"))
+sys.path.insert(0, str(Path(__file__).resolve().parent.parent / "served"))
 from broker import Broker, connect, reply, request  # noqa: E402
 from instructions import KINDS, POLICIES, by, policy  # noqa: E402
 from load_serve import Asked, filled, token_in  # noqa: E402

@@ -29,7 +29,7 @@ from pathlib import Path
 
 import many_rows
 
-sys.path.insert(0, str(Path(__file__).resolve().parent.parent / "clients"))
+sys.path.insert(0, str(Path(__file__).resolve().parent.parent / "served"))
 from broker import Broker, connect, processor_seconds, reply, request  # noqa: E402
 from load import asked  # noqa: E402
 

@@ -18,7 +18,7 @@ import tempfile
 from pathlib import Path
 
 TESTS = Path(__file__).resolve().parent.parent
-sys.path.insert(0, str(TESTS / "clients"))
+sys.path.insert(0, str(TESTS / "served"))
 
 from broker import Broker, connect, reply, request  # noqa: E402
 

@@ -27,7 +27,7 @@ from pathlib import Path
 
 from load_serve import filled
 
-sys.path.insert(0, str(Path(__file__).resolve().parent.parent / "clients"))
+sys.path.insert(0, str(Path(__file__).resolve().parent.parent / "served"))
 from broker import Broker  # noqa: E402
 
 FORMATS = "SELECT hex(substr(body, 1, 1)), count(*) FROM broker_rows WHERE kind = 8 GROUP BY 1"

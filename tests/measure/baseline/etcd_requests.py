@@ -20,7 +20,7 @@ import tempfile
 import time
 from pathlib import Path
 
-sys.path.insert(0, str(Path(__file__).resolve().parents[2] / "clients"))
+sys.path.insert(0, str(Path(__file__).resolve().parents[2] / "served"))
 from broker import connect, free_port, reply  # noqa: E402
 
 SECRET = '{"password":"correct horse"}'

@@ -1,7 +1,7 @@
 #!/usr/bin/env python3
 """A running `brokerd serve` at the limits of the system.
 
-    python3 tests/clients/limits.py PROGRAM [PART..]
+    python3 tests/served/limits.py PROGRAM [PART..]
 
 The parts are `descriptors`, `memory`, `clock`, `randomness` and `connections`; without one all are tried. Clocks and
 randomness are those of tests/hostile, whose library is built by the toolchain. The last line is 'N passed, M failed'.

@@ -1,7 +1,7 @@
 #!/usr/bin/env python3
 """Asks a broker by wrk on one connection, and looks at the replies and at the memory of the program.
 
-    python3 tests/clients/wrk_calls.py PROGRAM SECONDS [ARGUMENT..]
+    python3 tests/served/wrk_calls.py PROGRAM SECONDS [ARGUMENT..]
 
 The further arguments are for `brokerd serve`. wrk.lua says what is asked. Each of the secrets has as many versions as
 are kept before it begins, so the rows do not grow. The memory is looked at once a second. The most in the last tenth of

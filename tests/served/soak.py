@@ -1,7 +1,7 @@
 #!/usr/bin/env python3
 """Asks a broker over a file with drawn requests on many connections at once, for as long as it is told.
 
-    python3 tests/clients/soak.py PROGRAM MINUTES [--connections N] [--period SECONDS] [--seed S]
+    python3 tests/served/soak.py PROGRAM MINUTES [--connections N] [--period SECONDS] [--seed S]
 
 The requests are those of `tests/drawn_requests.py`, with tokens, accessors, leases, credentials and responses that this
 broker has told. Each connection also writes numbers to an object of its own, and reads each of them back. The program

@@ -1,7 +1,7 @@
 #!/usr/bin/env python3
 """Asks a running `brokerd serve` over TLS, through HAProxy and nginx as examples/ configures them.
 
-    python3 tests/clients/proxied.py PROGRAM [--idle] [PROXY..]
+    python3 tests/served/proxied.py PROGRAM [--idle] [PROXY..]
 
 Without the name of a proxy both are tried. One that is not installed is not, and it says so. With --idle it also waits
 until the proxy closes a connection to the broker that nobody uses, which takes a minute. The last line is

@@ -1,7 +1,7 @@
 #!/usr/bin/env python3
 """The log of `brokerd serve --log`: a line for each request, without a secret; a log that nobody reads stops nobody.
 
-    python3 tests/clients/logged.py PROGRAM
+    python3 tests/served/logged.py PROGRAM
 
 The last line is 'N passed, M failed'.
 """

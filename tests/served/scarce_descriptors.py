@@ -1,7 +1,7 @@
 #!/usr/bin/env python3
 """More peers than the program may have descriptors, against `brokerd serve`: all are answered in the end.
 
-    python3 tests/clients/scarce_descriptors.py PROGRAM
+    python3 tests/served/scarce_descriptors.py PROGRAM
 
 A connection that cannot be accepted for want of a descriptor is not lost and not counted as one of `--connections N`;
 the peer that has been idle longest is let go for it; and while nobody is idle the program waits without work. Each case

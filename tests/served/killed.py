@@ -1,7 +1,7 @@
 #!/usr/bin/env python3
 """Stops a broker over a file by SIGKILL while it is written to, and asks it again after a start.
 
-    python3 tests/clients/killed.py PROGRAM TIMES
+    python3 tests/served/killed.py PROGRAM TIMES
 
 Each time it writes versions of secrets, makes tokens and children of them, revokes some, wraps secrets and unwraps
 some, until a random moment. Every fourth start is stopped too, before it is asked anything, and made again. Then each

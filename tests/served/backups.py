@@ -1,7 +1,7 @@
 #!/usr/bin/env python3
 """Copies the database of a running broker by examples/backup.sh, while secrets are written to it.
 
-    python3 tests/clients/backups.py PROGRAM TIMES [--plain]
+    python3 tests/served/backups.py PROGRAM TIMES [--plain]
 
 The broker has 1,000 secrets, and a client goes on to write one after another. Meanwhile the database is copied so many
 times. A broker that is started from a copy has each secret whose write was answered before the copying began, and none

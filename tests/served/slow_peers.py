@@ -1,7 +1,7 @@
 #!/usr/bin/env python3
 """Peers that are idle or slow, against `brokerd serve`: each is let go in time, and other clients are served.
 
-    python3 tests/clients/slow_peers.py PROGRAM [--alone | --twenty]
+    python3 tests/served/slow_peers.py PROGRAM [--alone | --twenty]
 
 Each peer has a broker of its own, and all run at once, so the whole takes some 22 seconds. Another client connects when
 the peer begins to be idle or slow. Without `--alone` it is answered at once, and what is measured is when the broker

@@ -2,7 +2,7 @@
 """Damaged rows under `brokerd serve --db`: a request that reads one ends the program with `fault 3` and changes nothing;
 one that does not, or asks only whether the row is there, has its usual reply.
 
-    python3 tests/clients/damaged.py PROGRAM
+    python3 tests/served/damaged.py PROGRAM
 
 Each case is a copy of the database of one broker, in which the standard library's SQLite has changed the bodies of some
 rows: cut by a byte, longer by one, or of format 9. The last line is 'N passed, M failed'; the status is 0 if nothing

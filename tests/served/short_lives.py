@@ -1,7 +1,7 @@
 #!/usr/bin/env python3
 """Short connections from eight threads, against `brokerd serve`: none waits, and the program ends after the last one.
 
-    python3 tests/clients/short_lives.py PROGRAM CONNECTIONS
+    python3 tests/served/short_lives.py PROGRAM CONNECTIONS
 
 Each connection sends one to three requests, and ends its input at once, or leaves that to the broker by a field of its
 last request. Its replies come whole, and then the end. The program is given the number of the connections, and ends

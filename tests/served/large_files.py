@@ -1,7 +1,7 @@
 #!/usr/bin/env python3
 """What `brokerd serve --db` says on standard error before it opens a database: the name and the size of a large one.
 
-    python3 large_files.py PROGRAM
+    python3 tests/served/large_files.py PROGRAM
 
 A database of a broker is made large by rows that no request reads. The last line is `N passed, M failed`; the status is
 0 if nothing failed.

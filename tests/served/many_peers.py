@@ -1,7 +1,7 @@
 #!/usr/bin/env python3
 """Many peers at once, against `brokerd serve`: none makes the others wait, and each one is let go in time.
 
-    python3 tests/clients/many_peers.py PROGRAM [CASE..]
+    python3 tests/served/many_peers.py PROGRAM [CASE..]
 
 Each case has a process and a broker of its own, and all run at once; those that keep the machine busy begin when the
 waits of the others have been measured. The whole takes some 30 seconds. Each case prints what it has met, and fails

@@ -1,7 +1,7 @@
 #!/usr/bin/env python3
 """What `brokerd serve` has answered a hundred times, and may remember, changes: the next reply has to be another one.
 
-    python3 tests/clients/remembered.py PROGRAM
+    python3 tests/served/remembered.py PROGRAM
 
 Policies are changed, deleted and set again; so are mounts and secrets. Tokens expire, are revoked, and spend their last
 use. A token asks on one connection, and root makes the changes on another. The statuses stated here are those of

@@ -1,7 +1,7 @@
 #!/usr/bin/env python3
 """Connections that are opened and closed in one order or another, against `brokerd serve`: it keeps no memory for them.
 
-    python3 tests/clients/closed_connections.py PROGRAM CONNECTIONS [--tell]
+    python3 tests/served/closed_connections.py PROGRAM CONNECTIONS [--tell]
 
 Each connection sends one request and takes its reply. Half of them are closed one after another; a quarter is open 200
 at once and closed from the last to the first, and a quarter so too, in random order. The broker closes every other one,

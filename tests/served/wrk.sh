@@ -13,4 +13,4 @@ if [ -z "${BROKERD:-}" ] && ! bin/run-program --build brokerd; then
 fi
 seconds=${1:-600}
 [ $# -gt 0 ] && shift
-exec python3 tests/clients/wrk_calls.py "${BROKERD:-crates/brokerd/out/brokerd}" "$seconds" "$@"
+exec python3 tests/served/wrk_calls.py "${BROKERD:-crates/brokerd/out/brokerd}" "$seconds" "$@"

@@ -1,7 +1,7 @@
 #!/usr/bin/env python3
 """Which databases `brokerd serve --db` takes, and which it refuses with `fault 2` or `fault 4`.
 
-    python3 databases.py PROGRAM
+    python3 tests/served/databases.py PROGRAM
 
 Each case is a copy of the database of a broker, in which the standard library's SQLite runs some statements. The last
 line is `N passed, M failed`; the status is 0 if nothing failed.

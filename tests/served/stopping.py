@@ -1,7 +1,7 @@
 #!/usr/bin/env python3
 """`brokerd serve --stop-on-input` is stopped: no reply is lost.
 
-    python3 tests/clients/stopping.py PROGRAM
+    python3 tests/served/stopping.py PROGRAM
 
 A thousand requests of eight clients are on their way when it is told to stop: by the end of its standard input, by a byte
 there, as the unit of examples/ does it, and, where PROGRAM is that of this repository, by SIGTERM to `bin/brokerd`. Each

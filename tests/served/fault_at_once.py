@@ -1,7 +1,7 @@
 #!/usr/bin/env python3
 """A fault that ends the program while replies wait to be sent, against `brokerd serve`: what was done is told.
 
-    python3 tests/clients/fault_at_once.py PROGRAM
+    python3 tests/served/fault_at_once.py PROGRAM
 
 Eight peers ask for long replies and read none, until no more of them goes into the system's buffers. Each request
 spends a use of the peer's own token, so the database tells afterwards how many were done. Then the program is stopped.
