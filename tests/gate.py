@@ -18,10 +18,11 @@ from pathlib import Path
 
 TOP = Path(__file__).resolve().parent.parent
 PROGRAMS = ("brokerd", "client", "trial_stores", "trial_restarts")
+SCRIPT_OF_THE_GATE = re.compile(r'^    \("(tests/[^"]+)", \(', re.MULTILINE)  # with its arguments
 CRATES = "# layers\nlow:\nbrokerd: low\nclient: low\ntrial_stores: low\ntrial_restarts: low\ntests_low: low\n"
 
 # In place of the toolchain: it proves and builds what crates.txt names, and has two tests. A file in $TOLD that is
-# named after a crate or a script has it do something else.
+# named after a crate, or a script and its first argument, has it do something else.
 RT = """#!/bin/bash
 echo "$*" >> "$TOLD/rt"
 [ ! -e /proc/$$/autogroup ] || sed "s/.*nice/$1/" /proc/$$/autogroup >> "$TOLD/gives_way"
@@ -48,7 +49,8 @@ while time.process_time() < 5:
 """
 SCRIPT = """#!/bin/bash
 echo "${0#*/top/} $*" >> "$TOLD/scripts"
-[ -e "$TOLD/${0##*/}" ] && . "$TOLD/${0##*/}"
+does="$TOLD/${0##*/}${1:+ $1}"
+[ -e "$does" ] && . "$does"
 echo '2 passed, 0 failed'
 """
 EDITS = """#!/bin/bash
@@ -81,9 +83,9 @@ class Checkout:
         (self.top / "crates.txt").write_text(CRATES)
         (self.top / "HANDLES").write_text("Handles allowed: none.\n")
         shutil.copytree(TOP / "bin", self.top / "bin", ignore=shutil.ignore_patterns("__pycache__"))
-        self.scripts = sorted({*re.findall(r"tests/[\w/]+\.(?:sh|py)", (TOP / "bin/test").read_text())})
-        for name in (*self.scripts, "bin/quick-check"):
-            self.write(self.top / name, SCRIPT)
+        self.scripts = SCRIPT_OF_THE_GATE.findall((TOP / "bin/test").read_text())
+        for line in (*self.scripts, "bin/quick-check"):
+            self.write(self.top / line.split()[0], SCRIPT)
         self.write(self.top / "bin/edits", EDITS)
         self.write(room / "tools/rt", RT)
         self.write(room / "tools/rattle", RATTLE)
@@ -136,7 +138,7 @@ def passes(checkout):
     checkout.tell("low", '"$(dirname "$0")/rattle" check --crate-name low src/lib.rt')
     status, said, last = checkout.run("--anew")
     yield "the last line", (status, last) == (0, f"{checkout.passes()}, 0 failed")
-    scripts = sorted(it.split()[0] for it in checkout.ran("scripts"))
+    scripts = sorted(it.rstrip() for it in checkout.ran("scripts"))
     yield "each script", scripts == sorted([*checkout.scripts, "bin/quick-check"])
     yield "the arguments of a script", "tests/differential/run.py bin/brokerd" in checkout.ran("scripts")
     called = sorted(it.split(" --seconds")[0] for it in checkout.ran("rt"))
@@ -146,18 +148,19 @@ def passes(checkout):
     yield "what gives way", gives_way in ([], ["ci 10", "edits 19", "try 15"])
     yield "the minutes of a crate", "\n| `low` | 0.1 | | | |\n" in said
     yield "the minutes of a script", "\n| `tests/rows.sh` | 0.0 | 0.0 |\n" in said
+    yield "a line for each script", all(f"\n| `{it}` | 0." in said for it in checkout.scripts)
     yield "the programs", all((checkout.top / f"crates/{it}/out/{it}").is_file() for it in PROGRAMS)
 
 
 def fails(checkout):
     """What fails is counted, also where it does not say so, and the rest is run."""
-    for name, does in (("rows.sh", "echo '1 passed, 1 failed'; exit 1"), ("disk.sh", "exit 1")):
+    for name, does in (("rows.sh", "echo '1 passed, 1 failed'; exit 1"), ("run.sh disk", "exit 1")):
         checkout.tell(name, does)
     status, _, last = checkout.run()
     yield "two scripts", (status, last.split(", ")[1]) == (1, "2 failed")
     yield "the others are run", len(checkout.ran("scripts")) == len(checkout.scripts) + 1
     checkout.tell("rows.sh", "echo '2 passed, 0 failed, 5 skipped'; exit")
-    checkout.tell("disk.sh", "echo '2 passed, 0 failed'; exit 1")
+    checkout.tell("run.sh disk", "echo '2 passed, 0 failed'; exit 1")
     yield "what a script skips, and a status", checkout.run()[2].endswith(" passed, 1 failed, 5 skipped")
     checkout.tell("quick-check", "echo '1 passed, 1 failed'; exit 1")
     yield "what is refused in seconds", checkout.run()[::2] == (1, "1 passed, 1 failed")

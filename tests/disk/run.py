@@ -3,11 +3,12 @@
 
     python3 tests/disk/run.py PROGRAM [--hours H] [--seed S] [PART...]
 
-The parts are `kept`, `checked`, `calls`, `images`, `full`, `changed` and `kills`; README.md beside this says what each does.
-Without `--hours` each is tried once, by a fixed seed, in a minute together. With it all are tried again and again with
-seeds that follow from the first one: each tear and more mixes of the images, images of the recovery of images, limits
-of all lengths, small disks, further requests, changes and kills. Each part tells what it met. The last line is `N
-passed, M failed`; the status is 0 if nothing failed.
+The parts are `kept`, `checked`, `calls`, `images`, `full`, `changed` and `kills`; README.md beside this says what each
+does. Without `--hours` each is tried once, by a fixed seed, in 110 seconds of processor time together, and in a third
+of that on four processors. With it all are tried again and again with seeds that follow from the first one: each tear
+and more mixes of the images, images of the recovery of images, limits of all lengths, small disks, further requests,
+changes and kills. Each part tells what it met. The last line is `N passed, M failed`; the status is 0 if nothing
+failed.
 """
 
 import argparse

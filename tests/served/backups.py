@@ -1,14 +1,14 @@
 #!/usr/bin/env python3
 """Copies the database of a running broker by examples/backup.sh, while secrets are written to it.
 
-    python3 tests/served/backups.py PROGRAM TIMES [--plain]
+    python3 tests/served/backups.py PROGRAM [TIMES] [--plain]
 
 The broker has 1,000 secrets, and a client goes on to write one after another. Meanwhile the database is copied so many
-times. A broker that is started from a copy has each secret whose write was answered before the copying began, and none
-without all before it. No reply may take a second. Then the log is moved into the database between the copies of the two
-files, once, and at the end each time: the script has to notice. At last a copy is restored as docs/STORAGE.md says. The
-last line is 'N passed, M failed'. With --plain the files are copied by cp alone, so many times in either order, and it
-is only told how many copies are wrong.
+times, or 20, which takes some ten seconds. A broker that is started from a copy has each secret whose write was
+answered before the copying began, and none without all before it. No reply may take a second. Then the log is moved
+into the database between the copies of the two files, once, and at the end each time: the script has to notice. At last
+a copy is restored as docs/STORAGE.md says. The last line is 'N passed, M failed'. With --plain the files are copied by
+cp alone, so many times in either order, and it is only told how many copies are wrong.
 """
 
 import contextlib
@@ -31,6 +31,7 @@ TOP = Path(__file__).resolve().parent.parent.parent
 SCRIPT = TOP / "examples/backup.sh"
 PAGE = TOP / "docs/STORAGE.md"
 SECRETS = 1_000
+TIMES = 20
 LEAST = 5  # secrets that are written during a copy of the script, on average
 SAMPLES = 20
 SHOWN = 3
@@ -256,7 +257,8 @@ class Trial:
 
 
 def main():
-    program, times = Path(sys.argv[1]).resolve(), int(sys.argv[2])
+    program, *words = [word for word in sys.argv[1:] if word != "--plain"]
+    program, times = Path(program).resolve(), int(words[0] if words else TIMES)
     with tempfile.TemporaryDirectory() as folder:
         trial = Trial(program, Path(folder))
         with Broker(program, "--db", trial.file) as broker, Writer(broker) as writer:

@@ -1,14 +1,14 @@
 #!/usr/bin/env python3
 """Stops a broker over a file by SIGKILL while it is written to, and asks it again after a start.
 
-    python3 tests/served/killed.py PROGRAM TIMES
+    python3 tests/served/killed.py PROGRAM [TIMES]
 
-Each time it writes versions of secrets, makes tokens and children of them, revokes some, wraps secrets and unwraps
-some, until a random moment. Every fourth start is stopped too, before it is asked anything, and made again. Then each
-write that was answered is there, with its version; each token that was answered works, and no token that was revoked
-does, nor a child of it; each response that waits is looked up, and is handed out once. The request in progress was done
-wholly or not at all. Each kind of request has to be answered, and 20 requests for each kill. The last line is
-'N passed, M failed'.
+It is stopped so many times, or 50, in some two seconds each. Each time it writes versions of secrets, makes tokens and
+children of them, revokes some, wraps secrets and unwraps some, until a random moment. Every fourth start is stopped
+too, before it is asked anything, and made again. Then each write that was answered is there, with its version; each
+token that was answered works, and no token that was revoked does, nor a child of it; each response that waits is looked
+up, and is handed out once. The request in progress was done wholly or not at all. Each kind of request has to be
+answered, and 20 requests for each kill. The last line is 'N passed, M failed'.
 """
 
 import json
@@ -23,6 +23,7 @@ from pathlib import Path
 
 from broker import Broker, connect, reply, request
 
+TIMES = 50
 SECRETS = 10
 KEPT = 10  # versions of a secret
 MOST = 5  # tokens, and responses, that are left before some are ended
@@ -256,7 +257,8 @@ def run(program, file, known):
 
 
 def main():
-    program, times = sys.argv[1], int(sys.argv[2])
+    program, *words = sys.argv[1:]
+    times = int(words[0] if words else TIMES)
     known, failed = Known(), 0
     with tempfile.TemporaryDirectory() as folder:
         file = str(Path(folder) / "broker.db")

@@ -3,8 +3,10 @@
 
     python3 tests/served/limits.py PROGRAM [PART..]
 
-The parts are `descriptors`, `memory`, `clock`, `randomness` and `connections`; without one all are tried. Clocks and
-randomness are those of tests/hostile, whose library is built by the toolchain. The last line is 'N passed, M failed'.
+The parts are `descriptors` and `memory`, which are few and little, `clock`, which goes back or far ahead, `randomness`,
+of which there is none, and `connections`, 5,000 one after another and 500 at once. Without one all are tried, in some
+30 seconds. Clocks and randomness are those of tests/hostile, whose library is built by the toolchain. The last line is
+'N passed, M failed'.
 """
 
 import concurrent.futures

@@ -3,9 +3,9 @@
 
     python3 tests/served/proxied.py PROGRAM [--idle] [PROXY..]
 
-Without the name of a proxy both are tried. One that is not installed is not, and it says so. With --idle it also waits
-until the proxy closes a connection to the broker that nobody uses, which takes a minute. The last line is
-'N passed, M failed'.
+Without the name of a proxy, `haproxy` or `nginx`, both are tried (docs/TLS.md), in some five seconds. One that is not
+installed is not, and it says so: apt-get install haproxy nginx. With --idle it also waits until the proxy closes a
+connection to the broker that nobody uses, which takes a minute. The last line is 'N passed, M failed'.
 """
 
 import concurrent.futures

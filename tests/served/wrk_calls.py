@@ -1,12 +1,13 @@
 #!/usr/bin/env python3
-"""Asks a broker by wrk on one connection, and looks at the replies and at the memory of the program.
+"""Asks a broker by wrk (Debian's `wrk`) on one connection, and looks at the replies and at the memory of the program.
 
-    python3 tests/served/wrk_calls.py PROGRAM SECONDS [ARGUMENT..]
+    python3 tests/served/wrk_calls.py PROGRAM [SECONDS [ARGUMENT..]]
 
-The further arguments are for `brokerd serve`. wrk.lua says what is asked. Each of the secrets has as many versions as
-are kept before it begins, so the rows do not grow. The memory is looked at once a second. The most in the last tenth of
-the time may not be more than the most in the fifth tenth, but for a hundredth: over a file on disk it took the program
-330,000 requests until it had all that it keeps, and it took no more in the 490,000 after them.
+It takes so many seconds, 600 if not given. The further arguments are for `brokerd serve`, such as `--db FILE`, where
+the file is not there yet. wrk.lua says what is asked; no reply may be an error. Each of the secrets has as many
+versions as are kept before it begins, so the rows do not grow. The memory is looked at once a second. The most in the
+last tenth of the time may not be more than the most in the fifth tenth, but for a hundredth: over a file on disk it
+took the program 330,000 requests until it had all that it keeps, and it took no more in the 490,000 after them.
 
 The connection may not break. If wrk is not installed, it says so, and nothing is tried. The last line is 'N passed, M
 failed'.
@@ -23,6 +24,7 @@ from pathlib import Path
 from broker import Broker, connect, reply, request
 
 LUA = Path(__file__).resolve().parent / "wrk.lua"
+SECONDS = "600"
 SECRETS = 100
 KEPT = 10  # versions of a secret
 LEAST = 10  # seconds in which the memory is looked at often enough
@@ -93,7 +95,8 @@ def growth_of(memory):
 
 
 def main():
-    program, seconds, *arguments = sys.argv[1:]
+    program, *words = sys.argv[1:]
+    seconds, *arguments = words or [SECONDS]
     if shutil.which("wrk") is None:
         print("wrk is not installed: its requests are skipped")
         print("0 passed, 0 failed")
