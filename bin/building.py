@@ -82,7 +82,8 @@ def at_work(process):
         if prover:
             crate, flags = prover.groups()
             is_program = "--crate-checked\0" in flags
-            found.append(f"tests of {crate}" if "--test\0" in flags else f"machine code of {crate}" if is_program else crate)
+            what = f"machine code of {crate}" if is_program else crate
+            found.append(f"tests of {crate}" if "--test\0" in flags else what)
     return list(dict.fromkeys(found))
 
 

@@ -37,9 +37,9 @@ copy() {
     [ "$(head_of_log)" = "$before" ]
 }
 
-# Reads a copy of the copy, since a start may write to its files, and keeps in `said` what that says. No address is called
-# nowhere: brokerd ends with fault 5 there, after it has read the whole database, and with another fault if that is
-# damaged. Of a database without a broker it prints a new root token.
+# Reads a copy of the copy, since a start may write to its files, and keeps in `said` what that says. No address is
+# called nowhere: brokerd ends with fault 5 there, after it has read the whole database, and with another fault if that
+# is damaged. Of a database without a broker it prints a new root token.
 is_read() {
     mkdir "$part/read"
     cp "$part/$name" "$part/read"

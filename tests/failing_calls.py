@@ -4,8 +4,8 @@
     python3 tests/failing_calls.py LINES
 
 Each row of tests/rows, but one whose last request makes thousands of calls, is run by `trial_stores failing`: before a
-request is answered, each of its calls on the rows fails in turn, which has to be the fault 2 and to leave the rows as they
-were. The replies have to be the usual ones.
+request is answered, each of its calls on the rows fails in turn, which has to be the fault 2 and to leave the rows as
+they were. The replies have to be the usual ones.
 
 LINES is a file with requests that tests/drawn_requests.py drew. They are run by `trial_stores faulted`, four on each
 connection: a drawn call of every tenth request fails, which closes its connection. The replies have to be those of the
@@ -45,8 +45,11 @@ def expect(condition, what):
 
 def run(task, over, lines):
     """What a task writes on its two streams; the status has to be 0."""
-    done = subprocess.run([HERE / "trial_stores", task, over], input=lines, capture_output=True, timeout=600, check=False)
-    return done.stdout, done.stderr.decode() if done.returncode == 0 else f"status {done.returncode}: {done.stderr[-200:]}"
+    done = subprocess.run([HERE / "trial_stores", task, over], input=lines, capture_output=True, timeout=600,
+                          check=False)
+    if done.returncode != 0:
+        return done.stdout, f"status {done.returncode}: {done.stderr[-200:]}"
+    return done.stdout, done.stderr.decode()
 
 
 def rows():
@@ -121,7 +124,8 @@ def fault_drawn(drawn):
     expect(unheard >= len(numbers) // 2, f"faulted: only {unheard} events came on closed connections")
     for over, written in (("list", over_list), ("sql", over_sql)):
         expect(written == b"".join(replies), f"faulted {over}: other replies than the reference broker's")
-    print(f"{len(lines) - 1} drawn requests: {len(numbers)} faults, and {unheard} events on connections that they closed")
+    print(f"{len(lines) - 1} drawn requests: {len(numbers)} faults,"
+          f" and {unheard} events on connections that they closed")
 
 
 def main():

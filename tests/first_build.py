@@ -170,7 +170,8 @@ def lacks_the_toolchain(checkout):
 
 def main():
     passed, failed = 0, 0
-    cases = ((builds_and_runs, 20), (builds_again, 2), (fails, 1), (stops, 5), (keeps_nothing, 5), (lacks_the_toolchain, 1))
+    cases = ((builds_and_runs, 20), (builds_again, 2), (fails, 1), (stops, 5), (keeps_nothing, 5),
+             (lacks_the_toolchain, 1))
     for case, seconds in cases:
         with tempfile.TemporaryDirectory() as room:
             for name, well in case(Checkout(Path(room), seconds)):

@@ -320,7 +320,9 @@ class Found:
 
     def add(self, other):
         """Adds what came of other replies."""
-        self.right, self.read, self.changed = self.right + other.right, self.read + other.read, self.changed + other.changed
+        self.right += other.right
+        self.read += other.read
+        self.changed += other.changed
         self.met += other.met
         self.turned += other.turned
         self.wrong += other.wrong

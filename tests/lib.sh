@@ -28,8 +28,8 @@ make_folder() {
     trap 'rm -rf "$found"' EXIT
 }
 
-# Puts the path of a program into `program`: the one that its variable names, as BROKERD does for brokerd; or that of the
-# release, or one that is built, which is put in its place. Without it the script ends: need NAME
+# Puts the path of a program into `program`: the one that its variable names, as BROKERD does for brokerd; or that of
+# the release, or one that is built, which is put in its place. Without it the script ends: need NAME
 need() {
     local variable=${1^^}
     program=${!variable:-}

@@ -43,10 +43,16 @@ if cmp -s "$found/1/$package" "$found/2/$package"; then pass; else fail "$packag
 mkdir "$found/unpacked"
 tar -xzf "$found/1/$package" -C "$found/unpacked"
 unpacked=$found/unpacked/${package%.tar.gz}
-if (cd "$unpacked" && sha256sum --quiet -c SHA256SUMS); then pass; else fail "SHA256SUMS" "it does not fit the files"; fi
+if (cd "$unpacked" && sha256sum --quiet -c SHA256SUMS); then
+    pass
+else
+    fail "SHA256SUMS" "it does not fit the files"
+fi
 listed=$(wc -l < "$unpacked/SHA256SUMS")
-if [ "$(find "$unpacked" -type f ! -name SHA256SUMS | wc -l)" -eq "$listed" ]; then pass; else fail "SHA256SUMS" "it lacks files"; fi
-if grep -q '^commit [0-9a-f]\{40\}' "$unpacked/BUILT_FROM" && grep -q 'logic [0-9a-f]\{16\}$' "$unpacked/BUILT_FROM"; then
+there=$(find "$unpacked" -type f ! -name SHA256SUMS | wc -l)
+if [ "$there" -eq "$listed" ]; then pass; else fail "SHA256SUMS" "it lacks files"; fi
+built_from=$unpacked/BUILT_FROM
+if grep -q '^commit [0-9a-f]\{40\}' "$built_from" && grep -q 'logic [0-9a-f]\{16\}$' "$built_from"; then
     pass
 else
     fail "BUILT_FROM" "it names no commit or no toolchain"

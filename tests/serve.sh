@@ -209,7 +209,11 @@ serve_without_an_end() {
     wait "$pid"
     status=$?
     pid=
-    if [ "$status" -eq 0 ] && [ "$number" -eq 999 ]; then pass; else fail "1,000 connections" "status $status, after $number"; fi
+    if [ "$status" -eq 0 ] && [ "$number" -eq 999 ]; then
+        pass
+    else
+        fail "1,000 connections" "status $status, after $number"
+    fi
     start --until-stopped
     token=$(sed -n 's/^root token: //p' "$found/served")
     for number in $(seq 1500); do is_listened_on || break; done
@@ -245,7 +249,11 @@ with sqlite3.connect('$file') as database:
     start --until-stopped --db "$file"
     curl -s -m 20 -o "$found/body" -H "X-Vault-Token: $token" "http://127.0.0.1:$port/v1/secret/data/app"
     wait "$pid"
-    if [ $? -eq 1 ] && [ "$(cat "$found/served.err")" = 'fault 3' ]; then pass; else fail "a damaged row" "it is served on"; fi
+    if [ $? -eq 1 ] && [ "$(cat "$found/served.err")" = 'fault 3' ]; then
+        pass
+    else
+        fail "a damaged row" "it is served on"
+    fi
     pid=
     python3 -c "
 import sqlite3
@@ -303,7 +311,11 @@ ask "the third of three" 200 '"policies":["root"]' "http://127.0.0.1:$port/v1/au
 wait "$pid"
 status=$?
 pid=
-if [ "$status" -eq 0 ] && [ ! -s "$found/served.err" ]; then pass; else fail "after three connections" "status $status"; fi
+if [ "$status" -eq 0 ] && [ ! -s "$found/served.err" ]; then
+    pass
+else
+    fail "after three connections" "status $status"
+fi
 
 serve_without_an_end
 keep_in_a_file

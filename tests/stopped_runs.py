@@ -7,11 +7,11 @@ or fails. Its steps are the start, each event, and the close of the files. Which
 reference broker: at each of these the log has to stop after a change and after a sync, and both brokers have to be
 found. Where bytes mix, a commit syncs the log once, else at least twice.
 
-`trial_restarts upgraded` stops the opening of files whose keys have rows of format 1. It finds all of these rows, or all
-that the opening makes of them, or fails; its last reply has to be that of the reference broker. Its steps are the opening
-and the close. An opening that rewrites none of the rows, or not those of the second page, ends it with the status 1 and
-`the log stops after 0 calls, ..: another broker is found`; one that rewrites each row in a transaction of its own, with the
-same after more calls, where there are twenty keys.
+`trial_restarts upgraded` stops the opening of files whose keys have rows of format 1. It finds all of these rows, or
+all that the opening makes of them, or fails; its last reply has to be that of the reference broker. Its steps are the
+opening and the close. An opening that rewrites none of the rows, or not those of the second page, ends it with the
+status 1 and `the log stops after 0 calls, ..: another broker is found`; one that rewrites each row in a transaction of
+its own, with the same after more calls, where there are twenty keys.
 
 The last line is 'N passed, M failed'; the status is 0 if nothing failed.
 """
@@ -76,8 +76,8 @@ def steps_that_change(name):
 
 
 def run(task, name, disk):
-    """What a task meets at each step of the lines over a disk, in how many images, and the replies that it writes; no step
-    if the program failed."""
+    """What a task meets at each step of the lines over a disk, in how many images, and the replies that it writes; no
+    step if the program failed."""
     lines = (HERE / f"{name}.replay").read_bytes()
     command = [HERE / "trial_restarts", task, disk]
     done = subprocess.run(command, input=lines, capture_output=True, timeout=1200, check=False)
@@ -122,7 +122,8 @@ def judge_opening(name, disk, steps, images, reply):
     opening, closing = steps[0], steps[-1]
     old, new = opening.before, opening.after + closing.before
     expect(opening.log_changes > 0 and opening.log_syncs > 0, f"{at}: the opening is not stopped on the log")
-    expect(opening.database_changes + closing.database_changes > 0, f"{at}: no stop came after a change of the database")
+    expect(opening.database_changes + closing.database_changes > 0,
+           f"{at}: no stop came after a change of the database")
     expect(old > 0 and opening.after > 0, f"{at}: old {old} times, new {opening.after} times while files were opened")
     expect(old + new == images >= LEAST_IMAGES, f"{at}: old {old} times, new {new} times in {images} images")
     log, database = (sum(getattr(step, part) for step in steps) for part in ("log", "database"))

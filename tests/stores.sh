@@ -1,8 +1,8 @@
 #!/bin/bash
 # Compares the two stores: every row of tests/rows over each, and 5,000 requests that tests/drawn_requests.py draws by
-# the numbers of `trial_stores numbers`. Both stores have to answer these byte for byte as the reference broker does, also
-# where calls on the rows fail (tests/failing_calls.py).
-# The last line is 'N passed, M failed'; the status is 0 if nothing failed.
+# the numbers of `trial_stores numbers`. Both stores have to answer these byte for byte as the reference broker does,
+# also where calls on the rows fail (tests/failing_calls.py). The last line is 'N passed, M failed'; the status is 0 if
+# nothing failed.
 set -u
 . "$(dirname "$0")/lib.sh"
 make_folder

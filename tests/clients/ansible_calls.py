@@ -316,7 +316,8 @@ def ran(port, token, hosts):
         file = Path(folder) / "playbook.yml"
         file.write_text(json.dumps([play]), encoding="utf-8")
         settings = {"VAULT_ADDR": f"http://127.0.0.1:{port}", "VAULT_TOKEN": token, "HOME": folder,
-                    "LC_ALL": "C.UTF-8", "ANSIBLE_STDOUT_CALLBACK": "ansible.posix.json", "ANSIBLE_DISPLAY_TRACEBACK": "always"}
+                    "LC_ALL": "C.UTF-8", "ANSIBLE_STDOUT_CALLBACK": "ansible.posix.json",
+                    "ANSIBLE_DISPLAY_TRACEBACK": "always"}
         done = subprocess.run(["ansible-playbook", "-i", ",".join([*hosts, ""]), "--forks", str(len(hosts)), str(file)],
                               env={**os.environ, **settings},
                               stdout=subprocess.PIPE, stderr=subprocess.PIPE, text=True, check=False)

@@ -590,8 +590,9 @@ def mixed(run):
 UNSERVED_ROUTES = (
     ("GET", "auth/token/roles/x", None), ("POST", "auth/token/create/x", '{"ttl":60}'),
     ("POST", "auth/token/tidy", "["), ("LIST", "auth/token/roles", None), ("GET", "auth/token", None),
-    ("POST", "secret/metadata", '{"max_versions":1}'), ("PUT", "secret/metadata", "["), ("GET", "secret/subkeys/x", None),
-    ("LIST", "sys/leases/lookup/db", None), ("POST", "sys/mounts/db/tune", '{"type":"issued"}'),
+    ("POST", "secret/metadata", '{"max_versions":1}'), ("PUT", "secret/metadata", "["),
+    ("GET", "secret/subkeys/x", None), ("LIST", "sys/leases/lookup/db", None),
+    ("POST", "sys/mounts/db/tune", '{"type":"issued"}'),
     ("POST", "sys/leases/revoke-force/secret", None), ("GET", "sys/policy/default", None),
     ("PUT", "sys/leases/tidy", "{}"), ("GET", "sys/auth", None),
     ("GET", "cubbyhole", None), ("DELETE", "cubbyhole", None), ("POST", "cubbyhole", '{"a":1}'),

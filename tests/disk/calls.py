@@ -65,7 +65,8 @@ def try_rule(trial, scene, rule):
     if run.all_answered:
         return ["failed", "failed and answered as usual"]
     if run.story is None:
-        return ["failed", "fault 2", "before any broker" if has_more is None else "a broker whose token was not printed"]
+        met = "before any broker" if has_more is None else "a broker whose token was not printed"
+        return ["failed", "fault 2", met]
     return ["failed", "fault 2", "request taken" if has_more else "request not taken"]
 
 

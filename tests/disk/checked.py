@@ -164,7 +164,7 @@ class Planted:
         return rows_of(replace(self.broker, waiting={token: replace(entry, **fields)}))
 
     def unreadable(self, place, **changes):
-        """The row at a place is in no format of its kind, which is met at a row before that names it, if there is one."""
+        """The row at a place is in no format of its kind, which is met at a row before that names it, if one does."""
         kind, key = place
         owner, rows = self.rows[place][0], self.changed(place, **changes)
         if kind == ACCESSOR:

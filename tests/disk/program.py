@@ -124,7 +124,8 @@ class Running:
         bytes, if that is given."""
         self.address = own_address()
         self.process = subprocess.Popen(
-            [program, "serve", "--listen", "{}:{}".format(*self.address), "--until-stopped", "--db", str(file), *options],
+            [program, "serve", "--listen", "{}:{}".format(*self.address), "--until-stopped", "--db", str(file),
+             *options],
             stdin=subprocess.DEVNULL, stdout=subprocess.PIPE, stderr=subprocess.PIPE, env=variables,
             **({} if longest is None else self.limited(longest)))
         self.connection = None

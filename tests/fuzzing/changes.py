@@ -293,7 +293,8 @@ def ends_of_lines(it, message):
 def escaped_letters(it, message):
     """Letters of the path are percent-encoded."""
     path, mark, query = message.target.partition(b"?")
-    letters = [place for place in range(len(path)) if path[place:place + 1].isalpha() and b"%" not in path[place - 2:place]]
+    letters = [place for place in range(len(path))
+               if path[place:place + 1].isalpha() and b"%" not in path[place - 2:place]]
     for place in sorted(it.draw.sample(letters, min(len(letters), it.pick((1, 2, 5)))), reverse=True):
         path = path[:place] + it.pick((b"%%%02X", b"%%%02x")) % path[place] + path[place + 1:]
     message.target = path + mark + query

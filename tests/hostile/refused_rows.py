@@ -13,8 +13,8 @@ the list a fault is always `fault 1`, over SQL also `fault 2`. The usual replies
 Without `--all` five rows are run, and each allocation is refused alone; each seventh with all later ones, and by `retry
 sql`, which compares rows. `retry` leaves out the start but for the first row. With `--all` all rows are run, and each
 allocation is refused, or each STEPth. A row in which an event is not one whole request on an open connection is not run
-by `retry`. With `--seed` the rows have a drawn order, and the allocations of each begin with one of the first STEP. With
-`--minutes` no further row is begun after so many minutes, but for the first five.
+by `retry`. With `--seed` the rows have a drawn order, and the allocations of each begin with one of the first STEP.
+With `--minutes` no further row is begun after so many minutes, but for the first five.
 
 A run with a refused allocation is forked from the usual one. A few are made from the start, and have to end in the
 same way; there, and with `--all`, memory is overwritten when it is given and when it is freed (`MALLOC_PERTURB_`), so
@@ -43,14 +43,14 @@ ROWS = HERE.parent / "rows"
 FIVE = ["first_run", "orphan_survives", "check_and_set", "wrapped_reply_once", "lease_ends_with_token"]
 SEVENTH = 7
 SPARSE = 20  # where mistakes are looked for
-DENSE = 8  # each request of the five rows has more allocations than this, and each row more that are faults of each kind
+DENSE = 8  # each request of the five rows has more allocations than this, each row more that are faults of each kind
 SAMPLE = 4  # runs from the start
 SECONDS = 1200  # for a run with its child processes
 NUMBERS = itertools.count()  # of runs
 
 # The fewest allocations of an event on average, without the start, in the five rows and in others, of which some have
-# requests that are refused by their heads; and the fewest runs of a hundred with an allocation after the start refused in
-# which the request has to be sent once more; in one run it may be otherwise.
+# requests that are refused by their heads; and the fewest runs of a hundred with an allocation after the start refused
+# in which the request has to be sent once more; in one run it may be otherwise.
 ALLOCATIONS = {"list": 50, "sql": 150}
 ALLOCATIONS_OF_OTHERS = {"list": 10, "sql": 30}
 SENT = {"list": 95, "sql": 95}
@@ -301,8 +301,8 @@ def check_sample(tally, runs, numbers, count, found):
 
 
 def try_row(tally, pool, runs, has_start, shift=0):
-    """Refuses the allocations of a replay, one after another, but for so many at the beginning. Without the start, those
-    by which it may end are left out."""
+    """Refuses the allocations of a replay, one after another, but for so many at the beginning. Without the start,
+    those by which it may end are left out."""
     ended, _, count, changed = runs.run("0")
     is_usual = (ended, changed) == (usual_of(runs.replay)[0], 0)
     if not tally.expect(is_usual, f"{runs.name}: without refusal {outcome_of(runs.way, runs.replay, ended)}"):

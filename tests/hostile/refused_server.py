@@ -100,8 +100,8 @@ class Served:
             return False
 
     def is_alive(self):
-        """Whether it goes on, after it has closed a connection or has not taken it: it sleeps, and does nothing. On a busy
-        machine a program that will end may wait long for a processor."""
+        """Whether it goes on, after it has closed a connection or has not taken it: it sleeps, and does nothing. On a
+        busy machine a program that will end may wait long for a processor."""
         before = None
         while True:
             try:

@@ -13,9 +13,9 @@ The root token sends all requests. KIND says what comes on connection 1, and how
 - `heads`: a head of SIZE bytes that does not end, in pieces of 100 bytes, on each of 100 connections
 - `single_bytes`: such a head on one connection, in pieces of one byte
 
-`measure` calls PROGRAM, the built program itself, as `PROGRAM replay`, for each SIZE by turns, N times (3 if not given).
-It prints the median of the user time, and in brackets the least and the greatest. It ends with status 1 if a reply is
-missing.
+`measure` calls PROGRAM, the built program itself, as `PROGRAM replay`, for each SIZE by turns, N times (3 if not
+given). It prints the median of the user time, and in brackets the least and the greatest. It ends with status 1 if a
+reply is missing.
 """
 
 import argparse

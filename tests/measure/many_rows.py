@@ -4,8 +4,8 @@
     python3 many_rows.py FILE MANY
 
 FILE is the database of a broker that was started, and has no secret yet. It gets the rows of docs/STORAGE.md that MANY
-writes of `secret/data/team/key000000`, .. and MANY creations of tokens by the root token leave, the secrets in format 1,
-which the first start rewrites. The broker that opens it tests each row that it reads.
+writes of `secret/data/team/key000000`, .. and MANY creations of tokens by the root token leave, the secrets in format
+1, which the first start rewrites. The broker that opens it tests each row that it reads.
 """
 
 import argparse

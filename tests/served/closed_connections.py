@@ -52,8 +52,8 @@ def close(connection, closes):
 
 
 def open_and_close(port, count, order):
-    """So many connections that are open at once, and closed in an order. Each asks when it is opened: the broker lets one
-    go that asks nothing for some seconds."""
+    """So many connections that are open at once, and closed in an order. Each asks when it is opened: the broker lets
+    one go that asks nothing for some seconds."""
     connections = []
     for number in range(count):
         connections.append((connect(port), number % 2 == 0))

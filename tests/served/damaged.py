@@ -1,6 +1,6 @@
 #!/usr/bin/env python3
-"""Damaged rows under `brokerd serve --db`: a request that reads one ends the program with `fault 3` and changes nothing;
-one that does not, or asks only whether the row is there, has its usual reply.
+"""Damaged rows under `brokerd serve --db`: a request that reads one ends the program with `fault 3` and changes
+nothing; one that does not, or asks only whether the row is there, has its usual reply.
 
     python3 tests/served/damaged.py PROGRAM
 
@@ -47,7 +47,8 @@ KINDS = {
         (("child", "GET", "cubbyhole/a", ""), 200, '{"auth":null,"data":{"k":2}'))),
     6: ("a lease", None, ("root", "POST", "sys/leases/lookup", '{"lease_id":"LEASE"}'), (
         (("root", "POST", "db/verify", '{"credential":"none"}'), 200, '{"auth":null,"data":{"valid":false}'),
-        (("root", "POST", "sys/leases/lookup", '{"lease_id":"db/creds/r/none"}'), 400, '{"errors":["invalid lease"]}'))),
+        (("root", "POST", "sys/leases/lookup", '{"lease_id":"db/creds/r/none"}'), 400,
+         '{"errors":["invalid lease"]}'))),
     7: ("a credential", None, ("root", "POST", "db/verify", '{"credential":"CREDENTIAL"}'), (
         (("root", "POST", "db/verify", '{"credential":"none"}'), 200, '{"auth":null,"data":{"valid":false}'),
         (("root", "POST", "sys/leases/lookup", '{"lease_id":"LEASE"}'), 200, '{"auth":null,"data":{'))),

@@ -44,7 +44,7 @@ class Logged:
         self.process.communicate()
 
     def line(self):
-        """The parts of the next line: the time, the status, the milliseconds, the method, the path; or what it tells."""
+        """The parts of the next line: time, status, milliseconds, method and path; or what it tells."""
         text = self.process.stderr.readline().decode()
         found = LINE.fullmatch(text.rstrip("\n"))
         expect(found is not None, f"a line is {text!r}")

@@ -177,8 +177,8 @@ def in_lower_case(lines):
 
 
 def same_replies(tried):
-    """The replies are those of the broker, byte for byte, but for dates and identifiers, and for the heads: nginx orders
-    the fields anew, and names itself."""
+    """The replies are those of the broker, byte for byte, but for dates and identifiers, and for the heads: nginx
+    orders the fields anew, and names itself."""
     for name, (method, path, fields, body) in REPEATED.items():
         text = message(method, path, fields.replace("TOKEN", tried.token), body)
         with connect(tried.broker.port) as direct, tried.proxy.connect() as through:

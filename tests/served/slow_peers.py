@@ -194,8 +194,8 @@ def close_all(connections):
 
 
 def behind_twenty(broker):
-    """How long the client waits for its reply that comes after twenty peers, and for how much of it the program waits for
-    a processor."""
+    """How long the client waits for its reply that comes after twenty peers, and for how much of it the program waits
+    for a processor."""
     begin, without = time.monotonic(), broker.waited()
     with connect(broker.port) as connection:
         connection.settimeout(NEXT)
@@ -204,9 +204,9 @@ def behind_twenty(broker):
 
 
 def twenty_beside(program):
-    """Another client is answered at once while twenty peers send a byte a second, until each is let go. On a busy machine
-    any client may wait for a processor, so waits are judged by those of the client of a broker without peers: the longest,
-    and that which nine in ten do not exceed."""
+    """Another client is answered at once while twenty peers send a byte a second, until each is let go. On a busy
+    machine any client may wait for a processor, so waits are judged by those of the client of a broker without peers:
+    the longest, and that which nine in ten do not exceed."""
     with Broker(program) as broker, Broker(program) as other:
         begin, waits, alone, gone = time.monotonic(), [], [], []
         connections = twenty_peers(broker, a_byte_a_second)

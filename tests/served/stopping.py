@@ -3,11 +3,11 @@
 
     python3 tests/served/stopping.py PROGRAM
 
-A thousand requests of eight clients are on their way when it is told to stop: by the end of its standard input, by a byte
-there, as the unit of examples/ does it, and, where PROGRAM is that of this repository, by SIGTERM to `bin/brokerd`. Each
-client has whole replies from the
-first one on, and then the end; the file has afterwards what was answered, and nothing else. Other cases: who is waited
-for, and for how long; what standard input may be. The last line is 'N passed, M failed'.
+A thousand requests of eight clients are on their way when it is told to stop: by the end of its standard input, by a
+byte there, as the unit of examples/ does it, and, where PROGRAM is that of this repository, by SIGTERM to
+`bin/brokerd`. Each client has whole replies from the first one on, and then the end; the file has afterwards what was
+answered, and nothing else. Other cases: who is waited for, and for how long; what standard input may be. The last line
+is 'N passed, M failed'.
 """
 
 import concurrent.futures
@@ -183,7 +183,8 @@ def by_the_unit(program):
 
 
 def who_is_waited_for(program):
-    """A request that was begun is finished and answered; one that stands still is let go as ever; who is idle at once."""
+    """A request that was begun is finished and answered; one that stands still is let go as ever; who is idle at
+    once."""
     with Broker(program, "--stop-on-input", stdin=subprocess.PIPE) as broker:
         ask = request("GET", "auth/token/lookup-self", broker.token)
         idle, fresh, late, still = (connect(broker.port) for _ in range(4))
@@ -233,7 +234,8 @@ def the_limit(program):
 
 
 def standard_input(program):
-    """A pipe that is at its end stops it at once; a file or /dev/null is refused; without the option it does not matter."""
+    """A pipe that is at its end stops it at once; a file or /dev/null is refused; without the option it does not
+    matter."""
     words = [program, "serve", "--listen", "127.0.0.1:0", "--stop-on-input"]
     ended = subprocess.run(words, input=b"", capture_output=True, timeout=20)
     expect((ended.returncode, ended.stderr) == (0, b""), f"a pipe at its end: {ended}")
