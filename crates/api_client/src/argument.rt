@@ -1,3 +1,5 @@
+//! Arguments that are tested before they are sent: values of fields, and short texts.
+
 ghost use Rattle.std.specs.Prelude.{◌≡◌, Some, None, if◌then◌else◌, true};
 ghost use Rattle.std.specs.List.{list_all};
 ghost use Rattle.api_client.specs.Commands.{is_field_text, is_short_text, is_visible};

@@ -1,3 +1,5 @@
+//! The command that a command line gives, of arguments that were tested.
+
 use crate::argument::{FieldText, ShortText};
 use broker_types::{BodyBytes, Path};
 

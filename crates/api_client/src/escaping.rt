@@ -1,3 +1,5 @@
+//! Paths percent-encoded for the target of a request (RFC 3986, section 2.1).
+
 ghost use Rattle.std.specs.Prelude.{◌≡◌, ℕ, ◌<◌, ◌++◌, not, OnOk, string_bytes};
 ghost use Rattle.percent_encoding.specs.AsciiSet.{contains};
 ghost use Rattle.api_client.specs.Escaping.{escaped, is_plain};

@@ -1,3 +1,5 @@
+//! One request sent and its reply read, up to what is printed and the exit status.
+
 ghost use Rattle.std.specs.Prelude.{◌≡◌, Result};
 ghost use Rattle.api_client.specs.Exchanges.{IsAnswer, IsReport, IsTold, status_after};
 ghost use Rattle.api_client.specs.declared.reply.Reply.{Reply};

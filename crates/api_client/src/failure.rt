@@ -1,3 +1,5 @@
+//! Failures of an exchange, each with the line that tells it.
+
 ghost use Rattle.std.specs.Prelude.{◌≡◌};
 ghost use Rattle.api_client.specs.Exchanges.{failure_line};
 

@@ -1,3 +1,5 @@
+//! What is refused of a command line that `clap` takes, with the texts for the user.
+
 /// Why an argument of the command line is not taken.
 #[derive(Clone, Copy, Debug, PartialEq, Eq)]
 pub(crate) enum Mistake {

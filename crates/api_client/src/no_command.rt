@@ -1,3 +1,5 @@
+//! What a command line may give instead of a command: a text for the user, or a fault.
+
 use broker_types::Fault;
 use clap::error::{Error, ErrorKind};
 use std::alloc::AllocError;

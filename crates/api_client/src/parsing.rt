@@ -1,3 +1,5 @@
+//! Command lines read: which request a subcommand means, and what its arguments may be.
+
 ghost use Rattle.std.specs.Prelude.{◌≡◌, map, option_map, string_bytes, MatchResult, Some};
 ghost use Rattle.clap.specs.Words.{first_of, found_of, rows_of, subcommand_rows_of};
 ghost use Rattle.api_client.specs.Meaning.{address_in, client_token_in, wrap_ttl_in, path_in, body_in};

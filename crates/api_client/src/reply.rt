@@ -1,3 +1,5 @@
+//! What is read from a server: a reply, or an error in its place.
+
 use broker_types::{Bytes, Fault};
 use std::alloc::AllocError;
 use thiserror::Error;

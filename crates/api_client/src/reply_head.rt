@@ -1,3 +1,5 @@
+//! Heads of replies read: the status, and how long a body follows.
+
 ghost use Rattle.std.specs.Prelude.{◌≡◌, All, codes, length, map, option_map, slice_get};
 ghost use Rattle.std.specs.Char.{is_ascii_digit};
 ghost use Rattle.std.specs.List.{list_all};

@@ -1,3 +1,5 @@
+//! Replies read from a connection, head and body, within limits.
+
 ghost use Rattle.std.specs.Prelude.{◌≡◌, ◌<◌, ◌-◌, ℕ, List, IfOk, IfErr, OnOk, Some, length};
 ghost use Rattle.std.specs.Io.KnownBytes.{IsAtEnd};
 ghost use Rattle.api_client.specs.Replies.{BeginsWithReply};

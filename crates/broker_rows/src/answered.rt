@@ -1,3 +1,5 @@
+//! Answers of operations, before they have a status and a body.
+
 ghost use Rattle.std.specs.Prelude.{◌≡◌, None, IfOk};
 ghost use Rattle.api_json.specs.Reply.{plain_reply};
 ghost use Rattle.broker_types.specs.Names.{names_of};

@@ -1,3 +1,5 @@
+//! Callers as operations see them: a token with its row, and with the rules of its policies.
+
 ghost use Rattle.std.specs.Prelude.{◌≡◌};
 ghost use Rattle.broker_rows.specs.Ending.{has_no_uses};
 

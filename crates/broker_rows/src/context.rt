@@ -1,3 +1,5 @@
+//! What each operation is given beside a command and a caller: memory, the clock and words.
+
 use broker_types::{Moment, Words};
 use std::alloc::Global;
 use std::marker::Model;

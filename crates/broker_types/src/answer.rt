@@ -1,3 +1,5 @@
+//! Answers, with the room for their replies, which is reserved before anything is committed.
+
 ghost use Rattle.std.specs.Prelude.{◌≡◌, ◌≤◌, [], IfOk, string_bytes, vec_capacity, Option, option_map};
 ghost use Rattle.broker_types.specs.Refusal.{errors_body, refusal_text, reason_text};
 

@@ -1,3 +1,5 @@
+//! Requests as the broker sees them, without their HTTP.
+
 ghost use Rattle.std.specs.Prelude.{◌≡◌, ◌≤◌, length, min};
 ghost use Rattle.std.specs.Option.{SomeIff};
 ghost use Rattle.std.specs.Cow.{cow_slice_items};

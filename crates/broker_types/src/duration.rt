@@ -1,3 +1,5 @@
+//! Durations, read from texts such as `1h30m`.
+
 ghost use Rattle.std.specs.Prelude.{◌≡◌, ◌≤◌, ◌<◌, ℕ, ◌+◌, ◌&&◌, not, ◌==◌, unwrap_or, length};
 ghost use Rattle.std.specs.Prelude.{IfSome, MatchResult, Some, None};
 ghost use Rattle.std.specs.List.{list_all};

@@ -1,3 +1,5 @@
+//! Faults, with the numbers and the texts by which programs tell them.
+
 use std::alloc::{AllocError, AllocFailed};
 use std::fmt;
 

@@ -1,3 +1,5 @@
+//! Identifiers, which are words written as UUIDs (RFC 9562).
+
 ghost use Rattle.std.specs.Prelude.{◌≡◌, ◌≢◌, length, IfOk, string_bytes, codes};
 ghost use Rattle.broker_types.specs.Identifier.{id};
 

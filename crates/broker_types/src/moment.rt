@@ -1,3 +1,5 @@
+//! Moments, by which the broker counts time, up to a greatest one.
+
 ghost use Rattle.std.specs.Prelude.{◌≡◌, ◌≤◌, max};
 ghost use Rattle.std.specs.Option.{SomeIff};
 

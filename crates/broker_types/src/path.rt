@@ -1,3 +1,5 @@
+//! Paths of requests, read once, so that no other code meets a text that is none.
+
 ghost use Rattle.std.specs.Prelude.{◌≡◌, ℕ, [], MatchResult, true, false, Err};
 ghost use Rattle.std.specs.List.{list_all};
 ghost use Rattle.std.specs.Cow.{cow_str_bytes};

@@ -1,3 +1,5 @@
+//! Refusals of requests, each with its status and with the text that tells the client why.
+
 ghost use Rattle.std.specs.Prelude.{◌≡◌, option_map};
 ghost use Rattle.broker_types.specs.Status.{no_methods};
 ghost use Rattle.broker_types.specs.Refusal.{field_name, reason_opening, reason_field, denial_text};

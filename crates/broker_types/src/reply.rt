@@ -1,3 +1,5 @@
+//! The members of a reply, before they are printed as JSON.
+
 use crate::text::TextBuf;
 
 /// A reply with an object (Vault's documentation, "HTTP API"): with status 200, or 404 for

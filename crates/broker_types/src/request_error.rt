@@ -1,3 +1,5 @@
+//! One error for the steps of a request, which may be refused or meet a fault.
+
 use crate::fault::Fault;
 use crate::refusal::Refusal;
 use std::alloc::AllocError;

@@ -1,3 +1,5 @@
+//! Lengths of time, by a type that bounds them.
+
 ghost use Rattle.std.specs.Prelude.{◌≡◌, ◌<◌, ◌^◌};
 
 use std::marker::Model;

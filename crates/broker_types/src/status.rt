@@ -1,3 +1,5 @@
+//! The statuses that replies have, and the methods that a 405 lists.
+
 ghost use Rattle.std.specs.Prelude.{◌≡◌};
 ghost use Rattle.broker_types.specs.Status.{status_code, no_methods};
 

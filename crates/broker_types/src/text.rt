@@ -1,3 +1,5 @@
+//! Texts and bytes that contracts see as lists of bytes, owned or borrowed.
+
 ghost use Rattle.std.specs.Prelude.{◌≡◌, IfOk, option_map, string_bytes};
 ghost use Rattle.std.specs.Cow.{cow_str_bytes, cow_slice_items};
 ghost use Rattle.std.specs.List.{list_any};

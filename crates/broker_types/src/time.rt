@@ -1,3 +1,5 @@
+//! Seconds since 1970 written as times of the calendar (RFC 3339).
+
 ghost use Rattle.std.specs.Prelude.{◌≡◌, ◌<◌, IfOk, string_bytes, pos};
 ghost use Rattle.jiff.specs.Words.{epoch_day};
 ghost use Rattle.broker_types.specs.Time.{time_text, IsClock};

@@ -1,3 +1,5 @@
+//! What a client sends as its token, and by what others may name it: texts that are made from words.
+
 ghost use Rattle.std.specs.Prelude.{◌≡◌, IfOk};
 ghost use Rattle.broker_types.specs.Identifier.{id};
 ghost use Rattle.broker_types.specs.TokenText.{token_text};

@@ -1,3 +1,5 @@
+//! The random numbers of an event, one for each identifier that its request may need.
+
 ghost use Rattle.std.specs.Prelude.{◌≡◌};
 ghost use Rattle.broker_types.specs.Names.{request_word, token_word, accessor_word, lease_word};
 ghost use Rattle.broker_types.specs.Names.{credential_word, wrapping_token_word, wrapping_accessor_word};

@@ -1,3 +1,5 @@
+//! The command line of the broker: its subcommands and options, and what they mean.
+
 ghost use Rattle.std.specs.Prelude.{◌≡◌, IfOk, IfErr, IfSome, None, codes, false, map, string_bytes, true};
 ghost use Rattle.clap.specs.Words.{app_of, found_of, kind_of, rows_of, rule_of, subcommand_of, takes};
 ghost use Rattle.brokerd.specs.CommandLine.{program_app, check_app, replay_app, serve_app, listen_rule};

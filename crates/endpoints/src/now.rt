@@ -1,3 +1,5 @@
+//! Readers and writers that do not wait: they tell that no byte or no room is there now.
+
 ghost use Rattle.std.specs.Prelude.{◌≡◌, ◌||◌, ◌≤◌, ℕ, Bool, false, List, Option, length, IfOk, IfSome, MatchResult};
 ghost use Rattle.std.specs.Prelude.{is_err};
 ghost use Rattle.std.specs.Io.KnownBytes.{Keeps, WriteAppends};

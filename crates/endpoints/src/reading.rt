@@ -1,3 +1,5 @@
+//! Readers that count their pulls, and remember whether one failed.
+
 ghost use Rattle.std.specs.Prelude.{◌≡◌, ◌+◌, ◌≤◌, ◌||◌, ℕ, Bool, List, Option, length, IfOk, OnOk, OnErr};
 ghost use Rattle.std.specs.Prelude.{is_err, false};
 ghost use Rattle.std.specs.Io.KnownBytes.{ReadConsumes};

@@ -1,3 +1,5 @@
+//! Writers that remember whether a push failed.
+
 ghost use Rattle.std.specs.Prelude.{◌≡◌, ◌||◌, Bool, ℕ, List, Option, OnOk, is_err, false};
 ghost use Rattle.std.specs.Io.KnownBytes.{Appends};
 

@@ -1,3 +1,5 @@
+//! From the head and the body of a request to what it asks of the broker, or to its refusal.
+
 ghost use Rattle.std.specs.Prelude.{◌≡◌, ◌≢◌, MatchResult, Ok, Err, codes, option_map};
 ghost use Rattle.http_layer.specs.HeadParts.{values_named};
 ghost use Rattle.http_layer.specs.Query.{target_path};

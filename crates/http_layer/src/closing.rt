@@ -1,3 +1,5 @@
+//! Whether a connection stays open after a request, by its Connection fields.
+
 ghost use Rattle.std.specs.Prelude.{◌≡◌, reverse, map, length, All};
 ghost use Rattle.std.specs.List.{list_any};
 ghost use Rattle.httparse.specs.Grammar.{skip_ows, trim_ows};

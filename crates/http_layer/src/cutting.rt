@@ -1,3 +1,5 @@
+//! Streams of bytes cut into requests, each as soon as its bytes have come.
+
 ghost use Rattle.std.specs.Prelude.{◌≡◌, ◌≤◌, length, take, nat_le, if◌then◌else◌};
 ghost use Rattle.broker_types.specs.Limits.{longest_body};
 ghost use Rattle.http_layer.specs.Cutting.{front_of, FitsIn, IsNeed};

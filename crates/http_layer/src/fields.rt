@@ -1,3 +1,5 @@
+//! Fields of a head, found by their names.
+
 ghost use Rattle.std.specs.Prelude.{◌≡◌, length, map, All};
 ghost use Rattle.httparse.specs.Spans.{IsHeaderWithin, header_bytes};
 ghost use Rattle.http_layer.specs.HeadParts.{same_in_any_case, values_named};

@@ -1,3 +1,5 @@
+//! The three ways to cut the front of a stream: it is a request, it is refused, or more has to come.
+
 use crate::head::Head;
 use broker_types::{BodyBytes, Status};
 

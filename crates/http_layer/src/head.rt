@@ -1,3 +1,5 @@
+//! Heads of requests, with what they say of the body and of the connection.
+
 ghost use Rattle.std.specs.Prelude.{◌≡◌, ◌<◌, ◌≤◌, length, codes, IfSome, IfNone, IfOk};
 ghost use Rattle.broker_types.specs.Limits.{longest_body};
 ghost use Rattle.http_layer.specs.HeadParts.{HeadParts, IsHead, values_named};

@@ -1,3 +1,5 @@
+//! Where a head ends, so that no byte is searched twice, in however many pieces it comes.
+
 ghost use Rattle.std.specs.Prelude.{◌≡◌, ◌≤◌, length, take, IfSome, IfNone};
 ghost use Rattle.std.specs.List.{prefix_len};
 ghost use Rattle.http_layer.specs.Front.{is_line_byte, HeadEnds, HasNoHeadEnd, window};

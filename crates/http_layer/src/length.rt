@@ -1,3 +1,5 @@
+//! Lengths of bodies, read from Content-Length fields (RFC 9110, section 8.6).
+
 ghost use Rattle.std.specs.Prelude.{◌≡◌, ◌+◌, ◌∷◌, [], min, IfSome, IfNone, IsTrue, false};
 ghost use Rattle.std.specs.Str.Parse.{digits_value};
 ghost use Rattle.http_layer.specs.Front.{is_number, content_length};

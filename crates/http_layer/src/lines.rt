@@ -1,3 +1,5 @@
+//! Lines put together in a room of fixed size, which takes no memory.
+
 ghost use Rattle.std.specs.Prelude.{◌≡◌, ◌+◌, ◌≤◌, [], ◌++◌, length};
 
 use std::marker::Model;

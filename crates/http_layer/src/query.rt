@@ -1,3 +1,5 @@
+//! Targets taken apart, and what their queries ask for.
+
 ghost use Rattle.std.specs.Prelude.{◌≡◌, ◌≤◌, length, option_map, IfSome};
 ghost use Rattle.std.specs.List.{find};
 ghost use Rattle.http_layer.specs.Query.{target_path, target_query, query_parts, lists, is_list_part};

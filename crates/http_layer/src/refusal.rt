@@ -1,3 +1,5 @@
+//! Refusals that need no broker, with their answers (Vault's documentation, "HTTP API").
+
 ghost use Rattle.std.specs.Prelude.{◌≡◌, IfOk, Option, option_map};
 ghost use Rattle.broker_types.specs.Answer.{response_of, HasRoom};
 ghost use Rattle.http_layer.specs.Refusing.{refusal_response, refusal_body, front_refused};

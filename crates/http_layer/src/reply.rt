@@ -1,3 +1,5 @@
+//! Answers as bytes of HTTP/1.1: the status line, the fields and the body.
+
 ghost use Rattle.std.specs.Prelude.{◌≡◌, ◌+◌, ◌≤◌, ◌++◌, length, IsOk, OnOk, OnErr, vec_capacity, vec_len};
 ghost use Rattle.broker_types.specs.Answer.{response_of};
 ghost use Rattle.broker_types.specs.Status.{status_code};

@@ -1,3 +1,5 @@
+//! Entries of the table of connections: one that may be open, or closed ones that follow one another.
+
 ghost use Rattle.std.specs.Prelude.{◌≡◌, ◌≤◌, Some, IfSome, ℕ};
 ghost use Rattle.hub.specs.Entries.{connection_in, IsClosedRun, IsNextIn};
 ghost use Rattle.hub.specs.Feeding.{Feeds};

@@ -1,3 +1,5 @@
+//! What a hub is fed, one after another.
+
 use broker_types::{Bytes, Moment, Words};
 
 /// A piece of bytes that comes on a connection.

@@ -1,3 +1,5 @@
+//! The front of a connection's bytes is served: the broker is asked, or the request is refused.
+
 ghost use Rattle.std.specs.Prelude.{◌≡◌, IfOk, IfErr, IsOk, OnOk, Some, None, [], true, false};
 ghost use Rattle.broker_types.specs.Answer.{response_of, HasRoom};
 ghost use Rattle.broker_types.specs.Broker.{Broker};

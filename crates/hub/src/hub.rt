@@ -1,3 +1,5 @@
+//! All connections together: where an event is fed, and at most one reply comes out.
+
 use crate::entry::Entry;
 use crate::table::{close, empty, has_request, has_rest, is_closed, next_number, open, settle};
 use broker::Store;

@@ -1,3 +1,5 @@
+//! What is left to be sent on a connection that takes its reply in parts.
+
 ghost use Rattle.std.specs.Prelude.{◌≤◌, length};
 
 use std::alloc::Global;

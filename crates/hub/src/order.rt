@@ -1,3 +1,5 @@
+//! Turns on many connections, in any order, where the fault of one does not end the others.
+
 ghost use Rattle.std.specs.Prelude.{◌≡◌, None};
 ghost use Rattle.hub.specs.Ordering.{HaveNumbers, ServesLines, TurnsLine};
 ghost use Rattle.hub.specs.Representing.{hub_store};

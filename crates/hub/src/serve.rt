@@ -1,3 +1,5 @@
+//! One connection served up to its end, and where the moments and the words of its events are from.
+
 ghost use Rattle.std.specs.Prelude.{◌≡◌, ◌⊎◌, ◌+◌, ◌<◌, ◌≤◌, [], false, true, length, Ok, IfOk, OnOk, IsTrue};
 ghost use Rattle.std.specs.Io.KnownBytes.{Appends, Consumes};
 ghost use Rattle.hub.specs.Representing.{ConnectionsRepresent, hub_waiting};

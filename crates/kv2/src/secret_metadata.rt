@@ -1,3 +1,5 @@
+//! What may be told of a secret and of its versions to those who do not read their texts.
+
 use broker_types::TextBuf;
 use std::marker::Model;
 

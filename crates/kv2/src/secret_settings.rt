@@ -1,3 +1,5 @@
+//! Settings of a single secret, as a request gives them.
+
 use broker_types::TextBuf;
 use std::marker::Model;
 

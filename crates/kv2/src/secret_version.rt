@@ -1,3 +1,5 @@
+//! Versions of secrets: as they are kept, as they are found, and as a write tells them.
+
 ghost use Rattle.std.specs.Prelude.{◌≡◌, IfOk};
 
 use broker_types::TextBuf;

@@ -1,3 +1,5 @@
+//! Types of mounts, of those that are always there and of those that have rows.
+
 ghost use Rattle.std.specs.Prelude.{◌≡◌};
 ghost use Rattle.records.specs.Engines.{engine_of};
 ghost use Rattle.mounts.specs.Types.{engine_type, fixed_type};

@@ -1,3 +1,5 @@
+//! Records of single versions: a secret's text, and whether it was deleted or destroyed.
+
 use std::marker::Model;
 
 /// One version of a secret, which borrows the secret's text. Moments are seconds since

@@ -1,3 +1,5 @@
+//! The lines of a replay, read before the first of them is run.
+
 ghost use Rattle.std.specs.Prelude.{◌≡◌, ◌∷◌, ◌<◌, length, IfOk, IfSome, option_map, position};
 ghost use Rattle.std.specs.List.{slice_split};
 ghost use Rattle.replay.specs.Replays.{told};

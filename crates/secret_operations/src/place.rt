@@ -1,3 +1,5 @@
+//! Places of secrets, which commands name.
+
 use std::marker::Model;
 
 /// Where a secret is: its mount, and its path there; or a folder, whose path is empty for the whole mount.

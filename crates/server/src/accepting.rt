@@ -1,3 +1,5 @@
+//! New connections: how many there may be, and when the next one is accepted.
+
 use crate::links::Links;
 use crate::waiting::TICK;
 use mio::net::TcpListener;

@@ -1,3 +1,5 @@
+//! Random words for events, from a generator that the system seeds.
+
 ghost use Rattle.std.specs.Prelude.{◌≡◌};
 ghost use Rattle.server.specs.Drawn.{next_word};
 

@@ -1,3 +1,5 @@
+//! The open connections of a server, and a queue of those that can go on.
+
 ghost use Rattle.std.specs.Prelude.{◌≤◌};
 ghost use Rattle.hub.specs.Representing.{ConnectionsRepresent};
 ghost use Rattle.hub.specs.Serving.{LeavesClosed};

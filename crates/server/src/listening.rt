@@ -1,3 +1,5 @@
+//! Rounds of a server: it waits for the system, accepts, gives each connection its turns, and may stop.
+
 ghost use Rattle.hub.specs.Representing.{ConnectionsRepresent};
 ghost use Rattle.hub.specs.Supplies.{Supplies};
 ghost use Rattle.hub.specs.World.{Connections};

@@ -1,3 +1,5 @@
+//! One connection of a server: a socket with its readiness, its turns, and the time that its peer has.
+
 ghost use Rattle.std.specs.Prelude.{◌≡◌, ◌≢◌, true, MatchResult};
 ghost use Rattle.broker_types.specs.declared.fault.Fault.TheVariants.{Memory};
 ghost use Rattle.hub.specs.Representing.{ConnectionsRepresent};

@@ -1,3 +1,5 @@
+//! A hub served at an address, round by round, until it is done.
+
 ghost use Rattle.hub.specs.Representing.{ConnectionsRepresent};
 ghost use Rattle.hub.specs.Supplies.{Supplies};
 ghost use Rattle.hub.specs.World.{Connections};

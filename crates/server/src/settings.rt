@@ -1,3 +1,5 @@
+//! What a command line may set of a server.
+
 /// How a broker is served.
 #[derive(Clone, Copy, Debug, PartialEq, Eq)]
 pub struct Settings<'a> {

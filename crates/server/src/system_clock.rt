@@ -1,3 +1,5 @@
+//! Moments told by the system's clock, kept within what a moment can be.
+
 ghost use Rattle.std.specs.Prelude.{◌≡◌, ◌/◌};
 ghost use Rattle.std.specs.Time.{system_time_nanos};
 ghost use Rattle.server.specs.Moments.{moment_of};

@@ -1,3 +1,5 @@
+//! For how long a server waits for a peer, by what the peer is to do.
+
 ghost use Rattle.std.specs.Prelude.{◌≡◌};
 ghost use Rattle.server.specs.Patience.{is_over};
 

@@ -1,3 +1,5 @@
+//! Where a row stands, as it is noted for its identifier.
+
 use broker_types::TextBuf;
 use records::Kind;
 use std::marker::Model;

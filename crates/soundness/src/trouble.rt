@@ -1,3 +1,5 @@
+//! What is told of rows that are not those of a sound broker: which row breaks which rule.
+
 ghost use Rattle.std.specs.Prelude.{◌≡◌, IfOk};
 
 use broker_types::TextBuf;

@@ -1,3 +1,5 @@
+//! Command lines with the requests that they send, and lines that are no commands.
+
 use api_client::{NoCommand, command_of, request_of};
 use std::alloc::{AllocError, Global};
 use std::test::Fail;

@@ -1,3 +1,5 @@
+//! Cubbyholes over rows in memory.
+
 use broker_types::{Bytes, Fault, TextBuf};
 use cubbyhole::{delete, drop_owner, is_there, list, read, write};
 use records::{Kind, ListRecords, ListTx, RecordsTx, Row};

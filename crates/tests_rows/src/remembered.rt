@@ -1,3 +1,5 @@
+//! What is remembered of rows, and what is not, since it is secret.
+
 use broker_types::{Bytes, Moment, TextBuf};
 use records::{Due, Kind, Row};
 use row_memory::RowMemory;

@@ -1,3 +1,5 @@
+//! The table of routes, with paths that fit each route and paths that almost do.
+
 use broker_types::Verb::{self, Delete, Get, List, Write};
 use broker_types::{Methods, Reason, Refusal, RequestError};
 use mounts::{

@@ -1,3 +1,5 @@
+//! Values and their texts: identifiers, times, durations, paths, refusals, answers and faults.
+
 use broker_types::*;
 use std::alloc::{AllocError, AllocFailed, AllocGlobal, Global};
 use std::borrow::CowStr;

@@ -1,3 +1,5 @@
+//! A file with a trace of what is done to it, lent to a database that ends before it does.
+
 ghost use Rattle.std.specs.Prelude.{◌≡◌, ◌&&◌};
 
 use crate::trace::Trace;

@@ -1,3 +1,5 @@
+//! The tasks of the program, by the words that name them.
+
 use crate::opening::Writes;
 
 /// What the program is asked to do.

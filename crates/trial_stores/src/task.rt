@@ -1,3 +1,5 @@
+//! The tasks of the program, and the stores over which they are run, by the words that name them.
+
 /// Over what rows the lines are run.
 #[derive(Clone, Copy, Debug, PartialEq, Eq)]
 pub(crate) enum Over {
