@@ -13,7 +13,7 @@ use Rattle.broker_types.specs.RefuseLaws.{no_ok}
 use Rattle.broker_types.specs.declared.refusal.Field.{Field}
 use Rattle.broker_types.specs.declared.refusal.Refusal.{Refusal}
 use Rattle.api_json.specs.Json.{read_body}
-use Rattle.api_json.specs.Kept.{IsKeptMeta, IsKeptCustom}
+use Rattle.api_json.specs.KeptBodies.{IsKeptMeta, IsKeptCustom}
 use Rattle.api_json.specs.Kinds as kind
 use Rattle.api_json.specs.Members.{optional}
 use Rattle.api_json.specs.Readers.{is_custom, is_custom_pair}

@@ -27,7 +27,7 @@ use Rattle.broker_types.specs.declared.refusal.Refusal.{Refusal}
 use Rattle.broker_types.specs.declared.request_error.RequestError.{RequestError}
 use Rattle.api_json.specs.Reads.{IsRead}
 use Rattle.api_json.specs.Json.{read_body}
-use Rattle.api_json.specs.Kept.{IsKeptMeta}
+use Rattle.api_json.specs.KeptBodies.{IsKeptMeta}
 use Rattle.api_json.specs.Kinds as kind
 use Rattle.api_json.specs.Kinds.{each_item, each_text, comma_parts, is_part, without_spaces}
 use Rattle.api_json.specs.Members.{optional, required, of_kind, given, invalid, missing}

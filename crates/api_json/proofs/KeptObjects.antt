@@ -16,7 +16,7 @@ use Rattle.broker_types.specs.Refuse.{some_or}
 use Rattle.api_json.specs.Json.{tree, members_in, without_floats, read_body, body_members, no_object}
 use Rattle.api_json.specs.Kinds.{as_object_text}
 use Rattle.api_json.specs.Members.{payload}
-use Rattle.api_json.specs.Kept.{is_object, IsKept}
+use Rattle.api_json.specs.KeptBodies.{is_object, IsKept}
 use Rattle.api_json.specs.Laws.{BodiesReadBack, BodiesAreKept, PayloadsAreKept}
 use Rattle.api_json.proofs.Bodies.{tree_read}
 use Rattle.api_json.specs.Canonical.{IsCanonical}

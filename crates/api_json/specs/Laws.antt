@@ -7,7 +7,7 @@ use Rattle.broker_types.specs.Limits.{longest_body}
 use Rattle.broker_types.specs.Text.{Text}
 use Rattle.api_json.specs.Canonical.{IsCanonical}
 use Rattle.api_json.specs.Json.{read_body}
-use Rattle.api_json.specs.Kept.{IsKept}
+use Rattle.api_json.specs.KeptBodies.{IsKept}
 use Rattle.api_json.specs.Members.{payload}
 use Rattle.api_json.specs.Printing.{object_of, quoted}
 

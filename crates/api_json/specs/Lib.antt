@@ -1,7 +1,7 @@
 pub mod Canonical
 pub mod Entries
 pub mod Json
-pub mod Kept
+pub mod KeptBodies
 pub mod Kinds
 pub mod Laws
 pub mod Members

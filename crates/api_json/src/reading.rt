@@ -8,7 +8,7 @@ ghost use Rattle.serde_json.specs.View.{view, items_view, members_view};
 ghost use Rattle.serde_json.specs.Written.{compact_text, has_float, items_have_float, members_have_float};
 ghost use Rattle.api_json.specs.Json.{json_value, tree, without_floats, members_in, no_object, body_members};
 ghost use Rattle.api_json.specs.Json.{has_members};
-ghost use Rattle.api_json.specs.Kept.{IsKept};
+ghost use Rattle.api_json.specs.KeptBodies.{IsKept};
 ghost use Rattle.api_json.specs.Parsed.{data_of, members_of};
 ghost use Rattle.api_json.specs.Reads.{IsReadAs};
 

@@ -6,7 +6,7 @@ ghost use Rattle.broker_types.specs.Limits.{longest_body};
 ghost use Rattle.broker_types.specs.Sound.{IsCustomPair};
 ghost use Rattle.broker_types.specs.Text.{Text};
 ghost use Rattle.api_json.specs.Json.{body_members};
-ghost use Rattle.api_json.specs.Kept.{IsKept, IsKeptSettings};
+ghost use Rattle.api_json.specs.KeptBodies.{IsKept, IsKeptSettings};
 ghost use Rattle.api_json.specs.Parsed.{members_of};
 ghost use Rattle.api_json.specs.Reads.{IsRead};
 ghost use Rattle.api_json.specs.Readers as reader;

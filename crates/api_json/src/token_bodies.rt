@@ -2,7 +2,7 @@
 ghost use Rattle.std.specs.Prelude.{◌≡◌, ◌≤◌, ℕ, List, Ok, IfOk, length};
 ghost use Rattle.broker_types.specs.Limits.{longest_body};
 ghost use Rattle.api_json.specs.Json.{body_members};
-ghost use Rattle.api_json.specs.Kept.{IsKeptCreation};
+ghost use Rattle.api_json.specs.KeptBodies.{IsKeptCreation};
 ghost use Rattle.api_json.specs.Parsed.{members_of};
 ghost use Rattle.api_json.specs.Reads.{IsRead};
 ghost use Rattle.api_json.specs.Readers as reader;

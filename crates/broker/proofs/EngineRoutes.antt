@@ -13,7 +13,7 @@ use Rattle.broker_types.specs.declared.ask.Verb.{Verb}
 use Rattle.records.specs.Rows.{or_else}
 use Rattle.mounts.specs.Route.{Route, cut, route_of}
 use Rattle.mounts.specs.RouteRow.{RouteRow}
-use Rattle.mounts.specs.Table.{route_rows}
+use Rattle.mounts.specs.RouteTable.{route_rows}
 use Rattle.mounts.specs.Types.{fixed_type, type_at}
 use Rattle.mounts.specs.declared.mount_type.MountType.{MountType}
 use Rattle.mounts.specs.declared.mount_type.MountType.TheVariants as mount

@@ -6,5 +6,5 @@ pub mod NeededIdentifiers
 pub mod Permitted
 pub mod RoutedBy
 pub mod Routes
-pub mod Serving
+pub mod StepParts
 pub mod UnspentStays

@@ -13,7 +13,7 @@ use Rattle.broker_types.specs.Text.{Text, same}
 use Rattle.broker_types.specs.Used.{are_new}
 use Rattle.broker_types.specs.declared.ask.Ask.{Ask}
 use Rattle.broker_model.specs.Command.{Command}
-use Rattle.broker_model.specs.Serving.{is_wrapped, needed_by}
+use Rattle.broker_model.specs.ServedAsks.{is_wrapped, needed_by}
 use Rattle.broker_model.specs.Step.{traits}
 use Rattle.broker_rows.specs.Operating.{ArePrinted}
 

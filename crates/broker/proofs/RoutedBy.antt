@@ -16,7 +16,7 @@ use Rattle.records.specs.ValueLaws.{ok_inj}
 use Rattle.mounts.specs.Patterns.{pattern_found, is_row}
 use Rattle.mounts.specs.Route.{Route, cut, methods_of, operation_for, route_at}
 use Rattle.mounts.specs.RouteRow.{RouteRow}
-use Rattle.mounts.specs.Table.{route_rows}
+use Rattle.mounts.specs.RouteTable.{route_rows}
 use Rattle.mounts.specs.Types.{type_at}
 use Rattle.mounts.specs.declared.mount_type.MountType.{MountType}
 use Rattle.mounts.specs.declared.operation.Operation.{Operation}

@@ -38,7 +38,7 @@ use Rattle.broker_model.specs.Forms.{forms}
 use Rattle.broker_model.specs.Laws.{OperationsDoAsTold}
 use Rattle.broker_model.specs.Order.{Wrapped, counted, permission_denied, unwrapped, wrap_200}
 use Rattle.broker_model.specs.Permission.{permits}
-use Rattle.broker_model.specs.Serving.{is_open, is_wrapped, needed_by, served}
+use Rattle.broker_model.specs.ServedAsks.{is_open, is_wrapped, needed_by, served}
 use Rattle.broker_model.specs.Step.{request_of, traits}
 use Rattle.broker_model.specs.Traits.{Fate, make, orphan, renew, revoke as ends, stay}
 use Rattle.broker_model.specs.declared.making.Making.{Making}

@@ -3,7 +3,7 @@ use Rattle.std.specs.Prelude.{Option, Some, None, option_map}
 use Rattle.broker_types.specs.Broker.{Broker}
 use Rattle.broker_types.specs.Text.{Text}
 use Rattle.records.specs.Ranges.{IsTokenInRange}
-use Rattle.records.specs.Reading.{IsSomeIn}
+use Rattle.records.specs.RowReaders.{IsSomeIn}
 use Rattle.records.specs.Transaction.{Rows}
 use Rattle.broker_rows.specs.Caller.{Asker, AreItsRules}
 use Rattle.broker_rows.specs.Context.{Context}

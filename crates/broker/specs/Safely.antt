@@ -8,7 +8,7 @@ use Rattle.broker_types.specs.declared.ask.Ask.{Ask}
 use Rattle.broker_types.specs.declared.fault.Fault.{Fault}
 use Rattle.broker_types.specs.declared.words.Words.{Words}
 use Rattle.records.specs.Transaction.{Seen, IsHonest, GoesOn, is_storage}
-use Rattle.broker_model.specs.Listed.{IsListed}
+use Rattle.broker_model.specs.ListedResponses.{IsListed}
 use Rattle.broker_model.specs.Step.{step}
 use Rattle.broker_rows.specs.ClockRow.{NeedsClock}
 use Rattle.broker_rows.specs.Representing.{Gives, Represents}

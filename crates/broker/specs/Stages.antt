@@ -6,7 +6,7 @@ use Rattle.broker_types.specs.RequestError.{EndsOk, EndsRefused}
 use Rattle.broker_types.specs.Spending.{spend}
 use Rattle.broker_types.specs.declared.refusal.Refusal.{Refusal}
 use Rattle.records.specs.Ranges.{IsTokenInRange}
-use Rattle.records.specs.Reading.{IsSomeIn}
+use Rattle.records.specs.RowReaders.{IsSomeIn}
 use Rattle.records.specs.Transaction.{Rows}
 use Rattle.broker_model.specs.Order.{Outcome, Wrapped, for_caller, denied}
 use Rattle.broker_rows.specs.Caller.{Caller, IsCallerOf}

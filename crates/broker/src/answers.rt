@@ -1,7 +1,7 @@
 //! Answers to requests.
 
 ghost use Rattle.std.specs.Prelude.{◌≡◌, IfOk, IfErr};
-ghost use Rattle.broker_model.specs.Listed.{IsListed};
+ghost use Rattle.broker_model.specs.ListedResponses.{IsListed};
 ghost use Rattle.api_json.specs.Reply.{reply_text};
 ghost use Rattle.broker_model.specs.Order.{response_to};
 ghost use Rattle.broker_model.specs.Responses.{ok, not_found};

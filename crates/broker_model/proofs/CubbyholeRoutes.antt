@@ -14,7 +14,7 @@ use Rattle.mounts.specs.Laws.{AreInOrder, FoundByForm, NoneFoundByForm}
 use Rattle.mounts.specs.MountRows.{IsKnownAt}
 use Rattle.mounts.specs.Patterns.{pattern_found}
 use Rattle.mounts.specs.Route.{cut, methods_of, operation_for, route_at, route_by}
-use Rattle.mounts.specs.Table.{route_rows}
+use Rattle.mounts.specs.RouteTable.{route_rows}
 use Rattle.mounts.specs.declared.mount_type.MountType.TheVariants as mount
 use Rattle.mounts.specs.declared.operation.CubbyholeOperation.{CubbyholeOperation}
 use Rattle.mounts.specs.declared.operation.Operation.{Operation}

@@ -10,7 +10,7 @@ use Rattle.broker_types.specs.Map.{get, put, without}
 use Rattle.broker_types.specs.Names.{Names}
 use Rattle.broker_types.specs.Name.{is_name}
 use Rattle.broker_types.specs.Operation.{nothing, plainly, Done}
-use Rattle.broker_types.specs.Places.{lease_identifier}
+use Rattle.broker_types.specs.IdentifierPlaces.{lease_identifier}
 use Rattle.broker_types.specs.PutLaws.{put_is}
 use Rattle.broker_types.specs.Refuse.{some_or, unless}
 use Rattle.broker_types.specs.RefuseLaws.{ok_step}

@@ -9,7 +9,7 @@ use Rattle.broker_types.specs.Map.{Map, get, map_values}
 use Rattle.broker_types.specs.MapLaws.{get-map_values, valued_is}
 use Rattle.broker_types.specs.Token.{Token, Tokens, Lease}
 use Rattle.broker_types.specs.Broker.{Broker}
-use Rattle.broker_types.specs.Places.{lease_of}
+use Rattle.broker_types.specs.IdentifierPlaces.{lease_of}
 use Rattle.records.specs.Parts.{Part}
 use Rattle.records.specs.declared.kind.Kind.TheVariants as kind
 use Rattle.cubbyhole.specs.Cubbyhole as cubbyhole

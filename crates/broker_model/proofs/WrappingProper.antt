@@ -12,7 +12,7 @@ use Rattle.broker_types.specs.Evolves.{Evolves, IsNew, IsTakenOut, OriginIsGone,
 use Rattle.broker_types.specs.EvolvesLaws.{evolves_trans}
 use Rattle.broker_types.specs.Names.{Names}
 use Rattle.broker_types.specs.Operation.{Done, kept_text}
-use Rattle.broker_types.specs.Places.{wrapping_token, token_identifier}
+use Rattle.broker_types.specs.IdentifierPlaces.{wrapping_token, token_identifier}
 use Rattle.broker_types.specs.Refuse.{some_or}
 use Rattle.broker_types.specs.RefuseLaws.{ok_step}
 use Rattle.broker_types.specs.Sound.{Forms, Sound, SoundIdentifiers, SoundWaiting, IsSoundWaiting}

@@ -9,7 +9,7 @@ use Rattle.broker_types.specs.Broker.{Broker, Waiting}
 use Rattle.broker_types.specs.Evolves.{WasBefore, WaitedBefore}
 use Rattle.broker_types.specs.Names.{Names}
 use Rattle.broker_types.specs.Operation.{Answered, nothing, reply, kept_text, missing, Done}
-use Rattle.broker_types.specs.Places.{lease_identifier, lease_of, token_identifier}
+use Rattle.broker_types.specs.IdentifierPlaces.{lease_identifier, lease_of, token_identifier}
 use Rattle.broker_types.specs.Secret.{Key, Version}
 use Rattle.broker_types.specs.declared.reply.Reply.{Reply}
 use Rattle.records.specs.Parts.{Part}

@@ -6,14 +6,14 @@ pub mod EffectLaws
 pub mod Effects
 pub mod Forms
 pub mod Laws
-pub mod Listed
+pub mod ListedResponses
 pub mod NewIdentifierLaws
 pub mod Order
 pub mod Permission
 pub mod ProperLaws
 pub mod Request
 pub mod Responses
-pub mod Serving
+pub mod ServedAsks
 pub mod Step
 pub mod Traits
 pub mod parts

@@ -13,7 +13,7 @@ use Rattle.broker_types.specs.Evolves.{Evolves, IsNew, IsNewLease, WaitedBefore,
 use Rattle.broker_types.specs.EvolvesLaws.{evolves_trans}
 use Rattle.broker_types.specs.Names.{Names, names_of}
 use Rattle.broker_types.specs.Operation.{Done}
-use Rattle.broker_types.specs.Places.{lease_of, token_identifier}
+use Rattle.broker_types.specs.IdentifierPlaces.{lease_of, token_identifier}
 use Rattle.broker_types.specs.Refuse.{unless}
 use Rattle.broker_types.specs.RefuseLaws.{ok_step}
 use Rattle.broker_types.specs.RemovalLaws.{revoke_evolves, revoke_orphan_evolves}

@@ -13,7 +13,7 @@ use Rattle.broker_types.specs.declared.refusal.Refusal.{Refusal}
 use Rattle.broker_types.specs.declared.request_error.RequestError.{RequestError}
 use Rattle.records.specs.Transaction.{Seen, Rows, IsHonest}
 use Rattle.mounts.specs.Route.{Route}
-use Rattle.mounts.specs.Table.{takes_parameter}
+use Rattle.mounts.specs.RouteTable.{takes_parameter}
 use Rattle.mounts.specs.declared.operation.Operation.{Operation}
 use Rattle.mounts.specs.declared.operation.Operation.TheVariants.{Secrets, Issued}
 use Rattle.broker_rows.specs.Caller.{Caller, IsCallerOf}

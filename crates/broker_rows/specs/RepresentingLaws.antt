@@ -7,7 +7,7 @@ use Rattle.broker_types.specs.Broker.{Broker}
 use Rattle.broker_types.specs.Map.{get, change}
 use Rattle.broker_types.specs.MapLaws.{get-change}
 use Rattle.broker_types.specs.OptionLaws.{found_or_not}
-use Rattle.broker_types.specs.Places.{Place, token, wrapping_token, token_identifier, lease_of, OnePlaceEach}
+use Rattle.broker_types.specs.IdentifierPlaces.{Place, token, wrapping_token, token_identifier, lease_of, OnePlaceEach}
 use Rattle.broker_types.specs.Spending.{drop_waiting}
 use Rattle.broker_types.specs.SpendingLaws.{drop_sound}
 use Rattle.broker_types.specs.Text.{Text, same}

@@ -13,7 +13,7 @@ ghost use Rattle.broker_types.specs.TokenText.{token_text};
 ghost use Rattle.records.specs.Kept.{IsHonestStore, IsReady};
 ghost use Rattle.records.specs.Transaction.{is_storage};
 ghost use Rattle.records_sql.specs.KeptRecords.{kept_records};
-ghost use Rattle.broker_model.specs.Listed.{IsListed};
+ghost use Rattle.broker_model.specs.ListedResponses.{IsListed};
 ghost use Rattle.broker_model.specs.Step.{step};
 ghost use Rattle.broker_rows.specs.ClockRow.{NeedsClock};
 ghost use Rattle.broker_rows.specs.Representing.{Represents, Gives};

@@ -18,9 +18,10 @@ use Rattle.broker_types.specs.Lineage.{with_live_leases, ends_within}
 use Rattle.broker_types.specs.Broker.{Broker, Waiting, waiting_ends, at_moment, revoke}
 use Rattle.broker_types.specs.First.{root_token, first_broker}
 use Rattle.broker_types.specs.Sound.{is_ascending}
-use Rattle.broker_types.specs.Places as place
-use Rattle.broker_types.specs.Places.{token_identifier, lease_identifier, identifier_at, credential, wrapping_token}
-use Rattle.broker_types.specs.Places.{wrapping_accessor}
+use Rattle.broker_types.specs.IdentifierPlaces as place
+use Rattle.broker_types.specs.IdentifierPlaces.{token_identifier, lease_identifier, identifier_at, credential}
+use Rattle.broker_types.specs.IdentifierPlaces.{wrapping_token}
+use Rattle.broker_types.specs.IdentifierPlaces.{wrapping_accessor}
 use Rattle.broker_types.specs.Spending.{one_less, is_spent, spend, end_spent}
 use Rattle.broker_types.specs.Used.{are_new, use_up}
 use Rattle.broker_types.specs.MapLaws.{get-put, get-without, get-keep, get-map_values, get-change, entries-map_values}

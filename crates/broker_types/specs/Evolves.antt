@@ -5,7 +5,7 @@ use Rattle.broker_types.specs.Text.{Text}
 use Rattle.broker_types.specs.Map.{get}
 use Rattle.broker_types.specs.Token.{Token, Lease}
 use Rattle.broker_types.specs.Broker.{Broker, Waiting}
-use Rattle.broker_types.specs.Places.{IsUsed, token_identifier, lease_identifier, lease_of}
+use Rattle.broker_types.specs.IdentifierPlaces.{IsUsed, token_identifier, lease_identifier, lease_of}
 
 -- the identifier was not given out before
 abbrev pub IsNew : Broker → Text → Type 0

@@ -4,7 +4,7 @@ use Rattle.std.proofs.lemmas.Option.{none-some}
 use Rattle.broker_types.specs.Text.{Text}
 use Rattle.broker_types.specs.Map.{get}
 use Rattle.broker_types.specs.Broker.{Broker}
-use Rattle.broker_types.specs.Places.{token_identifier, lease_identifier}
+use Rattle.broker_types.specs.IdentifierPlaces.{token_identifier, lease_identifier}
 use Rattle.broker_types.specs.Evolves.{Evolves, IsNew, LeaseHasEnded}
 use Rattle.broker_types.specs.OptionLaws.{found_or_not}
 

@@ -12,8 +12,9 @@ use Rattle.broker_types.specs.Map.{Map, get}
 use Rattle.broker_types.specs.Moment.{greatest_moment}
 use Rattle.broker_types.specs.Token.{Token, Tokens, Lease}
 use Rattle.broker_types.specs.Broker.{Broker, Waiting}
-use Rattle.broker_types.specs.Places.{Place, token, accessor, lease, credential, wrapping_token, wrapping_accessor}
-use Rattle.broker_types.specs.Places.{identifier_at, lease_of, token_identifier, lease_identifier}
+use Rattle.broker_types.specs.IdentifierPlaces.{Place, token, accessor, lease, credential, wrapping_token}
+use Rattle.broker_types.specs.IdentifierPlaces.{wrapping_accessor}
+use Rattle.broker_types.specs.IdentifierPlaces.{identifier_at, lease_of, token_identifier, lease_identifier}
 use Rattle.broker_types.specs.Evolves.{Evolves, HasEnded}
 use Rattle.broker_types.specs.OptionLaws.{mapped, found_or_not}
 use Rattle.broker_types.specs.Laws.{IsTree}

@@ -19,8 +19,9 @@ use Rattle.broker_types.specs.Name.{is_name}
 use Rattle.broker_types.specs.Token.{Token, Lease}
 use Rattle.broker_types.specs.Lineage.{ends_within}
 use Rattle.broker_types.specs.Broker.{Broker, Waiting, kv}
-use Rattle.broker_types.specs.Places.{Place, token, accessor, lease, credential, wrapping_token, wrapping_accessor}
-use Rattle.broker_types.specs.Places.{identifier_at, lease_of, IsUsed}
+use Rattle.broker_types.specs.IdentifierPlaces.{Place, token, accessor, lease, credential, wrapping_token}
+use Rattle.broker_types.specs.IdentifierPlaces.{wrapping_accessor}
+use Rattle.broker_types.specs.IdentifierPlaces.{identifier_at, lease_of, IsUsed}
 use Rattle.broker_types.specs.Sound.{Forms, Sound, IsSoundToken, IsSoundMount, IsSoundPolicy, IsShortText}
 use Rattle.broker_types.specs.First.{default_policy, root_token, first_broker}
 use Rattle.broker_types.specs.OptionLaws.{mapped}

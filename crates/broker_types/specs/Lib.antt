@@ -11,6 +11,7 @@ pub mod First
 pub mod FirstLaws
 pub mod Identifier
 pub mod IdentifierLaws
+pub mod IdentifierPlaces
 pub mod Laws
 pub mod Limits
 pub mod Lineage
@@ -25,7 +26,6 @@ pub mod NewPlaceLaws
 pub mod Operation
 pub mod OptionLaws
 pub mod Path
-pub mod Places
 pub mod PutLaws
 pub mod Refusal
 pub mod Refuse

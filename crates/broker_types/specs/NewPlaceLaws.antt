@@ -5,7 +5,7 @@ use Rattle.broker_types.specs.Text.{Text}
 use Rattle.broker_types.specs.Map.{Map, get, put}
 use Rattle.broker_types.specs.Broker.{Broker, Waiting}
 use Rattle.broker_types.specs.Evolves.{IsNew}
-use Rattle.broker_types.specs.Places.{Place, identifier_at, IsUsed, OnePlaceEach, AllUsed}
+use Rattle.broker_types.specs.IdentifierPlaces.{Place, identifier_at, IsUsed, OnePlaceEach, AllUsed}
 use Rattle.broker_types.specs.PutLaws.{put_there, put_keeps, put_filled}
 use Rattle.broker_types.specs.Sound.{SoundIdentifiers, IsIdentifier}
 use Rattle.broker_types.specs.Used.{use_up}

@@ -17,7 +17,7 @@ use Rattle.broker_types.specs.Token.{Token, Tokens, Lease}
 use Rattle.broker_types.specs.Secret.{Key, Version}
 use Rattle.broker_types.specs.Lineage.{ParentsExist, ChainsEnd}
 use Rattle.broker_types.specs.Broker.{Broker, Waiting, Mount, Role}
-use Rattle.broker_types.specs.Places.{IsUsed, OnePlaceEach, AllUsed}
+use Rattle.broker_types.specs.IdentifierPlaces.{IsUsed, OnePlaceEach, AllUsed}
 
 -- which texts are compact JSON objects, and which are policies: what the crates that read JSON say
 pub record Forms : Type 0 where

@@ -16,7 +16,7 @@ use Rattle.broker_types.specs.Token.{Token, Tokens}
 use Rattle.broker_types.specs.Lineage as lineage
 use Rattle.broker_types.specs.Lineage.{is_under}
 use Rattle.broker_types.specs.Broker.{Broker, Waiting, revoke}
-use Rattle.broker_types.specs.Places.{wrapping_token, token_identifier}
+use Rattle.broker_types.specs.IdentifierPlaces.{wrapping_token, token_identifier}
 use Rattle.broker_types.specs.Laws.{EndTokens}
 use Rattle.broker_types.specs.TextLaws.{same_self, same_true}
 use Rattle.broker_types.specs.MapLaws.{valued_is, without_is, get-without_self, get-change}

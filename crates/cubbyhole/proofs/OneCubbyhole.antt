@@ -12,7 +12,7 @@ use Rattle.records.specs.declared.kind.Kind.TheVariants as kind
 use Rattle.records.specs.declared.row.Row.{Row}
 use Rattle.records.specs.Children.{folder, children, keys_under}
 use Rattle.records.specs.Kind.{RowKey}
-use Rattle.records.specs.ListedLaws.{named, listed-sorted, find-listed}
+use Rattle.records.specs.ListedMapLaws.{named, listed-sorted, find-listed}
 use Rattle.records.specs.Splits.{slash}
 use Rattle.records.specs.Table.{table_of}
 use Rattle.records.specs.Transaction.{Rows, rows_under}

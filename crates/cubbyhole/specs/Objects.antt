@@ -6,7 +6,7 @@ use Rattle.records.specs.declared.kind.Kind.{Kind}
 use Rattle.records.specs.declared.kind.Kind.TheVariants as kind
 use Rattle.records.specs.declared.row.Row.{Row}
 use Rattle.records.specs.Children.{folder, children, keys_under}
-use Rattle.records.specs.Reading.{IsSomeIn}
+use Rattle.records.specs.RowReaders.{IsSomeIn}
 use Rattle.records.specs.RowForms.{cubby_row}
 use Rattle.records.specs.Rows.{token_len}
 use Rattle.records.specs.Splits.{slash}

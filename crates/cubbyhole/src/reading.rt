@@ -7,7 +7,7 @@ ghost use Rattle.broker_types.specs.Sound.{Forms, SoundTokens, IsShortText};
 ghost use Rattle.records.specs.declared.kind.Kind.TheVariants as kind;
 ghost use Rattle.records.specs.Calls.{IsReadFault, IsReading};
 ghost use Rattle.records.specs.Parts.{of_cubbyholes, Tells};
-ghost use Rattle.records.specs.Reading.{IsSomeIn, Reads, shown};
+ghost use Rattle.records.specs.RowReaders.{IsSomeIn, Reads, shown};
 ghost use Rattle.records.specs.RowForms.{cubby_row};
 ghost use Rattle.records.specs.Rows.{token_len};
 ghost use Rattle.records.specs.Table.{table};

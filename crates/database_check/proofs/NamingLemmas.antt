@@ -5,7 +5,7 @@ use Rattle.std.proofs.lemmas.Bool.{false≢true}
 use Rattle.broker_types.specs.declared.fault.Fault.{Fault}
 use Rattle.broker_types.specs.declared.fault.Fault.TheVariants.{Memory, Damaged}
 use Rattle.records.specs.declared.row.Row.{Row}
-use Rattle.records.specs.Reading.{Reads, ReadsWithMemory}
+use Rattle.records.specs.RowReaders.{Reads, ReadsWithMemory}
 
 is_ok : {X E : Type 0} → Result X E → Bool
 is_ok (Ok x) = true

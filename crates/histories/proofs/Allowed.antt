@@ -17,7 +17,7 @@ use Rattle.broker_types.specs.Answer.{Response}
 use Rattle.broker_types.specs.Broker.{Broker, Mount, Role}
 use Rattle.broker_types.specs.Names.{Names, names_of}
 use Rattle.broker_types.specs.Operation.{missing, nothing, plainly, reply, Done}
-use Rattle.broker_types.specs.Places.{OnePlaceEach}
+use Rattle.broker_types.specs.IdentifierPlaces.{OnePlaceEach}
 use Rattle.broker_types.specs.OptionLaws.{found_or_not, mapped_none}
 use Rattle.broker_types.specs.Refuse.{◌>>=◌, some_or, unless}
 use Rattle.broker_types.specs.Secret.{Key, Version}
@@ -92,7 +92,7 @@ use Rattle.histories.specs.Shown.{IsAccessorOf}
 use Rattle.histories.specs.Versions.{named}
 use Rattle.histories.proofs.Carried.{answers, carried_for, without_ttl}
 use Rattle.histories.proofs.Found.{both_new, comes, goes, held_by_token, held_by_waiting, lease_found, removes, sets}
-use Rattle.histories.proofs.Listed.{has_children, no_cons}
+use Rattle.histories.proofs.FolderChildren.{has_children, no_cons}
 use Rattle.histories.proofs.MayCreate.{created}
 use Rattle.histories.proofs.Placed.{one_place_still}
 use Rattle.histories.proofs.ReadsEnded.{current_is, number_is}

@@ -11,7 +11,7 @@ use Rattle.broker_types.specs.OptionLaws.{found_or_not}
 use Rattle.broker_types.specs.Spending.{one_less}
 use Rattle.broker_types.specs.Token.{Token}
 use Rattle.broker_model.specs.Order.{Outcome, permission_denied}
-use Rattle.broker_model.specs.Serving.{is_open}
+use Rattle.broker_model.specs.ServedAsks.{is_open}
 use Rattle.broker_model.specs.Step.{step}
 use Rattle.histories.specs.Callers.{AllServeAllowed, IsAllowed}
 use Rattle.histories.specs.History.{Asking, clocked, spent_by}

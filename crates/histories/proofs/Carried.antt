@@ -17,7 +17,7 @@ use Rattle.broker_model.specs.Order.{Outcome, Wrapped, finish, needed, permissio
 use Rattle.broker_model.specs.Order.{wrap_200, wrapped}
 use Rattle.broker_model.specs.Permission.{permits}
 use Rattle.broker_model.specs.Request.{Request}
-use Rattle.broker_model.specs.Serving.{is_open, is_wrapped, operated}
+use Rattle.broker_model.specs.ServedAsks.{is_open, is_wrapped, operated}
 use Rattle.broker_model.specs.Step.{request_of, step, traits}
 use Rattle.histories.specs.Callers.{IsAllowed}
 use Rattle.histories.specs.History.{Asking, clocked, spent_by}

@@ -14,8 +14,8 @@ use Rattle.broker_types.specs.Lineage.{is_under}
 use Rattle.broker_types.specs.Names.{names_of}
 use Rattle.broker_types.specs.Operation.{nothing, reply, Done}
 use Rattle.broker_types.specs.OptionLaws.{found_or_not}
-use Rattle.broker_types.specs.Places.{identifier_at, token_identifier}
-use Rattle.broker_types.specs.Places as place
+use Rattle.broker_types.specs.IdentifierPlaces.{identifier_at, token_identifier}
+use Rattle.broker_types.specs.IdentifierPlaces as place
 use Rattle.broker_types.specs.Refuse.{unless}
 use Rattle.broker_types.specs.RefuseLaws.{ok_step}
 use Rattle.broker_types.specs.Sound.{Sound}
@@ -39,7 +39,7 @@ use Rattle.broker_model.specs.Order.{unwrapped, wrap, wrapped}
 use Rattle.broker_model.specs.Permission.{permits}
 use Rattle.broker_model.specs.Request.{Request}
 use Rattle.broker_model.specs.Responses.{no_content}
-use Rattle.broker_model.specs.Serving.{is_open}
+use Rattle.broker_model.specs.ServedAsks.{is_open}
 use Rattle.broker_model.specs.Step.{request_of, step, traits}
 use Rattle.histories.specs.History.{Asking, clocked, spent_by}
 use Rattle.histories.specs.Open.{DiffersInWaiting}

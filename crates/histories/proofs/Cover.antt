@@ -7,7 +7,7 @@ use Rattle.std.proofs.lemmas.Option.{none-some, same_Some}
 use Rattle.broker_types.specs.Text.{Text, same}
 use Rattle.broker_types.specs.Map.{get}
 use Rattle.broker_types.specs.Broker.{Broker}
-use Rattle.broker_types.specs.Places.{IsUsed}
+use Rattle.broker_types.specs.IdentifierPlaces.{IsUsed}
 use Rattle.broker_model.specs.NewIdentifierLaws.{member_new}
 use Rattle.histories.specs.History.{Asking, AskedAt, History, given_out}
 use Rattle.histories.proofs.Keeping.{EachKeeps, EachMarks}

@@ -28,7 +28,7 @@ use Rattle.mounts.specs.Laws.{AreInOrder, FoundByForm}
 use Rattle.mounts.specs.Patterns.{pattern_found, same_verb}
 use Rattle.mounts.specs.Route.{Route, cut, methods_of, operation_for, route_at, route_by, route_of, within}
 use Rattle.mounts.specs.RouteRow.{RouteRow}
-use Rattle.mounts.specs.Table.{route_rows}
+use Rattle.mounts.specs.RouteTable.{route_rows}
 use Rattle.mounts.specs.Types.{engine_type, type_at, type_of}
 use Rattle.mounts.specs.declared.mount_type.MountType.{MountType}
 use Rattle.mounts.specs.declared.mount_type.MountType.TheVariants as type

@@ -10,7 +10,7 @@ use Rattle.broker_types.specs.Broker.{Broker, Mount, Waiting}
 use Rattle.broker_types.specs.Names.{names_of}
 use Rattle.broker_types.specs.Operation.{Done}
 use Rattle.broker_types.specs.OptionLaws.{found_or_not, mapped}
-use Rattle.broker_types.specs.Places.{lease_of}
+use Rattle.broker_types.specs.IdentifierPlaces.{lease_of}
 use Rattle.broker_types.specs.RefuseLaws.{no_ok, ok_step}
 use Rattle.broker_types.specs.Spending.{one_less, spend}
 use Rattle.broker_types.specs.Status.{status_code}

@@ -29,7 +29,7 @@ use Rattle.cubbyhole.specs.Cubbyhole.{object_at}
 use Rattle.kv2.specs.Secrets.{key_at}
 use Rattle.mounts.specs.Forms.{form_of, has_form, is_ending, nothing, segments}
 use Rattle.mounts.specs.Route.{Route, asks_sudo, cut, route_of, row_asks_sudo}
-use Rattle.mounts.specs.Table.{facts, route_rows}
+use Rattle.mounts.specs.RouteTable.{facts, route_rows}
 use Rattle.mounts.specs.declared.mount_type.MountType.TheVariants as mount
 use Rattle.mounts.specs.declared.operation.CubbyholeOperation.TheVariants as cubbyhole
 use Rattle.mounts.specs.declared.operation.Operation.{Operation}
@@ -41,7 +41,7 @@ use Rattle.policies.specs.Grants.{grants, rules_named, rules_of}
 use Rattle.policies.specs.Patterns.{tried}
 use Rattle.policies.specs.declared.pattern.Pattern.{Pattern}
 use Rattle.policies.specs.Policies.{is_root}
-use Rattle.policies.specs.Reading.{policy_of}
+use Rattle.policies.specs.PolicyTexts.{policy_of}
 use Rattle.policies.specs.Rules.{Rule}
 use Rattle.policies.specs.declared.capability.Capability.{Capability}
 use Rattle.policies.specs.declared.capability.Capability.TheVariants.{Create, Sudo, Update}

@@ -10,7 +10,7 @@ use Rattle.broker_types.specs.Broker as broker
 use Rattle.broker_types.specs.Broker.{Broker, Waiting}
 use Rattle.broker_types.specs.Names.{Names}
 use Rattle.broker_types.specs.Operation.{Done}
-use Rattle.broker_types.specs.Places.{lease_identifier, token_identifier}
+use Rattle.broker_types.specs.IdentifierPlaces.{lease_identifier, token_identifier}
 use Rattle.broker_types.specs.Refuse.{unless}
 use Rattle.broker_types.specs.RefuseLaws.{ok_step}
 use Rattle.broker_types.specs.Spending.{drop_waiting}

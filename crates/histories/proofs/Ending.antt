@@ -9,8 +9,9 @@ use Rattle.broker_types.specs.Broker.{Broker}
 use Rattle.broker_types.specs.Token.{Token, Lease}
 use Rattle.broker_types.specs.Evolves.{Evolves, HasEnded, IsTakenOut, OriginIsGone}
 use Rattle.broker_types.specs.OptionLaws.{found_or_not}
-use Rattle.broker_types.specs.Places.{IsUsed, Place, identifier_at, lease_of, token, lease, credential, wrapping_token}
-use Rattle.broker_types.specs.Places.{token_identifier, lease_identifier}
+use Rattle.broker_types.specs.IdentifierPlaces.{IsUsed, Place, identifier_at, lease_of, token, lease, credential}
+use Rattle.broker_types.specs.IdentifierPlaces.{wrapping_token}
+use Rattle.broker_types.specs.IdentifierPlaces.{token_identifier, lease_identifier}
 use Rattle.broker_types.specs.Sound.{SoundIdentifiers}
 use Rattle.std.specs.Prelude.{Bool, true, false}
 

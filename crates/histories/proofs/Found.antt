@@ -25,7 +25,7 @@ use Rattle.wrapping.specs.Wrapping.{has_accessor}
 use Rattle.leases.specs.Leases.{find}
 use Rattle.mounts.specs.Mounts.{enabled, engine_asked, may_go, plain_mount}
 use Rattle.policies.specs.Policies.{deleted, fixed, is_root, set}
-use Rattle.policies.specs.Reading.{is_policy, policy_of, unsupported}
+use Rattle.policies.specs.PolicyTexts.{is_policy, policy_of, unsupported}
 use Rattle.policies.specs.Rules.{Rule}
 use Rattle.api_json.specs.declared.mount_bodies.MountCreation.{MountCreation}
 use Rattle.broker_model.specs.parts.Tokens.{holder}

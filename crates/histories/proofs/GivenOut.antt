@@ -11,7 +11,7 @@ use Rattle.broker_types.specs.Broker.{Broker}
 use Rattle.broker_types.specs.Identifier.{id}
 use Rattle.broker_types.specs.IdentifierLaws.{id-same}
 use Rattle.broker_types.specs.FirstLaws.{first_sound}
-use Rattle.broker_types.specs.Places.{AllUsed, IsUsed, Place, identifier_at}
+use Rattle.broker_types.specs.IdentifierPlaces.{AllUsed, IsUsed, Place, identifier_at}
 use Rattle.broker_types.specs.Sound.{Forms}
 use Rattle.broker_types.specs.Used.{are_new}
 use Rattle.broker_model.specs.Laws.{OperationsDoAsTold}

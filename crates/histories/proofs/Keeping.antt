@@ -9,7 +9,7 @@ use Rattle.broker_types.specs.Used.{are_new, use_up}
 use Rattle.broker_model.specs.Order.{Outcome}
 use Rattle.broker_model.specs.Responses.{ok}
 use Rattle.histories.specs.History.{Asking, AskedAt, History, clocked}
-use Rattle.histories.specs.Kept.{KeepsReply}
+use Rattle.histories.specs.KeptResponses.{KeepsReply}
 
 -- The response of the origin o is handed out: it waited at the request's clock, its text is the answer, and neither its
 -- origin nor its wrapping token waits any more.

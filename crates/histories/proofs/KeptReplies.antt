@@ -17,7 +17,7 @@ use Rattle.broker_types.specs.Evolves.{Evolves, IsTakenOut}
 use Rattle.broker_types.specs.Names.{names_of}
 use Rattle.broker_types.specs.Operation.{reply, plainly, Done}
 use Rattle.broker_types.specs.OptionLaws.{found_or_not, mapped}
-use Rattle.broker_types.specs.Places.{token_identifier, wrapping_token}
+use Rattle.broker_types.specs.IdentifierPlaces.{token_identifier, wrapping_token}
 use Rattle.broker_types.specs.Refuse.{◌>>=◌, some_or}
 use Rattle.broker_types.specs.RefuseLaws.{ok_step}
 use Rattle.broker_types.specs.Sound.{Sound}
@@ -49,10 +49,10 @@ use Rattle.broker_model.specs.parts.Wrappings.{FoundResponse, found, found_at}
 use Rattle.broker_model.specs.parts.Wrappings.{found_under, handed_out, rewrapped, shown}
 use Rattle.broker_model.specs.parts.Wrappings.{act_on_wrappings}
 use Rattle.histories.specs.History.{AreAsked, Asking, AskedAt, Beginning, History, begun, clocked, spent_by}
-use Rattle.histories.specs.Kept.{EndsWrappingToken, HandedOutOnce, HandsOutKept}
-use Rattle.histories.specs.Kept.{HasAsClient, IsKeptReply, KeepsReply, Rewraps, SameReply}
-use Rattle.histories.specs.Kept.{looked_up_text, rewrapped_text, TakesTokenOut, Tells}
-use Rattle.histories.specs.Kept.{Unwraps, WaitedFirst, unwrapped_answer, unwrapped_body}
+use Rattle.histories.specs.KeptResponses.{EndsWrappingToken, HandedOutOnce, HandsOutKept}
+use Rattle.histories.specs.KeptResponses.{HasAsClient, IsKeptReply, KeepsReply, Rewraps, SameReply}
+use Rattle.histories.specs.KeptResponses.{looked_up_text, rewrapped_text, TakesTokenOut, Tells}
+use Rattle.histories.specs.KeptResponses.{Unwraps, WaitedFirst, unwrapped_answer, unwrapped_body}
 use Rattle.histories.specs.Revocation.{Revokes, RevokesAlone}
 use Rattle.histories.proofs.Cover.{one_birth}
 use Rattle.histories.proofs.Ending.{out_lasts}

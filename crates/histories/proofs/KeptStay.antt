@@ -13,7 +13,7 @@ use Rattle.broker_types.specs.Broker as broker
 use Rattle.broker_types.specs.Broker.{Broker, Waiting, waiting_ends}
 use Rattle.broker_types.specs.Names.{names_of}
 use Rattle.broker_types.specs.Operation.{Answered, Done, nothing}
-use Rattle.broker_types.specs.Places.{token_identifier, wrapping_token}
+use Rattle.broker_types.specs.IdentifierPlaces.{token_identifier, wrapping_token}
 use Rattle.broker_types.specs.Refuse.{◌>>=◌, some_or}
 use Rattle.broker_types.specs.RefuseLaws.{ok_step}
 use Rattle.broker_types.specs.Sound.{Sound}
@@ -50,7 +50,7 @@ use Rattle.broker_model.specs.parts.Tokens as tokens
 use Rattle.broker_model.specs.parts.Wrappings.{FoundResponse, act_on_wrappings, found}
 use Rattle.broker_model.specs.parts.Wrappings.{found_at, found_under, handed_out, rewrapped}
 use Rattle.histories.specs.History.{Asking, clocked}
-use Rattle.histories.specs.Kept.{Rewraps, TakesTokenOut, Unwraps}
+use Rattle.histories.specs.KeptResponses.{Rewraps, TakesTokenOut, Unwraps}
 use Rattle.histories.specs.KeptStay.{AllKeptResponsesStay, IsOver, moved_by}
 use Rattle.histories.specs.Revocation.{IsGranted, orphaning_by, revoked_by}
 use Rattle.histories.proofs.KeptReplies.{acted, bad, command_is, found_under_meant, handed_same}

@@ -17,7 +17,7 @@ use Rattle.broker_types.specs.SearchLaws.{kept_get}
 use Rattle.broker_types.specs.SpendingLaws.{evolves_self}
 use Rattle.broker_types.specs.Used.{are_new, use_up}
 use Rattle.histories.specs.History.{Asking, AskedAt, History, clocked, given_out}
-use Rattle.histories.specs.Kept.{KeepsReply}
+use Rattle.histories.specs.KeptResponses.{KeepsReply}
 use Rattle.histories.proofs.Ending.{origin_lasts}
 use Rattle.histories.proofs.Keeping.{EachKeeps, EachMarks, Keeps, WasBorn}
 use Rattle.histories.proofs.Used.{new_append}

@@ -9,8 +9,8 @@ use Rattle.broker_types.specs.Map.{get}
 use Rattle.broker_types.specs.Broker.{Broker}
 use Rattle.broker_types.specs.Evolves.{Evolves}
 use Rattle.broker_types.specs.OptionLaws.{found_or_not}
-use Rattle.broker_types.specs.Places.{lease_identifier, lease_of}
-use Rattle.broker_types.specs.Places as place
+use Rattle.broker_types.specs.IdentifierPlaces.{lease_identifier, lease_of}
+use Rattle.broker_types.specs.IdentifierPlaces as place
 use Rattle.broker_types.specs.SearchLaws.{kept_get}
 use Rattle.broker_types.specs.Sound.{Sound}
 use Rattle.broker_types.specs.Token.{Token, Lease}
@@ -18,7 +18,7 @@ use Rattle.broker_types.specs.TreeLaws.{alive_is}
 use Rattle.broker_model.specs.Forms.{forms}
 use Rattle.histories.specs.History.{Asking, clocked}
 use Rattle.broker_model.specs.EffectLaws.{chained}
-use Rattle.histories.specs.Kept.{unwrapped_body}
+use Rattle.histories.specs.KeptResponses.{unwrapped_body}
 use Rattle.histories.specs.Revocation.{IsLeaseDue, LacksLease}
 use Rattle.histories.proofs.Keeping.{Keeps}
 use Rattle.histories.proofs.LeasesGone.{stays_gone}

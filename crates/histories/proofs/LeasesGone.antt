@@ -6,13 +6,13 @@ use Rattle.broker_types.specs.Text.{Text}
 use Rattle.broker_types.specs.Map.{get}
 use Rattle.broker_types.specs.Broker.{Broker}
 use Rattle.broker_types.specs.Evolves.{Evolves}
-use Rattle.broker_types.specs.Places.{identifier_at, lease_identifier, lease_of}
-use Rattle.broker_types.specs.Places as place
+use Rattle.broker_types.specs.IdentifierPlaces.{identifier_at, lease_identifier, lease_of}
+use Rattle.broker_types.specs.IdentifierPlaces as place
 use Rattle.broker_types.specs.Sound.{Sound}
 use Rattle.broker_types.specs.Token.{Lease}
 use Rattle.broker_model.specs.Forms.{forms}
 use Rattle.histories.specs.History.{Asking}
-use Rattle.histories.specs.Kept.{unwrapped_body}
+use Rattle.histories.specs.KeptResponses.{unwrapped_body}
 use Rattle.histories.specs.Revocation.{LacksLease}
 use Rattle.histories.proofs.Ending.{IsLeaseGone, lease_lasts}
 use Rattle.histories.proofs.Keeping.{Keeps}

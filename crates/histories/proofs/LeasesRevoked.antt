@@ -13,7 +13,7 @@ use Rattle.broker_types.specs.Broker.{Broker, Mount}
 use Rattle.broker_types.specs.Names.{Names, names_of}
 use Rattle.broker_types.specs.Operation.{Done, nothing}
 use Rattle.broker_types.specs.OptionLaws.{found_or_not}
-use Rattle.broker_types.specs.Places.{lease_of}
+use Rattle.broker_types.specs.IdentifierPlaces.{lease_of}
 use Rattle.broker_types.specs.RefuseLaws.{no_ok, ok_step}
 use Rattle.broker_types.specs.SearchLaws.{kept_get}
 use Rattle.broker_types.specs.Status.{status_code}
@@ -40,7 +40,7 @@ use Rattle.broker_model.specs.declared.commands.MountCommand.TheVariants as of_m
 use Rattle.broker_model.specs.parts.Leases.{act_on_leases}
 use Rattle.broker_model.specs.parts.Mounts.{act_on_mounts, without_kept}
 use Rattle.histories.specs.History.{Asking, clocked}
-use Rattle.histories.specs.Kept.{unwrapped_body}
+use Rattle.histories.specs.KeptResponses.{unwrapped_body}
 use Rattle.histories.specs.LeaseEnds.{AllLeasesStayRevoked, EndsLease, NamesBelow, NamesMount, is_below}
 use Rattle.histories.proofs.Clients.{end_is}
 use Rattle.histories.proofs.Lasting.{asked_keeps, left_since}

@@ -12,6 +12,7 @@ pub mod Documented
 pub mod EffectsPlace
 pub mod Ending
 pub mod EventSecrets
+pub mod FolderChildren
 pub mod Folders
 pub mod Found
 pub mod GivenOut
@@ -26,7 +27,6 @@ pub mod LeaseRoutes
 pub mod LeasesDue
 pub mod LeasesGone
 pub mod LeasesRevoked
-pub mod Listed
 pub mod Marked
 pub mod MayCreate
 pub mod MountRoutes

@@ -10,7 +10,7 @@ use Rattle.broker_types.specs.MapLaws.{without_is}
 use Rattle.broker_types.specs.Broker.{Broker, Waiting}
 use Rattle.broker_types.specs.Names.{Names, names_of}
 use Rattle.broker_types.specs.Operation.{Done}
-use Rattle.broker_types.specs.Places.{IsUsed}
+use Rattle.broker_types.specs.IdentifierPlaces.{IsUsed}
 use Rattle.broker_types.specs.Used.{are_new, use_up}
 use Rattle.broker_types.specs.declared.ask.Verb.{Verb}
 use Rattle.broker_types.specs.declared.refusal.Refusal.{Refusal}

@@ -18,7 +18,7 @@ use Rattle.records.specs.Splits.{lacks, slash}
 use Rattle.mounts.specs.Forms.{are_bytes, parameter}
 use Rattle.mounts.specs.Laws.{AreInOrder, FoundByForm, NoneFoundByForm}
 use Rattle.mounts.specs.Route.{Route, operation_for, route_of}
-use Rattle.mounts.specs.Table.{route_rows}
+use Rattle.mounts.specs.RouteTable.{route_rows}
 use Rattle.mounts.specs.Types.{engine_type, fixed_type, type_at, type_of}
 use Rattle.mounts.specs.declared.mount_type.MountType.{MountType}
 use Rattle.mounts.specs.declared.mount_type.MountType.TheVariants as type

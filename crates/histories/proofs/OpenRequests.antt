@@ -22,7 +22,7 @@ use Rattle.broker_types.specs.declared.refusal.Reason.TheVariants as reason
 use Rattle.broker_types.specs.declared.words.Words.{Words}
 use Rattle.records.specs.ValueLaws.{ok_inj}
 use Rattle.mounts.specs.Route.{Route, cut, operation_at}
-use Rattle.mounts.specs.Table.{facts}
+use Rattle.mounts.specs.RouteTable.{facts}
 use Rattle.mounts.specs.declared.operation.Opens.{Opens}
 use Rattle.mounts.specs.declared.operation.Opens.TheVariants.{Never, Always, WithItsOwn}
 use Rattle.mounts.specs.declared.operation.Operation.{Operation}
@@ -39,7 +39,7 @@ use Rattle.broker_model.specs.Laws.{OperationsDoAsTold}
 use Rattle.broker_model.specs.Order.{Outcome, Wrapped, counted, finish, needed, permission_denied, serve, wrap, wrapped}
 use Rattle.broker_model.specs.Permission.{permits}
 use Rattle.broker_model.specs.Request.{Request}
-use Rattle.broker_model.specs.Serving.{is_open}
+use Rattle.broker_model.specs.ServedAsks.{is_open}
 use Rattle.broker_model.specs.Step.{request_of, step, traits}
 use Rattle.broker_model.specs.declared.commands.WrappingCommand.{WrappingCommand}
 use Rattle.broker_model.specs.declared.commands.WrappingCommand.TheVariants as response

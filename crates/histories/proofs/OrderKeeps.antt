@@ -18,7 +18,7 @@ use Rattle.broker_types.specs.EvolvesLaws.{evolves_trans}
 use Rattle.broker_types.specs.Names.{Names, names_of}
 use Rattle.broker_types.specs.OptionLaws.{is_nothing}
 use Rattle.broker_types.specs.Operation.{Answered, nothing, reply, kept_text, missing, Done}
-use Rattle.broker_types.specs.Places.{IsUsed, token_identifier, wrapping_token}
+use Rattle.broker_types.specs.IdentifierPlaces.{IsUsed, token_identifier, wrapping_token}
 use Rattle.broker_types.specs.RemovalLaws.{at_moment_evolves}
 use Rattle.broker_types.specs.SearchLaws.{kept_get}
 use Rattle.broker_types.specs.Sound.{SoundIdentifiers, SoundWaiting}
@@ -31,7 +31,7 @@ use Rattle.broker_types.specs.declared.refusal.Refusal.{Refusal}
 use Rattle.wrapping.specs.SoundLaws.{store_evolves}
 use Rattle.wrapping.specs.Wrapping.{with_waiting}
 use Rattle.histories.specs.History.{Asking, clocked}
-use Rattle.histories.specs.Kept.{KeepsReply, first_entry}
+use Rattle.histories.specs.KeptResponses.{KeepsReply, first_entry}
 use Rattle.histories.proofs.Keeping.{HandedOut, IsBorn, Keeps}
 use Rattle.broker_model.specs.Order.{Outcome}
 use Rattle.histories.proofs.Lasting.{waited_before}

@@ -11,9 +11,9 @@ use Rattle.broker_types.specs.MapLaws.{valued_is, without_is}
 use Rattle.broker_types.specs.Broker.{Broker, Waiting, at_moment, revoke, revoke_orphan, waiting_ends}
 use Rattle.broker_types.specs.Lineage.{is_under, orphaned_by, with_live_leases}
 use Rattle.broker_types.specs.OptionLaws.{mapped}
-use Rattle.broker_types.specs.Places.{OnePlaceEach, Place, identifier_at, lease_identifier, lease_of}
-use Rattle.broker_types.specs.Places.{token_identifier}
-use Rattle.broker_types.specs.Places as place
+use Rattle.broker_types.specs.IdentifierPlaces.{OnePlaceEach, Place, identifier_at, lease_identifier, lease_of}
+use Rattle.broker_types.specs.IdentifierPlaces.{token_identifier}
+use Rattle.broker_types.specs.IdentifierPlaces as place
 use Rattle.broker_types.specs.SearchLaws.{kept_get}
 use Rattle.broker_types.specs.Spending.{drop_waiting, end_spent, is_spent, one_less, spend}
 use Rattle.broker_types.specs.Token.{Token, Tokens, Lease}

@@ -32,7 +32,7 @@ use Rattle.broker_model.specs.Order.{permission_denied, response_to, serve}
 use Rattle.broker_model.specs.Order.{unwrapped}
 use Rattle.broker_model.specs.Permission.{may_ask, permits}
 use Rattle.broker_model.specs.Request.{Request}
-use Rattle.broker_model.specs.Serving.{operated}
+use Rattle.broker_model.specs.ServedAsks.{operated}
 use Rattle.broker_model.specs.Step.{request_of, step, traits}
 use Rattle.broker_model.specs.declared.commands.WrappingCommand.TheVariants as response
 use Rattle.histories.specs.Refused.{Calls, ChangesNothingElse, HasNoCaller, HasResponse, IsDenial, PoliciesDecide}

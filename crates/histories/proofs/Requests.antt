@@ -44,7 +44,7 @@ use Rattle.broker_model.specs.declared.commands.WrappingCommand.TheVariants as r
 use Rattle.broker_model.specs.parts.WrappingCommands.{opens, token_meant, wrapping_command}
 use Rattle.broker_model.specs.parts.Wrappings.{act_on_wrappings}
 use Rattle.histories.specs.History.{AreAsked, Asking, AskedAt, History, IsAsked, clocked}
-use Rattle.histories.specs.Kept.{answer_by, object_text, unwrapped_answer, unwrapped_body}
+use Rattle.histories.specs.KeptResponses.{answer_by, object_text, unwrapped_answer, unwrapped_body}
 use Rattle.histories.proofs.Keeping.{EachKeeps, Keeps}
 use Rattle.histories.proofs.OrderCases.{IsServed, spent}
 use Rattle.histories.proofs.OrderKeeps.{request_keeps}

@@ -16,7 +16,7 @@ use Rattle.broker_model.specs.Act.{act}
 use Rattle.broker_model.specs.Command.{command_of, on_wrapping}
 use Rattle.broker_model.specs.Order.{finish, response_to}
 use Rattle.broker_model.specs.Responses.{ok}
-use Rattle.broker_model.specs.Serving.{is_open, operated}
+use Rattle.broker_model.specs.ServedAsks.{is_open, operated}
 use Rattle.broker_model.specs.Step.{step, traits}
 use Rattle.broker_model.specs.declared.commands.WrappingCommand.{WrappingCommand}
 use Rattle.broker_model.specs.declared.commands.WrappingCommand.TheVariants as command

@@ -18,8 +18,8 @@ use Rattle.broker_types.specs.Laws.{IsTree}
 use Rattle.broker_types.specs.Names.{Names, names_of}
 use Rattle.broker_types.specs.Operation.{Answered, nothing, reply, kept_text, missing, Done}
 use Rattle.broker_types.specs.OptionLaws.{found_or_not}
-use Rattle.broker_types.specs.Places.{lease_of, token_identifier}
-use Rattle.broker_types.specs.Places as place
+use Rattle.broker_types.specs.IdentifierPlaces.{lease_of, token_identifier}
+use Rattle.broker_types.specs.IdentifierPlaces as place
 use Rattle.broker_types.specs.Refuse.{◌>>=◌, some_or, unless}
 use Rattle.broker_types.specs.RemovalLaws.{at_moment_ends, at_moment_evolves}
 use Rattle.broker_types.specs.Sound.{Sound}
@@ -47,7 +47,7 @@ use Rattle.broker_model.specs.Order.{serve, unwrapped, wrapped}
 use Rattle.broker_model.specs.Permission.{permits}
 use Rattle.broker_model.specs.Request.{Request}
 use Rattle.broker_model.specs.Responses.{ok, no_content}
-use Rattle.broker_model.specs.Serving.{is_open}
+use Rattle.broker_model.specs.ServedAsks.{is_open}
 use Rattle.broker_model.specs.Step.{request_of, step, traits}
 use Rattle.broker_model.specs.Traits.{wrapping_names}
 use Rattle.broker_model.specs.declared.commands.TokenCommand.{TokenCommand}
@@ -57,7 +57,7 @@ use Rattle.broker_model.specs.declared.commands.WrappingCommand.TheVariants as r
 use Rattle.broker_model.specs.parts.Tokens.{act_on_tokens, holder, revoke, revoke_alone}
 use Rattle.broker_model.specs.parts.Wrappings.{FoundResponse, found, found_under, rewrapped, act_on_wrappings}
 use Rattle.histories.specs.History.{AreAsked, Asking, AskedAt, History, clocked, spent_by}
-use Rattle.histories.specs.Kept.{unwrapped_body}
+use Rattle.histories.specs.KeptResponses.{unwrapped_body}
 use Rattle.histories.specs.Revocation.{EndsToken, FindsNone, IsDue, IsGone}
 use Rattle.histories.specs.Revocation.{IsGranted, Revocation, Revokes, RevokesAlone}
 use Rattle.histories.specs.Revocation.{with_later_leases}

@@ -24,7 +24,7 @@ use Rattle.mounts.specs.Patterns.{has_pattern}
 use Rattle.mounts.specs.Route.{Route, cut, methods_of, operation_at, operation_for}
 use Rattle.mounts.specs.Route.{route_at, route_by, route_of, within}
 use Rattle.mounts.specs.RouteRow.{RouteRow}
-use Rattle.mounts.specs.Table.{facts, route_rows}
+use Rattle.mounts.specs.RouteTable.{facts, route_rows}
 use Rattle.mounts.specs.Types.{fixed_type, type_at, type_of}
 use Rattle.mounts.specs.declared.mount_type.MountType.{MountType}
 use Rattle.mounts.specs.declared.mount_type.MountType.TheVariants as mount

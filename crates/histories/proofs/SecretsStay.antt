@@ -42,7 +42,7 @@ use Rattle.broker_model.specs.Step.{request_of, step, traits}
 use Rattle.broker_model.specs.declared.commands.SecretCommand.TheVariants as command
 use Rattle.broker_model.specs.parts.Place.{Place}
 use Rattle.histories.specs.History.{Asking, clocked}
-use Rattle.histories.specs.Secrets.{AllSecretsStay}
+use Rattle.histories.specs.SecretsStay.{AllSecretsStay}
 use Rattle.histories.proofs.EventSecrets.{end_same, spent_same, wrapped_same}
 use Rattle.histories.proofs.InOrder.{in_order}
 use Rattle.histories.proofs.OrderCases.{spent}

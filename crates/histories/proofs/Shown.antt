@@ -15,7 +15,7 @@ use Rattle.broker_types.specs.Broker.{Broker}
 use Rattle.broker_types.specs.Names.{Names, names_of}
 use Rattle.broker_types.specs.Operation.{reply, Done}
 use Rattle.broker_types.specs.OptionLaws.{found_or_not, mapped}
-use Rattle.broker_types.specs.Places.{OnePlaceEach, lease_of}
+use Rattle.broker_types.specs.IdentifierPlaces.{OnePlaceEach, lease_of}
 use Rattle.broker_types.specs.PutLaws.{put_filled, put_keeps, put_there}
 use Rattle.broker_types.specs.Refuse.{some_or, unless}
 use Rattle.broker_types.specs.RefuseLaws.{no_ok, ok_step}
@@ -59,7 +59,7 @@ use Rattle.histories.specs.History.{Asking, clocked, spent_by}
 use Rattle.histories.specs.Shown.{AllAnswersShow, IsAccessorOf, IsPolicyName, IsValid, Lists, ListsMounts, SaysValid}
 use Rattle.histories.specs.Shown.{ShowsHolder, ShowsLease, ShowsPolicy, ShowsRole, ShowsSecret, ShowsSettings}
 use Rattle.histories.specs.Shown.{ShowsToken, Succeeds, version_shown}
-use Rattle.histories.specs.Kept.{answer_by, unwrapped_answer, unwrapped_body}
+use Rattle.histories.specs.KeptResponses.{answer_by, unwrapped_answer, unwrapped_body}
 use Rattle.histories.specs.Revocation.{IsClient}
 use Rattle.histories.specs.Versions.{named as named_secret}
 use Rattle.histories.proofs.Clients.{from_clock}

@@ -38,7 +38,7 @@ use Rattle.broker_model.specs.parts.TokenReplies.{auth_reply}
 use Rattle.broker_model.specs.parts.Tokens.{known}
 use Rattle.histories.specs.Creations.{GivesToken}
 use Rattle.histories.specs.History.{Asking, clocked, spent_by}
-use Rattle.histories.specs.Kept.{telling_body, unwrapped_body}
+use Rattle.histories.specs.KeptResponses.{telling_body, unwrapped_body}
 use Rattle.histories.specs.Laws.{AllMadeAsAllowed}
 use Rattle.histories.specs.Paths.{CreatesAtPath}
 use Rattle.histories.specs.Revocation.{has_no_use}

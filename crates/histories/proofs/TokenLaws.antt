@@ -16,7 +16,7 @@ use Rattle.broker_types.specs.MapLaws.{no_entry, one_entry}
 use Rattle.broker_types.specs.Broker.{Broker}
 use Rattle.broker_types.specs.Evolves.{WasBefore}
 use Rattle.broker_types.specs.First.{root_token}
-use Rattle.broker_types.specs.Places.{lease_of}
+use Rattle.broker_types.specs.IdentifierPlaces.{lease_of}
 use Rattle.broker_types.specs.Identifier.{id}
 use Rattle.broker_types.specs.TokenText.{token_text}
 use Rattle.broker_types.specs.TreeLaws.{alive_is}

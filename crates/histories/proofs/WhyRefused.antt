@@ -42,7 +42,7 @@ use Rattle.broker_model.specs.Command.{Command, on_cubbyhole, on_issued, on_leas
 use Rattle.broker_model.specs.Order.{Outcome, Wrapped, finish, wrapped, wraps}
 use Rattle.broker_model.specs.Permission.{permits}
 use Rattle.broker_model.specs.Request.{Request}
-use Rattle.broker_model.specs.Serving.{operated}
+use Rattle.broker_model.specs.ServedAsks.{operated}
 use Rattle.broker_model.specs.Step.{request_of, step, traits}
 use Rattle.broker_model.specs.declared.commands.CubbyholeCommand.TheVariants as of_cubbyhole
 use Rattle.broker_model.specs.declared.commands.IssuedCommand.TheVariants as of_issued

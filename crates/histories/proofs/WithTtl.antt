@@ -27,7 +27,7 @@ use Rattle.broker_model.specs.Command.{on_secret, on_token, on_wrapping}
 use Rattle.broker_model.specs.Order.{Outcome, Wrapped, finish, needed, response_to, unwrapped, wrap_200}
 use Rattle.broker_model.specs.Permission.{permits}
 use Rattle.broker_model.specs.Request.{Request}
-use Rattle.broker_model.specs.Serving.{is_wrapped, operated}
+use Rattle.broker_model.specs.ServedAsks.{is_wrapped, operated}
 use Rattle.broker_model.specs.Step.{request_of, step, traits, unwrapped_ask}
 use Rattle.broker_model.specs.Traits.{names_needed}
 use Rattle.broker_model.specs.declared.commands.IssuedCommand.TheVariants as of_issued
@@ -38,7 +38,7 @@ use Rattle.broker_model.specs.declared.commands.WrappingCommand.TheVariants as o
 use Rattle.histories.specs.Allowed.{AllNew, identifiers_made}
 use Rattle.histories.specs.Callers.{IsAllowed}
 use Rattle.histories.specs.History.{Asking, clocked, spent_by}
-use Rattle.histories.specs.Kept.{answer_by, unwrapped_answer}
+use Rattle.histories.specs.KeptResponses.{answer_by, unwrapped_answer}
 use Rattle.histories.specs.Refused.{PoliciesDecide}
 use Rattle.histories.proofs.Carried.{carried_for, leads_to, never_wrapped}
 use Rattle.histories.proofs.Requests.{command_plain}

@@ -5,7 +5,7 @@ use Rattle.std.specs.Map.{lookup}
 use Rattle.std.proofs.Common.{refl, ◌∙◌, ap, arith}
 use Rattle.std.proofs.Math.Seq.{take-append_seam}
 use Rattle.broker_types.specs.Text.{Text, same}
-use Rattle.policies.specs.Reading.{ends_in_star, pattern_of, star, word_named}
+use Rattle.policies.specs.PolicyTexts.{ends_in_star, pattern_of, star, word_named}
 use Rattle.policies.specs.declared.capability.Capability.TheVariants.{Create, Delete, List, Read, Sudo, Update}
 use Rattle.policies.specs.declared.capability.Word.TheVariants.{Deny, Grant, Patch}
 use Rattle.policies.specs.declared.pattern.Pattern.TheVariants.{Exact, Prefix}

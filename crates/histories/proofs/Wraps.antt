@@ -21,7 +21,7 @@ use Rattle.broker_model.specs.Request.{Request}
 use Rattle.broker_model.specs.Step.{request_of, step, traits}
 use Rattle.broker_model.specs.declared.commands.WrappingCommand.TheVariants as of_response
 use Rattle.histories.specs.History.{Asking, clocked}
-use Rattle.histories.specs.Kept.{KeepsReply, stays_plain, unwrapped_body}
+use Rattle.histories.specs.KeptResponses.{KeepsReply, stays_plain, unwrapped_body}
 use Rattle.histories.proofs.OrderCases.{spent}
 use Rattle.histories.proofs.OrderKeeps.{was_kept}
 use Rattle.histories.proofs.Requests.{means_at_clock, tells_body}

@@ -12,14 +12,14 @@ use Rattle.broker_types.specs.Broker.{Broker, Engine, Mount, Role, Waiting}
 use Rattle.broker_types.specs.Evolves.{IsNew}
 use Rattle.broker_types.specs.Name.{is_name}
 use Rattle.broker_types.specs.Names.{names_of}
-use Rattle.broker_types.specs.Places.{lease_of}
+use Rattle.broker_types.specs.IdentifierPlaces.{lease_of}
 use Rattle.broker_types.specs.Secret.{Key, Version}
 use Rattle.broker_types.specs.Status.{status_code}
 use Rattle.broker_types.specs.Token.{Lease, Token}
 use Rattle.broker_types.specs.declared.status.Status.TheVariants as status
 use Rattle.records.specs.Children.{has}
 use Rattle.records.specs.Splits.{slash}
-use Rattle.policies.specs.Reading.{is_policy}
+use Rattle.policies.specs.PolicyTexts.{is_policy}
 use Rattle.api_json.specs.declared.lease_bodies.LeaseRenewal.{LeaseRenewal}
 use Rattle.api_json.specs.declared.mount_bodies.MountCreation.{MountCreation}
 use Rattle.api_json.specs.declared.secret_bodies.SecretWrite.{SecretWrite}
@@ -28,7 +28,7 @@ use Rattle.api_json.specs.declared.token_bodies.TokenRenewal.{TokenRenewal}
 use Rattle.broker_model.specs.Command.{Command, command_of, on_cubbyhole, on_issued, on_lease, on_secret, on_token}
 use Rattle.broker_model.specs.Command.{on_mount, on_policy, on_wrapping}
 use Rattle.broker_model.specs.Responses.{no_content, ok}
-use Rattle.broker_model.specs.Serving.{is_open}
+use Rattle.broker_model.specs.ServedAsks.{is_open}
 use Rattle.broker_model.specs.declared.commands.CubbyholeCommand.{CubbyholeCommand}
 use Rattle.broker_model.specs.declared.commands.CubbyholeCommand.TheVariants as cubbyhole
 use Rattle.broker_model.specs.declared.commands.IssuedCommand.{IssuedCommand}
@@ -48,7 +48,7 @@ use Rattle.broker_model.specs.parts.Place.{Place}
 use Rattle.histories.specs.Callers.{IsAllowed}
 use Rattle.histories.specs.Creations.{AsksNoEnd, HasRoot, HasSudo}
 use Rattle.histories.specs.History.{AreAsked, Asking, AskedAt, History, clocked}
-use Rattle.histories.specs.Kept.{unwrapped_answer}
+use Rattle.histories.specs.KeptResponses.{unwrapped_answer}
 use Rattle.histories.specs.Paths.{path_of}
 use Rattle.histories.specs.Settings.{MeansEngine}
 use Rattle.histories.specs.Shown.{IsAccessorOf}

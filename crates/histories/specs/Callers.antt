@@ -4,7 +4,7 @@ use Rattle.broker_types.specs.Text.{Text}
 use Rattle.broker_types.specs.Map.{without}
 use Rattle.broker_types.specs.Broker.{Broker}
 use Rattle.broker_types.specs.Token.{Token}
-use Rattle.broker_model.specs.Serving.{is_open}
+use Rattle.broker_model.specs.ServedAsks.{is_open}
 use Rattle.histories.specs.History.{AreAsked, Asking, AskedAt, History, clocked, spent_by}
 use Rattle.histories.specs.Refused.{Calls, HasNoCaller, HasResponse, IsDenial, IsDenied, is_granted}
 

@@ -26,7 +26,7 @@ use Rattle.broker_model.specs.declared.commands.TokenCommand.TheVariants as toke
 use Rattle.broker_model.specs.declared.making.Making.{Making}
 use Rattle.broker_model.specs.declared.making.Making.TheVariants.{WithoutParent}
 use Rattle.histories.specs.History.{Asking, AskedAt, History, clocked}
-use Rattle.histories.specs.Kept.{telling_body, unwrapped_body}
+use Rattle.histories.specs.KeptResponses.{telling_body, unwrapped_body}
 use Rattle.histories.specs.Paths.{path_of}
 use Rattle.histories.specs.Revocation.{IsMade, WasToken}
 

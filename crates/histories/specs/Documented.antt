@@ -21,7 +21,7 @@ use Rattle.mounts.specs.declared.operation.CubbyholeOperation.TheVariants as cub
 use Rattle.mounts.specs.declared.operation.Operation.TheVariants.{Cubbyholes, Secrets}
 use Rattle.mounts.specs.declared.operation.SecretOperation.TheVariants as secret
 use Rattle.policies.specs.Grants.{grants}
-use Rattle.policies.specs.Reading.{pattern_of, word_named}
+use Rattle.policies.specs.PolicyTexts.{pattern_of, word_named}
 use Rattle.policies.specs.declared.capability.Capability.{Capability}
 use Rattle.policies.specs.declared.capability.Capability.TheVariants as capability
 use Rattle.policies.specs.declared.capability.Word.{Word}

@@ -6,7 +6,7 @@ use Rattle.broker_types.specs.Map.{get}
 use Rattle.broker_types.specs.Broker.{Broker, Waiting}
 use Rattle.broker_types.specs.Evolves.{IsNew}
 use Rattle.broker_types.specs.Identifier.{id}
-use Rattle.broker_types.specs.Places.{AllUsed, IsUsed, Place, identifier_at}
+use Rattle.broker_types.specs.IdentifierPlaces.{AllUsed, IsUsed, Place, identifier_at}
 use Rattle.histories.specs.History.{Asking, AskedAt, Beginning, History, clocked, given_out}
 
 -- the identifier was in the place before the event, and at its clock still

@@ -7,7 +7,7 @@ use Rattle.histories.specs.Creations.{MadeAsAllowed}
 use Rattle.histories.specs.Disabled.{DisabledMountsGo}
 use Rattle.histories.specs.History.{AreAsked, Beginning, History, begun}
 use Rattle.histories.specs.Identifiers.{GivesOutNew, NoIdentifierTwice}
-use Rattle.histories.specs.Kept.{HandedOutOnce, HandsOutKept, SameReply}
+use Rattle.histories.specs.KeptResponses.{HandedOutOnce, HandsOutKept, SameReply}
 use Rattle.histories.specs.KeptStay.{KeptResponsesStay}
 use Rattle.histories.specs.LeaseEnds.{LeasesStayRevoked}
 use Rattle.histories.specs.LeaseOwners.{LeasesAreOfCallers}

@@ -7,7 +7,7 @@ use Rattle.broker_types.specs.Broker.{Broker, Waiting}
 use Rattle.broker_types.specs.Names.{names_of}
 use Rattle.broker_types.specs.TokenText.{token_text}
 use Rattle.histories.specs.History.{AreAsked, Asking, AskedAt, History, clocked}
-use Rattle.histories.specs.Kept.{Rewraps, TakesTokenOut, Unwraps}
+use Rattle.histories.specs.KeptResponses.{Rewraps, TakesTokenOut, Unwraps}
 
 -- The time of the response w is over with the request: its TTL after its wrapping token was made is at or before the
 -- later of the request's moment and the clock before it.

@@ -5,7 +5,7 @@ use Rattle.broker_types.specs.Evolves.{Evolves}
 use Rattle.histories.specs.Creations.{MadeAsAllowed}
 use Rattle.histories.specs.History.{AreAsked, AreSteps, Asking, AskedAt, Beginning, History, begun}
 use Rattle.histories.specs.Identifiers.{AreUsed, GivesOutNew, NoIdentifierTwice}
-use Rattle.histories.specs.Kept.{HandedOutOnce, HandsOutKept, SameReply}
+use Rattle.histories.specs.KeptResponses.{HandedOutOnce, HandsOutKept, SameReply}
 use Rattle.histories.specs.LeaseOwners.{LeasesAreOfCallers}
 use Rattle.histories.specs.Lifetimes.{AllEndInTime, TokensEndInTime}
 use Rattle.histories.specs.Own.{OwnStays}

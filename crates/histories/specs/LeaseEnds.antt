@@ -7,7 +7,7 @@ use Rattle.broker_types.specs.Text.{Text}
 use Rattle.broker_types.specs.Map.{get}
 use Rattle.broker_types.specs.Token.{Lease}
 use Rattle.broker_types.specs.Broker.{Broker}
-use Rattle.broker_types.specs.Places.{lease_of}
+use Rattle.broker_types.specs.IdentifierPlaces.{lease_of}
 use Rattle.broker_types.specs.declared.status.Status.TheVariants as status
 use Rattle.broker_model.specs.Command.{Command, on_lease, on_mount, command_of}
 use Rattle.broker_model.specs.Responses.{no_content}

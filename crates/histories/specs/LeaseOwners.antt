@@ -7,7 +7,7 @@ use Rattle.broker_types.specs.Broker.{Role}
 use Rattle.broker_types.specs.Token.{Token, Lease}
 use Rattle.broker_types.specs.Evolves.{WasBefore}
 use Rattle.broker_types.specs.Names.{names_of}
-use Rattle.broker_types.specs.Places.{lease_of}
+use Rattle.broker_types.specs.IdentifierPlaces.{lease_of}
 use Rattle.broker_types.specs.declared.status.Status.TheVariants as status
 use Rattle.records.specs.Splits.{slash}
 use Rattle.api_json.specs.Objects.{credential_object}
@@ -16,7 +16,7 @@ use Rattle.broker_model.specs.Command.{on_issued, command_of}
 use Rattle.broker_model.specs.declared.commands.IssuedCommand.TheVariants as issued
 use Rattle.broker_model.specs.parts.Place.{Place}
 use Rattle.histories.specs.History.{Asking, AskedAt, History, clocked}
-use Rattle.histories.specs.Kept.{unwrapped_body}
+use Rattle.histories.specs.KeptResponses.{unwrapped_body}
 use Rattle.histories.specs.Revocation.{IsClient}
 
 -- The lease is one of the role that is made now. It lasts at most as long as the role says, and 32 days if that says

@@ -6,7 +6,7 @@ pub mod Documented
 pub mod History
 pub mod Identifiers
 pub mod KeepsLaws
-pub mod Kept
+pub mod KeptResponses
 pub mod KeptStay
 pub mod Laws
 pub mod LeaseEnds
@@ -19,7 +19,7 @@ pub mod Own
 pub mod Paths
 pub mod Refused
 pub mod Revocation
-pub mod Secrets
+pub mod SecretsStay
 pub mod Settings
 pub mod Shown
 pub mod Statuses

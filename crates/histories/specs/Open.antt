@@ -7,7 +7,7 @@ use Rattle.broker_types.specs.declared.ask.Ask.{Ask}
 use Rattle.broker_types.specs.declared.ask.Verb.TheVariants as verb
 use Rattle.broker_types.specs.declared.words.Words.{Words}
 use Rattle.broker_model.specs.Command.{Command, on_wrapping, command_of}
-use Rattle.broker_model.specs.Serving.{is_open}
+use Rattle.broker_model.specs.ServedAsks.{is_open}
 use Rattle.broker_model.specs.Step.{step}
 use Rattle.broker_model.specs.declared.commands.WrappingCommand.{WrappingCommand}
 use Rattle.broker_model.specs.declared.commands.WrappingCommand.TheVariants as response

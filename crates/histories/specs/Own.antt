@@ -6,7 +6,7 @@ use Rattle.broker_types.specs.Map.{Map, get, keys}
 use Rattle.broker_types.specs.Token.{Token, Lease}
 use Rattle.broker_types.specs.Lineage.{is_under}
 use Rattle.broker_types.specs.Names.{names_of}
-use Rattle.broker_types.specs.Places.{lease_of}
+use Rattle.broker_types.specs.IdentifierPlaces.{lease_of}
 use Rattle.broker_types.specs.declared.status.Status.TheVariants as status
 use Rattle.records.specs.Children.{children, folder}
 use Rattle.api_json.specs.Objects.{keys_object}
@@ -20,7 +20,7 @@ use Rattle.broker_model.specs.declared.commands.LeaseCommand.TheVariants as leas
 use Rattle.broker_model.specs.declared.commands.TokenCommand.{TokenCommand}
 use Rattle.broker_model.specs.declared.commands.TokenCommand.TheVariants as token
 use Rattle.histories.specs.History.{Asking, AskedAt, History, clocked, spent_by}
-use Rattle.histories.specs.Kept.{unwrapped_answer}
+use Rattle.histories.specs.KeptResponses.{unwrapped_answer}
 use Rattle.histories.specs.LeaseEnds.{RevokesLease}
 use Rattle.histories.specs.LeaseOwners.{IsIssuedTo}
 use Rattle.histories.specs.Revocation.{IsClient, IsDue, IsMade, Revokes, RevokesAlone, WasToken}

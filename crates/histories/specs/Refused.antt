@@ -21,7 +21,7 @@ use Rattle.policies.specs.declared.capability.Capability.TheVariants.{Sudo}
 use Rattle.broker_model.specs.Capabilities.{asked}
 use Rattle.broker_model.specs.Command.{on_wrapping, command_of}
 use Rattle.broker_model.specs.Order.{Outcome, finish, permission_denied}
-use Rattle.broker_model.specs.Serving.{is_open, operated}
+use Rattle.broker_model.specs.ServedAsks.{is_open, operated}
 use Rattle.broker_model.specs.Step.{step}
 use Rattle.broker_model.specs.declared.commands.WrappingCommand.TheVariants as of_responses
 

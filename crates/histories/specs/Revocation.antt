@@ -9,7 +9,7 @@ use Rattle.broker_types.specs.Token.{Token, Tokens, Lease}
 use Rattle.broker_types.specs.Lineage.{is_under}
 use Rattle.broker_types.specs.Broker.{Broker}
 use Rattle.broker_types.specs.Names.{names_of}
-use Rattle.broker_types.specs.Places.{lease_of, lease_identifier}
+use Rattle.broker_types.specs.IdentifierPlaces.{lease_of, lease_identifier}
 use Rattle.broker_types.specs.Spending.{is_spent}
 use Rattle.broker_types.specs.TokenText.{token_text}
 use Rattle.broker_types.specs.Used.{are_new}
@@ -24,7 +24,7 @@ use Rattle.api_json.specs.declared.token_bodies.TokenCreation.{TokenCreation}
 use Rattle.broker_model.specs.Command.{Command, on_token, on_wrapping, command_of}
 use Rattle.broker_model.specs.Order.{permission_denied}
 use Rattle.broker_model.specs.Responses.{no_content}
-use Rattle.broker_model.specs.Serving.{is_open}
+use Rattle.broker_model.specs.ServedAsks.{is_open}
 use Rattle.broker_model.specs.Traits.{wrapping_names}
 use Rattle.broker_model.specs.declared.commands.TokenCommand.{TokenCommand}
 use Rattle.broker_model.specs.declared.commands.TokenCommand.TheVariants as token

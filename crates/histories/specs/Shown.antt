@@ -9,7 +9,7 @@ use Rattle.broker_types.specs.Text.{Text}
 use Rattle.broker_types.specs.Map.{Map, entries, get, keys}
 use Rattle.broker_types.specs.Broker.{Broker, Engine, Mount, Role, issued, kv}
 use Rattle.broker_types.specs.Names.{names_of}
-use Rattle.broker_types.specs.Places.{lease_of}
+use Rattle.broker_types.specs.IdentifierPlaces.{lease_of}
 use Rattle.broker_types.specs.Secret.{Key, Version}
 use Rattle.broker_types.specs.Token.{Lease, Token}
 use Rattle.broker_types.specs.declared.status.Status.TheVariants as status
@@ -34,7 +34,7 @@ use Rattle.broker_model.specs.declared.commands.WrappingCommand.TheVariants as o
 use Rattle.broker_model.specs.parts.Place.{Place}
 use Rattle.histories.specs.Creations.{told_of, with_token}
 use Rattle.histories.specs.History.{AreAsked, Asking, AskedAt, History, clocked, spent_by}
-use Rattle.histories.specs.Kept.{unwrapped_answer, unwrapped_body}
+use Rattle.histories.specs.KeptResponses.{unwrapped_answer, unwrapped_body}
 use Rattle.histories.specs.Own.{IsNewEnd, RenewsLease, RenewsToken, increment_of}
 use Rattle.histories.specs.Revocation.{IsClient}
 use Rattle.histories.specs.Versions.{named}

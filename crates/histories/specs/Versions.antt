@@ -25,7 +25,7 @@ use Rattle.broker_model.specs.declared.commands.SecretCommand.{SecretCommand}
 use Rattle.broker_model.specs.declared.commands.SecretCommand.TheVariants as command
 use Rattle.broker_model.specs.parts.Place.{Place}
 use Rattle.histories.specs.History.{AreAsked, Asking, AskedAt, History, clocked}
-use Rattle.histories.specs.Kept.{unwrapped_body}
+use Rattle.histories.specs.KeptResponses.{unwrapped_body}
 
 -- ---- what was asked, and answered
 

@@ -7,7 +7,7 @@ use Rattle.broker_types.specs.Text.{Text}
 use Rattle.broker_types.specs.Answer.{refused}
 use Rattle.broker_types.specs.Map.{get}
 use Rattle.broker_types.specs.Broker.{Broker, Mount}
-use Rattle.broker_types.specs.Places.{lease_of}
+use Rattle.broker_types.specs.IdentifierPlaces.{lease_of}
 use Rattle.broker_types.specs.Secret.{Key}
 use Rattle.broker_types.specs.Token.{Token}
 use Rattle.broker_types.specs.declared.refusal.Denial.TheVariants as denial

@@ -17,7 +17,7 @@ ghost use Rattle.histories.specs.LeasePaths.{PathsEndLeases};
 ghost use Rattle.histories.specs.MountPaths.{PathsOfIssued, PathsOfSecrets, PathsOfSettings};
 ghost use Rattle.histories.specs.Paths.{CreatesAtPath, PathsMeanCommands};
 ghost use Rattle.histories.specs.Refused.{RefusedChangeNothing, WrapNeedsTtl, PoliciesDecide};
-ghost use Rattle.histories.specs.Secrets.{AllSecretsStay};
+ghost use Rattle.histories.specs.SecretsStay.{AllSecretsStay};
 ghost use Rattle.histories.specs.Settings.{AllSettingsFollow};
 ghost use Rattle.histories.specs.Shown.{AllAnswersShow};
 ghost use Rattle.histories.specs.Statuses.{AllStatusesFollow};

@@ -7,7 +7,7 @@ use Rattle.broker_types.specs.declared.status.Status.{Status}
 use Rattle.http_layer.specs.Asked.{asked}
 use Rattle.http_layer.specs.Front.{Front, need, refused_with, whole, IsFront, content_length}
 use Rattle.http_layer.specs.HeadParts.{HeadParts, parts_of}
-use Rattle.http_layer.specs.Listed.{IsFrontRefusal, IsAskRefusal}
+use Rattle.http_layer.specs.ListedRefusals.{IsFrontRefusal, IsAskRefusal}
 use Rattle.http_layer.specs.Printed.{printed_head, CanBeSent}
 use Rattle.http_layer.specs.Reply.{IsReply}
 

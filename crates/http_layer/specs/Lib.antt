@@ -6,8 +6,8 @@ pub mod FrontLaws
 pub mod HeadEndLaws
 pub mod HeadParts
 pub mod Laws
-pub mod Listed
-pub mod ListedLaws
+pub mod ListedRefusalLaws
+pub mod ListedRefusals
 pub mod Named
 pub mod Printed
 pub mod Query

@@ -17,7 +17,7 @@ use Rattle.http_layer.specs.ReplyLaws.{IsReply-not_empty}
 use Rattle.hub.specs.AnyRows.{FaultsAt, IsFrontReply, IsRequestReply, NextConnections, TurnsOpen}
 use Rattle.hub.specs.Pending.{ConnectionRepresents, EntryRepresents}
 use Rattle.hub.specs.Representing.{ConnectionsRepresent, hub_connections}
-use Rattle.hub.specs.Serving.{IsAnswered, IsGone, LeavesClosed}
+use Rattle.hub.specs.ServedConnection.{IsAnswered, IsGone, LeavesClosed}
 use Rattle.hub.specs.World.{Connections, FollowsRequests, History, history_after, history_at, new_history, put_history}
 use Rattle.hub.specs.World.{request_closes}
 use Rattle.hub.specs.declared.connection.Connection.{Connection}

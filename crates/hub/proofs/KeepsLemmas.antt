@@ -7,7 +7,7 @@ use Rattle.broker_types.specs.declared.fault.Fault.TheVariants.{Storage}
 use Rattle.records.specs.Kept.{Kept, IsHonestStore}
 use Rattle.hub.specs.Feeding.{IsLater, Keeps}
 use Rattle.hub.specs.Representing.{HubRepresents, hub_store}
-use Rattle.hub.specs.Serving.{IsAllowed, IsUnanswered, KeepsStore}
+use Rattle.hub.specs.ServedConnection.{IsAllowed, IsUnanswered, KeepsStore}
 use Rattle.hub.specs.World.{World}
 use Rattle.hub.specs.declared.hub.Hub.{Hub}
 use Rattle.hub.specs.declared.serve.ConnectionFault.{ConnectionFault}

@@ -15,7 +15,7 @@ use Rattle.records.specs.Kept.{Kept}
 use Rattle.hub.specs.Links.{number_of, unsent}
 use Rattle.hub.specs.Ordering.{EndsBy, HaveNumbers, IsAnswer, IsCaused, IsOther, IsServedLine, ServesLines, TurnsLine}
 use Rattle.hub.specs.Ordering.{number_at, replies_in, reply_by, steps_of}
-use Rattle.hub.specs.Serving.{IsUnanswered, pieces_in}
+use Rattle.hub.specs.ServedConnection.{IsUnanswered, pieces_in}
 use Rattle.hub.specs.Steps.{IsStepOf, Step, answered, answers_of, closed, conn_of, faulted, fed_by, fed_in, stop_of}
 use Rattle.hub.specs.StepsLaws.{answers_each, fed_answers, fed_stopped, steps_none, steps_on, steps_proceeding}
 use Rattle.hub.specs.StepsLaws.{steps_stopping, stops_each}

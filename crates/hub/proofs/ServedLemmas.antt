@@ -8,7 +8,7 @@ use Rattle.records.specs.Kept.{Kept, IsHonestStore}
 use Rattle.hub.specs.AnyRows.{FaultsAt}
 use Rattle.hub.specs.Feeding.{Keeps}
 use Rattle.hub.specs.Representing.{ConnectionsRepresent, hub_store}
-use Rattle.hub.specs.Serving.{IsUnanswered, Proceeds, Serves, Stops, longest_piece}
+use Rattle.hub.specs.ServedConnection.{IsUnanswered, Proceeds, Serves, Stops, longest_piece}
 use Rattle.hub.specs.Supplies.{Supplies}
 use Rattle.hub.specs.SuppliesLaws.{Supplies-append}
 use Rattle.hub.specs.World.{Connections}

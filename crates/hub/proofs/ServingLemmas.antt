@@ -18,12 +18,13 @@ use Rattle.records.specs.Transaction.{Rows}
 use Rattle.hub.specs.AnyRows.{FaultsAt, NextConnections, RunConnections, TurnsOpen, close_history}
 use Rattle.hub.specs.Feeding.{Keeps}
 use Rattle.hub.specs.HistoriesLaws.{asked_on, run_left}
-use Rattle.hub.specs.Listed.{IsListedReply}
+use Rattle.hub.specs.ListedReplies.{IsListedReply}
 use Rattle.hub.specs.Representing.{ConnectionsRepresent, HubRepresents, hub_store}
 use Rattle.hub.specs.Runs.{Answers, AnswersOne}
-use Rattle.hub.specs.Serving.{Exchange, pieces_in, sent_in, Proceeds, Stops, LeavesClosed, LeavesOthers, IsEventOf}
-use Rattle.hub.specs.Serving.{longest_piece}
-use Rattle.hub.specs.Serving.{HasEnded, IsAnswered, IsUnanswered, RunsBefore}
+use Rattle.hub.specs.ServedConnection.{Exchange, pieces_in, sent_in, Proceeds, Stops, LeavesClosed, LeavesOthers}
+use Rattle.hub.specs.ServedConnection.{IsEventOf}
+use Rattle.hub.specs.ServedConnection.{longest_piece}
+use Rattle.hub.specs.ServedConnection.{HasEnded, IsAnswered, IsUnanswered, RunsBefore}
 use Rattle.hub.specs.World.{Connections, History, World, history_at, put_history}
 use Rattle.hub.specs.declared.event.Event.{Event}
 use Rattle.hub.specs.declared.hub.Hub.{Hub}

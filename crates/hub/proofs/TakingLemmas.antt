@@ -6,7 +6,7 @@ use Rattle.endpoints.specs.Now.{PullsNow}
 use Rattle.records.specs.Kept.{Kept}
 use Rattle.hub.specs.Links.{number_of, unsent}
 use Rattle.hub.specs.Representing.{ConnectionsRepresent}
-use Rattle.hub.specs.Serving.{IsGone, LeavesOthers, Serves, sent_in}
+use Rattle.hub.specs.ServedConnection.{IsGone, LeavesOthers, Serves, sent_in}
 use Rattle.hub.specs.Turning.{Passes, Says, TakesTurn, TurnsLink, TurnStops}
 use Rattle.hub.specs.World.{Connections}
 use Rattle.hub.specs.declared.event.Event.{Event}

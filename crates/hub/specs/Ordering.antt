@@ -8,7 +8,7 @@ use Rattle.std.specs.Io.KnownBytes.{Appends, Consumes}
 use Rattle.records.specs.Kept.{Kept}
 use Rattle.hub.specs.Links.{number_of, unsent}
 use Rattle.hub.specs.Representing.{ConnectionsRepresent}
-use Rattle.hub.specs.Serving.{LeavesOthers, pieces_in}
+use Rattle.hub.specs.ServedConnection.{LeavesOthers, pieces_in}
 use Rattle.hub.specs.Steps.{IsStepOf, Step, StepsBetween, answered, closed, conn_of, faulted, fed_in}
 use Rattle.hub.specs.Turning.{Passes}
 use Rattle.hub.specs.World.{Connections}

@@ -5,9 +5,9 @@ use Rattle.records.specs.Kept.{Kept, IsHonestStore}
 use Rattle.histories.specs.History.{AreAsked, Asking, History, left_by}
 use Rattle.hub.specs.Feeding.{IsLater}
 use Rattle.hub.specs.Histories.{EventAsked}
-use Rattle.hub.specs.Listed.{IsListedReply}
+use Rattle.hub.specs.ListedReplies.{IsListedReply}
 use Rattle.hub.specs.Representing.{HubRepresents, hub_store}
-use Rattle.hub.specs.Serving.{IsEventOf, LeavesClosed}
+use Rattle.hub.specs.ServedConnection.{IsEventOf, LeavesClosed}
 use Rattle.hub.specs.World.{Connections, World}
 use Rattle.hub.specs.declared.event.Event.{Event}
 use Rattle.hub.specs.declared.hub.Hub.{Hub}

@@ -12,10 +12,11 @@ use Rattle.histories.specs.History.{Asking, History, left_by}
 use Rattle.hub.specs.Feeding.{IsLater}
 use Rattle.hub.specs.Histories.{EventsAsked}
 use Rattle.hub.specs.HistoriesLaws.{asked_on, left_after, left_on, run_left}
-use Rattle.hub.specs.Listed.{IsListedReply}
+use Rattle.hub.specs.ListedReplies.{IsListedReply}
 use Rattle.hub.specs.Representing.{HubRepresents, hub_store}
 use Rattle.hub.specs.Runs.{Answers}
-use Rattle.hub.specs.Serving.{Exchange, IsEventOf, IsKnown, IsUnanswered, LeavesClosed, Proceeds, RunsUntil, Stops}
+use Rattle.hub.specs.ServedConnection.{Exchange, IsEventOf, IsKnown, IsUnanswered, LeavesClosed, Proceeds, RunsUntil}
+use Rattle.hub.specs.ServedConnection.{Stops}
 use Rattle.hub.specs.Steps.{AreKnown, IsStep, IsStepOf, Step, StepsBetween, StepsFrom, StepsTaken, TakesStep}
 use Rattle.hub.specs.Steps.{TakesSteps}
 use Rattle.hub.specs.Steps.{answered, answers_of, before_fault, closed, faulted, fed_by, fed_in, stop_of}

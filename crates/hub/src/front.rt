@@ -12,7 +12,7 @@ ghost use Rattle.http_layer.specs.Reply.{IsReply};
 ghost use Rattle.records.specs.Kept.{IsHonestStore};
 ghost use Rattle.hub.specs.AnyRows.{IsRequestReply};
 ghost use Rattle.hub.specs.Feeding.{ServesFront, IsServed, Keeps};
-ghost use Rattle.hub.specs.Listed.{IsListedReply};
+ghost use Rattle.hub.specs.ListedReplies.{IsListedReply};
 ghost use Rattle.hub.specs.World.{request_closes, request_effect};
 
 use crate::buffer::Buffer;

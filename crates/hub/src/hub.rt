@@ -24,12 +24,12 @@ impl<S: Store> Hub<S> {
     ghost use Rattle.broker_rows.specs.Representing.{Represents};
     ghost use Rattle.hub.specs.AnyRows.{EventGives, EventNeedsClock};
     ghost use Rattle.hub.specs.Feeding.{Feeds, Keeps};
-    ghost use Rattle.hub.specs.Listed.{IsListedReply};
+    ghost use Rattle.hub.specs.ListedReplies.{IsListedReply};
     ghost use Rattle.hub.specs.Numbers.{IsNextNumber};
     ghost use Rattle.hub.specs.Pending.{closed_at};
     ghost use Rattle.hub.specs.Representing.{HubRepresents, ConnectionsRepresent, hub_connections, hub_store};
     ghost use Rattle.hub.specs.Runs.{AnswersOne};
-    ghost use Rattle.hub.specs.Serving.{IsAnswered, LeavesClosed};
+    ghost use Rattle.hub.specs.ServedConnection.{IsAnswered, LeavesClosed};
     ghost use Rattle.hub.specs.World.{World, Connections, history_at, new_world, no_connections};
     ghost use Rattle.hub.specs.declared.connection.Connection.{Connection as Seen};
     ghost use Rattle.hub.specs.declared.entry.Entry.TheVariants.{One};

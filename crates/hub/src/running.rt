@@ -7,7 +7,7 @@ ghost use Rattle.records.specs.Kept.{IsHonestStore};
 ghost use Rattle.histories.specs.KeepsLaws.{KeepsLaws};
 ghost use Rattle.hub.specs.Feeding.{IsLater};
 ghost use Rattle.hub.specs.Histories.{Lawful};
-ghost use Rattle.hub.specs.Listed.{IsListedReply};
+ghost use Rattle.hub.specs.ListedReplies.{IsListedReply};
 ghost use Rattle.hub.specs.Representing.{ConnectionsRepresent, HubRepresents, hub_store};
 ghost use Rattle.hub.specs.Runs.{bytes_of, Answers, HadNoRoom, StopsAt, StopsTurns, TookTurns};
 ghost use Rattle.hub.specs.World.{Connections, World, Run};

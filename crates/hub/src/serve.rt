@@ -3,7 +3,7 @@
 ghost use Rattle.std.specs.Prelude.{◌≡◌, ◌⊎◌, ◌+◌, ◌<◌, ◌≤◌, [], false, true, length, Ok, IfOk, OnOk, IsTrue};
 ghost use Rattle.std.specs.Io.KnownBytes.{Appends, Consumes};
 ghost use Rattle.hub.specs.Representing.{ConnectionsRepresent, hub_waiting};
-ghost use Rattle.hub.specs.Serving.{Serves, HasEnded, IsAnswered, longest_piece, most_reads};
+ghost use Rattle.hub.specs.ServedConnection.{Serves, HasEnded, IsAnswered, longest_piece, most_reads};
 ghost use Rattle.hub.specs.Supplies.{Supplies};
 ghost use Rattle.hub.specs.World.{Connections};
 
@@ -57,7 +57,7 @@ pub enum ConnectionFault {
 
 impl ConnectionFault {
     ghost use Rattle.std.specs.Prelude.{◌≡◌};
-    ghost use Rattle.hub.specs.Serving.{connection_fault_number};
+    ghost use Rattle.hub.specs.ServedConnection.{connection_fault_number};
 
     /// The number under which programs report the fault.
     pub fn number(self) -> u8

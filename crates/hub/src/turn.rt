@@ -4,7 +4,7 @@ ghost use Rattle.std.specs.Prelude.{◌≡◌, ◌≢◌, ◌<◌, ◌≤◌, �
 ghost use Rattle.std.specs.Io.KnownBytes.{Appends, Consumes, IsAtEnd};
 ghost use Rattle.hub.specs.Links.{number_of, unsent};
 ghost use Rattle.hub.specs.Representing.{ConnectionsRepresent};
-ghost use Rattle.hub.specs.Serving.{HasEnded, IsAnswered, longest_piece};
+ghost use Rattle.hub.specs.ServedConnection.{HasEnded, IsAnswered, longest_piece};
 ghost use Rattle.hub.specs.Supplies.{Supplies};
 ghost use Rattle.hub.specs.Turning.{Passes, TurnsLink};
 ghost use Rattle.hub.specs.World.{Connections};

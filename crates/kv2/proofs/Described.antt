@@ -17,7 +17,7 @@ use Rattle.records.specs.EntryMapLaws.{listed_entries}
 use Rattle.records.specs.KeyEntry.{KeyEntry, key_entry}
 use Rattle.records.specs.Parts.{of_secrets, Tells}
 use Rattle.records.specs.Ranges.{IsKeyInRange}
-use Rattle.records.specs.Reading.{IsSomeIn, IsWide}
+use Rattle.records.specs.RowReaders.{IsSomeIn, IsWide}
 use Rattle.records.specs.RowForms.{key_row, key_entry_row, version_row}
 use Rattle.records.specs.Rows.{version_of_digits, version_row_of, version_at}
 use Rattle.records.specs.Table.{Table}

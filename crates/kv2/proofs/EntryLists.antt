@@ -9,7 +9,7 @@ use Rattle.broker_types.specs.Text.{Text}
 use Rattle.broker_types.specs.Secret.{Version}
 use Rattle.records.specs.declared.row.Row.{Row}
 use Rattle.records.specs.Kind.{RowKey}
-use Rattle.records.specs.ListedLaws.{named}
+use Rattle.records.specs.ListedMapLaws.{named}
 use Rattle.kv2.specs.SecretRows.{IsNumbered, IsEntryOf, AreEntriesOf, version_entry}
 
 -- a version is destroyed where it has no text

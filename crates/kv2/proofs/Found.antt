@@ -4,7 +4,7 @@ use Rattle.std.proofs.Common.{sym, ◌∙◌, ap, subst}
 use Rattle.std.proofs.lemmas.Option.{none-some, same_Some}
 use Rattle.broker_types.specs.OptionLaws.{mapped, mapped_none}
 use Rattle.records.specs.declared.row.Row.{Row}
-use Rattle.records.specs.Reading.{IsRowOf}
+use Rattle.records.specs.RowReaders.{IsRowOf}
 
 module _ {X : Type 0} (P : X → Type 0) (row_of : X → Row) (row : Option Row) where
   -- no row is of no record

@@ -23,7 +23,7 @@ use Rattle.broker_types.specs.Broker.{Broker}
 use Rattle.broker_types.specs.Sound.{Forms, SoundSecrets}
 use Rattle.records.specs.declared.kind.Kind.TheVariants as kind
 use Rattle.records.specs.declared.row.Row.{Row}
-use Rattle.records.specs.ListedLaws.{listed-sorted, find-listed}
+use Rattle.records.specs.ListedMapLaws.{listed-sorted, find-listed}
 use Rattle.records.specs.Parts.{of_secrets, Tells}
 use Rattle.records.specs.RangeLaws.{version_in_range}
 use Rattle.records.specs.RowForms.{version_row}

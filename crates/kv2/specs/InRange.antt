@@ -3,7 +3,7 @@
 use Rattle.std.specs.Prelude.{◌≤◌, List, All, length}
 use Rattle.broker_types.specs.Limits.{most_custom_metadata}
 use Rattle.broker_types.specs.Sound.{IsCustomPair, IsMoment}
-use Rattle.records.specs.Reading.{IsSomeIn, IsWide}
+use Rattle.records.specs.RowReaders.{IsSomeIn, IsWide}
 use Rattle.kv2.specs.Metadata.{Metadata}
 use Rattle.kv2.specs.Versions.{Settings}
 use Rattle.kv2.specs.declared.secret_metadata.VersionMetadata.{VersionMetadata}

@@ -19,9 +19,9 @@ use Rattle.records.specs.declared.row.Row.{Row}
 use Rattle.records.specs.Kind.{RowKey, kind_number}
 use Rattle.records.specs.Children.{children, keys_under}
 use Rattle.records.specs.KeyEntry.{KeyEntry}
-use Rattle.records.specs.ListedLaws.{named}
+use Rattle.records.specs.ListedMapLaws.{named}
 use Rattle.records.specs.Ranges.{IsKeyInRange, IsVersionInRange, IsMountInRange}
-use Rattle.records.specs.Reading.{IsRowOf}
+use Rattle.records.specs.RowReaders.{IsRowOf}
 use Rattle.records.specs.RowForms.{key_entry_row, version_row, mount_row}
 use Rattle.records.specs.Rows.{version_key}
 use Rattle.records.specs.Splits.{line_feed}

@@ -29,7 +29,7 @@ use Rattle.broker_types.specs.declared.refusal.Refusal.TheVariants as refusal
 use Rattle.broker_types.specs.declared.refusal.Reason.TheVariants as reason
 use Rattle.broker_types.specs.declared.refusal.Field.TheVariants as field
 use Rattle.records.specs.EntryMapLaws.{few_listed, each_listed}
-use Rattle.records.specs.Reading.{IsSomeIn, IsWide}
+use Rattle.records.specs.RowReaders.{IsSomeIn, IsWide}
 use Rattle.records.specs.Splits.{slash}
 use Rattle.records.specs.ValueLaws.{ok_inj}
 use Rattle.kv2.specs.InRange.{AreWithinLimits}

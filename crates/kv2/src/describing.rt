@@ -10,7 +10,7 @@ ghost use Rattle.broker_types.specs.Sound.{Forms, SoundSecrets};
 ghost use Rattle.records.specs.Calls.{IsReading, IsDecodeFault};
 ghost use Rattle.records.specs.Parts.{of_secrets, Tells};
 ghost use Rattle.records.specs.Ranges.{IsKeyInRange};
-ghost use Rattle.records.specs.Reading.{IsSomeIn};
+ghost use Rattle.records.specs.RowReaders.{IsSomeIn};
 ghost use Rattle.records.specs.Rows as rows;
 ghost use Rattle.records.specs.Table.{table};
 ghost use Rattle.records.specs.Transaction.{IsHonest};

@@ -8,7 +8,7 @@ ghost use Rattle.records.specs.Calls.{IsChange};
 ghost use Rattle.records.specs.KeyEntry.{KeyEntry};
 ghost use Rattle.records.specs.Parts.{of_secrets, Tells};
 ghost use Rattle.records.specs.Ranges.{IsKeyInRange};
-ghost use Rattle.records.specs.Reading.{IsSomeIn, IsWide};
+ghost use Rattle.records.specs.RowReaders.{IsSomeIn, IsWide};
 ghost use Rattle.records.specs.Table.{table};
 ghost use Rattle.records.specs.TokenEntry.{IsMeta};
 ghost use Rattle.records.specs.Transaction.{IsHonest};

@@ -9,7 +9,7 @@ ghost use Rattle.records.specs.declared.kind.Kind.TheVariants as kind;
 ghost use Rattle.records.specs.Calls.{IsReading};
 ghost use Rattle.records.specs.Parts.{of_secrets, Tells};
 ghost use Rattle.records.specs.Ranges.{IsVersionInRange};
-ghost use Rattle.records.specs.Reading.{IsSomeIn};
+ghost use Rattle.records.specs.RowReaders.{IsSomeIn};
 ghost use Rattle.records.specs.Table.{table};
 ghost use Rattle.records.specs.Transaction.{IsHonest};
 ghost use Rattle.kv2.specs.SecretRows.{HasVersion, IsRead};

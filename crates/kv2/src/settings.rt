@@ -6,7 +6,7 @@ ghost use Rattle.broker_types.specs.Fault.{IsMemoryOrStorage, IsNotBadStart};
 ghost use Rattle.broker_types.specs.Sound.{SoundMounts};
 ghost use Rattle.records.specs.Calls.{IsReading, IsChange};
 ghost use Rattle.records.specs.Parts.{of_mounts, Tells};
-ghost use Rattle.records.specs.Reading.{IsSomeIn, IsWide};
+ghost use Rattle.records.specs.RowReaders.{IsSomeIn, IsWide};
 ghost use Rattle.records.specs.Table.{table};
 ghost use Rattle.records.specs.Transaction.{IsHonest};
 ghost use Rattle.kv2.specs.SecretRows as rows;

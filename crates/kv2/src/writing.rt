@@ -11,7 +11,7 @@ ghost use Rattle.records.specs.Calls.{OnAnswer, OnRefused, IsCall, IsRequestChan
 ghost use Rattle.records.specs.KeyEntry.{KeyEntry};
 ghost use Rattle.records.specs.Parts.{of_secrets, of_mounts, Tells};
 ghost use Rattle.records.specs.Ranges.{IsKeyInRange};
-ghost use Rattle.records.specs.Reading.{IsSomeIn};
+ghost use Rattle.records.specs.RowReaders.{IsSomeIn};
 ghost use Rattle.records.specs.Table.{table};
 ghost use Rattle.records.specs.Transaction.{IsHonest};
 ghost use Rattle.kv2.specs.SecretRows as rows;

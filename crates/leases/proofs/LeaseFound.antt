@@ -8,7 +8,7 @@ use Rattle.broker_types.specs.OptionLaws.{found_or_not, mapped, mapped_none}
 use Rattle.broker_types.specs.SearchLaws.{first_where_is}
 use Rattle.broker_types.specs.Token.{Token, Lease}
 use Rattle.broker_types.specs.Broker.{Broker}
-use Rattle.broker_types.specs.Places.{lease_of}
+use Rattle.broker_types.specs.IdentifierPlaces.{lease_of}
 use Rattle.records.specs.declared.kind.Kind.TheVariants as kind
 use Rattle.records.specs.declared.row.Row.{Row}
 use Rattle.records.specs.Ranges.{IsLeaseInRange}

@@ -12,7 +12,7 @@ use Rattle.broker_types.specs.OptionLaws.{mapped}
 use Rattle.broker_types.specs.Token.{Token, Lease}
 use Rattle.broker_types.specs.Broker.{Broker}
 use Rattle.broker_types.specs.Evolves.{IsNew}
-use Rattle.broker_types.specs.Places.{lease, credential, lease_of, lease_identifier, AllUsed}
+use Rattle.broker_types.specs.IdentifierPlaces.{lease, credential, lease_of, lease_identifier, AllUsed}
 use Rattle.records.specs.declared.kind.Kind.TheVariants as kind
 use Rattle.records.specs.declared.row.Row.{Row}
 use Rattle.records.specs.Parts.{of_leases, Tells, KeepsOthers}

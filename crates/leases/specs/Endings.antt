@@ -3,7 +3,7 @@ use Rattle.std.specs.Prelude.{◌≡◌, ◌||◌, ℕ, Bool, true, if◌then◌
 use Rattle.broker_types.specs.Text.{Text, same}
 use Rattle.broker_types.specs.Token.{Lease}
 use Rattle.broker_types.specs.Broker.{Broker}
-use Rattle.broker_types.specs.Places.{lease_of}
+use Rattle.broker_types.specs.IdentifierPlaces.{lease_of}
 use Rattle.records.specs.declared.kind.Kind.TheVariants as kind
 use Rattle.records.specs.declared.row.Row.{Row}
 use Rattle.records.specs.Children.{has}

@@ -14,8 +14,8 @@ use Rattle.broker_types.specs.Token.{Token, Lease}
 use Rattle.broker_types.specs.Broker.{Broker, Role}
 use Rattle.broker_types.specs.Evolves.{Evolves, IsNew}
 use Rattle.broker_types.specs.IdentifierLaws.{id-length}
-use Rattle.broker_types.specs.Places.{token, accessor, lease, credential, wrapping_token, wrapping_accessor}
-use Rattle.broker_types.specs.Places.{lease_of, token_identifier, lease_identifier}
+use Rattle.broker_types.specs.IdentifierPlaces.{token, accessor, lease, credential, wrapping_token, wrapping_accessor}
+use Rattle.broker_types.specs.IdentifierPlaces.{lease_of, token_identifier, lease_identifier}
 use Rattle.broker_types.specs.Sound.{Forms, Sound, IsSoundLease, IsIdentifier, IsMoment}
 use Rattle.broker_types.specs.MapLaws.{valued_is}
 use Rattle.broker_types.specs.NewPlaceLaws.{HasTwoMore, still_marked, sound_with_two}

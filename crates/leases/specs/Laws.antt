@@ -9,7 +9,7 @@ use Rattle.broker_types.specs.Name.{is_name, is_mount_name}
 use Rattle.broker_types.specs.Token.{Token, Tokens, Lease}
 use Rattle.broker_types.specs.Broker.{Broker, Role}
 use Rattle.broker_types.specs.Evolves.{Evolves, IsNew}
-use Rattle.broker_types.specs.Places.{OnePlaceEach, lease_of, lease_identifier}
+use Rattle.broker_types.specs.IdentifierPlaces.{OnePlaceEach, lease_of, lease_identifier}
 use Rattle.broker_types.specs.Sound.{Forms, Sound, IsIdentifier, IsMoment, IsSoundLease}
 use Rattle.broker_types.specs.Used.{use_up}
 use Rattle.records.specs.Children.{has}

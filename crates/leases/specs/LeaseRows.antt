@@ -4,7 +4,7 @@ use Rattle.std.specs.Prelude.{◌≡◌, ◌≢◌, ℕ, Option, Some, Result, O
 use Rattle.broker_types.specs.Text.{Text}
 use Rattle.broker_types.specs.Token.{Lease}
 use Rattle.broker_types.specs.Broker.{Broker}
-use Rattle.broker_types.specs.Places.{OnePlaceEach, lease_of}
+use Rattle.broker_types.specs.IdentifierPlaces.{OnePlaceEach, lease_of}
 use Rattle.broker_types.specs.Sound.{IsSoundLease, IsMoment, IsEnd}
 use Rattle.broker_types.specs.Refuse.{◌>>=◌, some_or}
 use Rattle.broker_types.specs.declared.refusal.Refusal.{Refusal}
@@ -15,7 +15,7 @@ use Rattle.records.specs.declared.kind.Kind.TheVariants as kind
 use Rattle.records.specs.declared.row.Row.{Row}
 use Rattle.records.specs.Parts.{of_leases, Tells}
 use Rattle.records.specs.Ranges.{IsLeaseInRange}
-use Rattle.records.specs.Reading.{IsSomeIn, IsRowOf}
+use Rattle.records.specs.RowReaders.{IsSomeIn, IsRowOf}
 use Rattle.records.specs.RowForms.{lease_row, credential_row}
 use Rattle.records.specs.Table.{Table, with_row}
 use Rattle.leases.specs.Leases as leases

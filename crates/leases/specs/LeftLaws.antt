@@ -9,7 +9,7 @@ use Rattle.broker_types.specs.OptionLaws.{found_or_not}
 use Rattle.broker_types.specs.Map.{Map, get}
 use Rattle.broker_types.specs.Token.{Token, Tokens, Lease}
 use Rattle.broker_types.specs.Broker.{Broker}
-use Rattle.broker_types.specs.Places.{OnePlaceEach, lease_of}
+use Rattle.broker_types.specs.IdentifierPlaces.{OnePlaceEach, lease_of}
 use Rattle.records.specs.declared.kind.Kind.TheVariants as kind
 use Rattle.records.specs.declared.row.Row.{Row}
 use Rattle.records.specs.Children.{has}

@@ -1,7 +1,6 @@
 pub mod EditLaws
 pub mod Endings
 pub mod IssuedLaws
-pub mod KeptLaws
 pub mod Laws
 pub mod LeaseRows
 pub mod Leases
@@ -10,4 +9,5 @@ pub mod Removed
 pub mod RoleRows
 pub mod Roles
 pub mod SoundLaws
+pub mod StaysSoundLaws
 pub mod TellLaws

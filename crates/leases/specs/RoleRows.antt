@@ -9,7 +9,7 @@ use Rattle.broker_types.specs.declared.refusal.Refusal.TheVariants as refusal
 use Rattle.broker_types.specs.declared.refusal.Reason.TheVariants as reason
 use Rattle.records.specs.declared.kind.Kind.TheVariants as kind
 use Rattle.records.specs.Ranges.{IsRoleInRange}
-use Rattle.records.specs.Reading.{IsRowOf}
+use Rattle.records.specs.RowReaders.{IsRowOf}
 use Rattle.records.specs.RowForms.{role_row}
 use Rattle.records.specs.Table.{Table, with_row}
 use Rattle.leases.specs.LeaseRows.{with_issued}

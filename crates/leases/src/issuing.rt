@@ -6,7 +6,7 @@ ghost use Rattle.broker_types.specs.Evolves.{IsNew};
 ghost use Rattle.broker_types.specs.Fault.{IsMemoryOrStorage};
 ghost use Rattle.broker_types.specs.Limits.{longest_ttl};
 ghost use Rattle.broker_types.specs.Map.{get};
-ghost use Rattle.broker_types.specs.Places.{AllUsed, lease_identifier};
+ghost use Rattle.broker_types.specs.IdentifierPlaces.{AllUsed, lease_identifier};
 ghost use Rattle.broker_types.specs.RequestError.{Ends};
 ghost use Rattle.broker_types.specs.Sound.{IsMoment, SoundRoles};
 ghost use Rattle.records.specs.Calls.{OnAnswer, IsChange, IsRequestChange, IsReadFault, OfEachBroker};

@@ -17,7 +17,7 @@ use Rattle.records.specs.declared.row.Row.{Row}
 use Rattle.records.specs.Kind.{kind_number}
 use Rattle.records.specs.Parts.{of_mounts, KeepsOthers}
 use Rattle.records.specs.Ranges.{IsMountInRange}
-use Rattle.records.specs.Reading.{IsSomeIn}
+use Rattle.records.specs.RowReaders.{IsSomeIn}
 use Rattle.records.specs.RowForms.{mount_row}
 use Rattle.records.specs.Table.{Table, with_row, without_row}
 use Rattle.mounts.specs.MountRows.{IsMountAt, AreMounts}

@@ -17,7 +17,7 @@ use Rattle.records.specs.ValueLaws.{ok_inj}
 use Rattle.mounts.specs.declared.operation.Operation.{Operation}
 use Rattle.mounts.specs.Forms.{Ending, nothing, segment, segments, form_of, is_ending, is_literal, ends_segment}
 use Rattle.mounts.specs.Forms.{has_parameter, parameter, are_bytes}
-use Rattle.mounts.specs.Table.{takes_parameter}
+use Rattle.mounts.specs.RouteTable.{takes_parameter}
 use Rattle.mounts.specs.Patterns.{fits, is_in_order, is_row, reads_as_form, tells, differ, pattern_found}
 use Rattle.mounts.specs.Route.{Route, operation_for, methods_of, route_by}
 use Rattle.mounts.specs.RouteRow.{RouteRow}

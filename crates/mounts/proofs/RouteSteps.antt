@@ -16,7 +16,7 @@ use Rattle.mounts.specs.declared.mount_type.MountType.{MountType}
 use Rattle.mounts.specs.Patterns.{pattern_found}
 use Rattle.mounts.specs.Route.{Route, cut, route_by, within, route_at}
 use Rattle.mounts.specs.RouteRow.{RouteRow}
-use Rattle.mounts.specs.Table.{route_rows}
+use Rattle.mounts.specs.RouteTable.{route_rows}
 use Rattle.mounts.specs.Types.{type_at}
 
 -- ---- how the code ends

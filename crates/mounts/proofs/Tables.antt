@@ -6,7 +6,7 @@ use Rattle.broker_types.specs.Text.{same}
 use Rattle.mounts.specs.declared.mount_type.MountType.{MountType}
 use Rattle.mounts.specs.declared.mount_type.MountType.TheVariants as mount
 use Rattle.mounts.specs.Patterns.{is_in_order, fits, fits_behind}
-use Rattle.mounts.specs.Table.{route_rows}
+use Rattle.mounts.specs.RouteTable.{route_rows}
 
 pub in_order : (type : MountType) → is_in_order (route_rows type) ≡ true
 unfolding matchit_on_literals same fits fits_behind

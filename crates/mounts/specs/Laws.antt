@@ -14,7 +14,7 @@ use Rattle.mounts.specs.Mounts.{enabled, disabled}
 use Rattle.mounts.specs.Patterns.{pattern_found, is_in_order, has_pattern}
 use Rattle.mounts.specs.Route.{operation_for}
 use Rattle.mounts.specs.RouteRow.{RouteRow}
-use Rattle.mounts.specs.Table.{route_rows}
+use Rattle.mounts.specs.RouteTable.{route_rows}
 
 -- ---- the table
 

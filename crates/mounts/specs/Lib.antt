@@ -7,8 +7,8 @@ pub mod Mounts
 pub mod Patterns
 pub mod Route
 pub mod RouteRow
+pub mod RouteTable
 pub mod RouterProps
 pub mod SoundLaws
-pub mod Table
 pub mod TellLaws
 pub mod Types

@@ -11,7 +11,7 @@ use Rattle.records.specs.declared.kind.Kind.TheVariants as kind
 use Rattle.records.specs.declared.row.Row.{Row}
 use Rattle.records.specs.Kind.{RowKey}
 use Rattle.records.specs.Ranges.{IsMountInRange}
-use Rattle.records.specs.Reading.{IsRowOf}
+use Rattle.records.specs.RowReaders.{IsRowOf}
 use Rattle.records.specs.RowForms.{mount_row}
 use Rattle.records.specs.Table.{Table, with_row, without_row}
 use Rattle.mounts.specs.declared.mount_type.MountType.{MountType}

@@ -13,7 +13,7 @@ use Rattle.broker_types.specs.Text.{Text, same}
 use Rattle.broker_types.specs.declared.ask.Verb.{Verb}
 use Rattle.broker_types.specs.declared.ask.Verb.TheVariants as verb
 use Rattle.mounts.specs.Forms.{Ending, nothing, segment, segments, Form, form_of, has_parameter, are_bytes}
-use Rattle.mounts.specs.Table.{takes_parameter}
+use Rattle.mounts.specs.RouteTable.{takes_parameter}
 use Rattle.mounts.specs.RouteRow.{RouteRow}
 
 -- ---- the router

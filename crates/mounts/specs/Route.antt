@@ -17,7 +17,7 @@ use Rattle.mounts.specs.declared.operation.Operation.{Operation}
 use Rattle.mounts.specs.Forms.{parameter, form_of, has_form}
 use Rattle.mounts.specs.Patterns.{pattern_found, is_row}
 use Rattle.mounts.specs.RouteRow.{RouteRow}
-use Rattle.mounts.specs.Table.{route_rows, facts}
+use Rattle.mounts.specs.RouteTable.{route_rows, facts}
 use Rattle.mounts.specs.Types.{fixed_type, type_at}
 
 -- where a request goes: its operation, the name of its mount, and what stands for the pattern's parameter

@@ -6,7 +6,7 @@ ghost use Rattle.broker_types.specs.Fault.{IsMemoryOrStorage, IsNotBadStart};
 ghost use Rattle.broker_types.specs.Map.{Map};
 ghost use Rattle.broker_types.specs.Broker.{Mount};
 ghost use Rattle.records.specs.Calls.{IsReading, IsDecodeFault};
-ghost use Rattle.records.specs.Places.{rank, is_met};
+ghost use Rattle.records.specs.KeyPlaces.{rank, is_met};
 ghost use Rattle.records.specs.Ranges.{IsMountInRange};
 ghost use Rattle.records.specs.RowForms.{mount_row};
 ghost use Rattle.records.specs.Table.{table};

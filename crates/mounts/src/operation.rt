@@ -1,7 +1,7 @@
 //! What a request can mean, part by part, and what each operation asks for.
 
 ghost use Rattle.std.specs.Prelude.{◌≡◌};
-ghost use Rattle.mounts.specs.Table.{facts};
+ghost use Rattle.mounts.specs.RouteTable.{facts};
 
 use std::marker::Model;
 

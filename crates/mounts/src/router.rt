@@ -7,7 +7,7 @@ ghost use Rattle.mounts.specs.Patterns as patterns;
 ghost use Rattle.mounts.specs.RouteRow.{rows_in};
 ghost use Rattle.mounts.specs.RouterProps as spec;
 ghost use Rattle.mounts.specs.RouterProps.{router_props};
-ghost use Rattle.mounts.specs.Table as table;
+ghost use Rattle.mounts.specs.RouteTable as table;
 
 use crate::mount_type::MountType;
 use crate::pattern::Pattern;

@@ -11,7 +11,7 @@ ghost use Rattle.records.specs.Table.{table};
 ghost use Rattle.records.specs.Transaction.{IsHonest};
 ghost use Rattle.mounts.specs.Forms as forms;
 ghost use Rattle.mounts.specs.MountRows.{IsKnownAt, IsReadableAt, IsDamagedAt, AreMounts};
-ghost use Rattle.mounts.specs.Table.{takes_parameter};
+ghost use Rattle.mounts.specs.RouteTable.{takes_parameter};
 ghost use Rattle.mounts.specs.Patterns as patterns;
 ghost use Rattle.mounts.specs.RouteRow.{rows_in, shown};
 ghost use Rattle.mounts.specs.Route as spec;

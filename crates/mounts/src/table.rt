@@ -3,7 +3,7 @@
 
 ghost use Rattle.std.specs.Prelude.{◌≡◌};
 ghost use Rattle.mounts.specs.RouteRow.{rows_in};
-ghost use Rattle.mounts.specs.Table as table;
+ghost use Rattle.mounts.specs.RouteTable as table;
 
 use crate::mount_type::MountType;
 use crate::operation::Operation::{

@@ -14,7 +14,7 @@ use Rattle.policies.specs.Words.{is_grant, is_deny}
 use Rattle.policies.specs.Patterns.{same_pattern, tried}
 use Rattle.policies.specs.Rules.{Rule, Rules}
 use Rattle.policies.specs.Allows.{is_named, is_granted, allows}
-use Rattle.policies.specs.Places.{place, step, best_allows}
+use Rattle.policies.specs.PatternPlaces.{place, step, best_allows}
 use Rattle.policies.proofs.Bests.{none, said_at, gives, refuses, Folded, folded}
 
 -- ---- tests over rules

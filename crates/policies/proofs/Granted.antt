@@ -20,7 +20,7 @@ use Rattle.policies.specs.Grants.{rules_named, rules_of, grants}
 use Rattle.policies.specs.Laws.{Says, IsGranted}
 use Rattle.policies.specs.Patterns.{same_pattern, tried}
 use Rattle.policies.specs.Policies.{is_root}
-use Rattle.policies.specs.Reading.{policy_of}
+use Rattle.policies.specs.PolicyTexts.{policy_of}
 use Rattle.policies.specs.Rules.{Rule}
 use Rattle.policies.specs.Words.{is_grant, is_deny}
 

@@ -2,7 +2,7 @@ pub mod Bests
 pub mod Choices
 pub mod Granted
 pub mod PatternsChosen
-pub mod Places
+pub mod PlaceLemmas
 pub mod PoliciesGathered
 pub mod PoliciesListed
 pub mod PolicyEdits

@@ -14,10 +14,10 @@ use Rattle.policies.specs.declared.pattern.Pattern.TheVariants.{Exact, Prefix}
 use Rattle.policies.specs.Allows.{is_named, chosen}
 use Rattle.policies.specs.Laws.{IsLongest}
 use Rattle.policies.specs.Patterns.{same_pattern, with_slash, tried}
-use Rattle.policies.specs.Places.{place, exact_place, tried_text}
+use Rattle.policies.specs.PatternPlaces.{place, exact_place, tried_text}
 use Rattle.policies.specs.Rules.{Rules}
 use Rattle.policies.proofs.Choices.{most_places}
-use Rattle.policies.proofs.Places.{exact_placed, prefix_placed}
+use Rattle.policies.proofs.PlaceLemmas.{exact_placed, prefix_placed}
 
 itself : (p : Pattern) → same_pattern p p ≡ true
 itself (Exact s) = same_self s

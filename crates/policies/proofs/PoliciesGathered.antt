@@ -14,7 +14,7 @@ use Rattle.records.specs.Transaction.{Rows}
 use Rattle.policies.specs.Grants.{rules_named}
 use Rattle.policies.specs.PolicyLaws.{one_policy}
 use Rattle.policies.specs.PolicyRows.{IsPolicyAt, ArePoliciesAt, GivesRules, IsReadable, IsUnreadable, kept_rules}
-use Rattle.policies.specs.Reading.{policy_of}
+use Rattle.policies.specs.PolicyTexts.{policy_of}
 use Rattle.policies.specs.Rules.{Rule}
 
 kept_named : (o : Option Text) (rules : List Rule) → kept_rules o ≡ Some rules

@@ -7,13 +7,13 @@ use Rattle.broker_types.specs.Sound.{SoundPolicies, IsShortText}
 use Rattle.broker_types.specs.Text.{Text}
 use Rattle.records.specs.declared.kind.Kind.TheVariants as kind
 use Rattle.records.specs.declared.row.Row.{Row}
-use Rattle.records.specs.Reading.{IsSomeIn}
+use Rattle.records.specs.RowReaders.{IsSomeIn}
 use Rattle.records.specs.RowForms.{policy_row}
 use Rattle.records.specs.Table.{Table}
 use Rattle.policies.specs.Policies.{is_root, text_of}
 use Rattle.policies.specs.PolicyLaws.{one_policy}
 use Rattle.policies.specs.PolicyRows.{IsPolicyAt, ArePolicies}
-use Rattle.policies.specs.Reading.{policy_forms}
+use Rattle.policies.specs.PolicyTexts.{policy_forms}
 
 -- the text that is told is that of the policy
 pub text_told : (rows : Table) (policies : Map Text) (name : Text) (o : Option Text) → is_root name ≡ false

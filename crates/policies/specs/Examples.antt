@@ -9,7 +9,7 @@ use Rattle.policies.specs.declared.capability.Capability.TheVariants as may
 use Rattle.policies.specs.declared.capability.Word.{Word}
 use Rattle.policies.specs.declared.capability.Word.TheVariants.{Grant, Deny}
 use Rattle.policies.specs.Allows.{allows}
-use Rattle.policies.specs.Reading.{pattern_of, policy_of}
+use Rattle.policies.specs.PolicyTexts.{pattern_of, policy_of}
 use Rattle.policies.specs.Rules.{Rule}
 
 -- what a policy says of a pattern

@@ -7,7 +7,7 @@ use Rattle.broker_types.specs.declared.ask.Verb.{Verb}
 use Rattle.policies.specs.declared.capability.Capability.{Capability}
 use Rattle.policies.specs.Allows.{allows}
 use Rattle.policies.specs.Policies.{is_root}
-use Rattle.policies.specs.Reading.{policy_of}
+use Rattle.policies.specs.PolicyTexts.{policy_of}
 use Rattle.policies.specs.Rules.{Rule, Rules}
 
 -- the rules of a policy; one that is not there has none

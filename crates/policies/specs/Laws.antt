@@ -21,10 +21,10 @@ use Rattle.policies.specs.declared.pattern.Pattern.TheVariants.{Exact, Prefix}
 use Rattle.policies.specs.Allows.{is_named, chosen, is_said}
 use Rattle.policies.specs.Grants.{rules_named, rules_of, grants}
 use Rattle.policies.specs.Patterns.{with_slash}
-use Rattle.policies.specs.Places.{tried_text}
+use Rattle.policies.specs.PatternPlaces.{tried_text}
 use Rattle.policies.specs.Policies.{is_root, set, deleted}
 use Rattle.policies.specs.PolicyRows.{ArePolicies}
-use Rattle.policies.specs.Reading.{is_policy, policy_forms}
+use Rattle.policies.specs.PolicyTexts.{is_policy, policy_forms}
 use Rattle.policies.specs.Rules.{Rules}
 use Rattle.policies.specs.Words.{is_grant, is_deny}
 

@@ -8,7 +8,7 @@ use Rattle.broker_types.specs.Text.{Text, same}
 use Rattle.broker_types.specs.declared.refusal.Refusal.{Refusal}
 use Rattle.broker_types.specs.declared.refusal.Refusal.TheVariants as refusal
 use Rattle.broker_types.specs.declared.refusal.Reason.TheVariants as reason
-use Rattle.policies.specs.Reading.{policy_read}
+use Rattle.policies.specs.PolicyTexts.{policy_read}
 
 -- the name of the policy that allows everything
 abbrev pub root : Text

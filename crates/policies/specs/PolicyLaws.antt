@@ -21,7 +21,7 @@ use Rattle.broker_types.specs.TextLaws.{same_true, same_self}
 use Rattle.broker_types.specs.declared.ask.Verb.{Verb}
 use Rattle.records.specs.declared.row.Row.{Row}
 use Rattle.records.specs.Parts.{of_policies, Tells}
-use Rattle.records.specs.Reading.{IsSomeIn}
+use Rattle.records.specs.RowReaders.{IsSomeIn}
 use Rattle.records.specs.RowForms.{policy_row}
 use Rattle.records.specs.Rows.{rows_of}
 use Rattle.records.specs.Spelling.{count}
@@ -29,7 +29,7 @@ use Rattle.records.specs.Table.{Table}
 use Rattle.policies.specs.Grants.{rules_named, rules_of}
 use Rattle.policies.specs.Policies.{is_root}
 use Rattle.policies.specs.PolicyRows.{IsPolicyAt, ArePolicies, ArePoliciesAt, IsReadable}
-use Rattle.policies.specs.Reading.{policy_of, pattern_of, words_of, paths_of, is_policy, policy_forms}
+use Rattle.policies.specs.PolicyTexts.{policy_of, pattern_of, words_of, paths_of, is_policy, policy_forms}
 use Rattle.policies.specs.Rules.{Rule}
 use Rattle.policies.specs.TellLaws.{policies_told}
 

@@ -8,12 +8,12 @@ use Rattle.broker_types.specs.Sound.{IsShortText}
 use Rattle.broker_types.specs.Text.{Text, text_cmp}
 use Rattle.broker_types.specs.declared.refusal.Refusal.{Refusal}
 use Rattle.records.specs.declared.kind.Kind.TheVariants as kind
-use Rattle.records.specs.Reading.{IsSomeIn}
+use Rattle.records.specs.RowReaders.{IsSomeIn}
 use Rattle.records.specs.RowForms.{policy_row}
 use Rattle.records.specs.Table.{Table, with_row, without_row}
 use Rattle.policies.specs.Policies as policies
 use Rattle.policies.specs.Policies.{is_root, root, default}
-use Rattle.policies.specs.Reading.{policy_of}
+use Rattle.policies.specs.PolicyTexts.{policy_of}
 use Rattle.policies.specs.Rules.{Rule}
 
 -- the row at a name is that of the policy with the text, or there is none

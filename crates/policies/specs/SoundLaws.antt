@@ -24,7 +24,7 @@ use Rattle.broker_types.specs.declared.refusal.Reason.TheVariants as reason
 use Rattle.records.specs.ValueLaws.{ok_inj}
 use Rattle.api_json.specs.Json.{without_floats}
 use Rattle.policies.specs.Policies.{is_root, root, fixed, may_set, set, may_delete, deleted}
-use Rattle.policies.specs.Reading.{policy_of, policy_in, is_policy, policy_forms, unsupported}
+use Rattle.policies.specs.PolicyTexts.{policy_of, policy_in, is_policy, policy_forms, unsupported}
 use Rattle.policies.specs.Rules.{Rule}
 
 -- ---- what may be set

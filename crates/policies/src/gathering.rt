@@ -14,7 +14,7 @@ ghost use Rattle.policies.specs.Grants as spec;
 ghost use Rattle.policies.specs.Policies as policies;
 ghost use Rattle.policies.specs.PolicyRows.{IsPolicyAt, ArePoliciesAt, GivesRules};
 ghost use Rattle.policies.specs.PolicyRows.{IsReadable, IsUnreadable};
-ghost use Rattle.policies.specs.Reading.{policy_forms};
+ghost use Rattle.policies.specs.PolicyTexts.{policy_forms};
 
 use crate::memory::PolicyMemory;
 use crate::naming::is_root;

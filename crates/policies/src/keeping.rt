@@ -8,14 +8,14 @@ ghost use Rattle.broker_types.specs.Sound.{SoundPolicies, IsShortText};
 ghost use Rattle.broker_types.specs.Text.{Text};
 ghost use Rattle.api_json.specs.Reads.{IsRead};
 ghost use Rattle.records.specs.Calls.{IsReadFault, IsReading, IsRequestChange};
-ghost use Rattle.records.specs.Reading.{IsSomeIn};
+ghost use Rattle.records.specs.RowReaders.{IsSomeIn};
 ghost use Rattle.records.specs.Parts.{of_policies, KeepsOthers};
 ghost use Rattle.records.specs.Table.{table};
 ghost use Rattle.records.specs.Transaction.{IsHonest};
 ghost use Rattle.policies.specs.Policies as spec;
 ghost use Rattle.policies.specs.PolicyRows as rows;
 ghost use Rattle.policies.specs.PolicyRows.{ArePolicies, IsPolicyAt, IsDamagedAt};
-ghost use Rattle.policies.specs.Reading.{policy_forms};
+ghost use Rattle.policies.specs.PolicyTexts.{policy_forms};
 
 use crate::naming::{is_fixed, is_root};
 use crate::rule::Policy;

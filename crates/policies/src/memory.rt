@@ -3,7 +3,7 @@
 ghost use Rattle.std.specs.Prelude.{◌≡◌, ◌≤◌, Some, None, IfOk, IfErr, IfSome, length};
 ghost use Rattle.records.specs.Calls.{IsDecodeFault};
 ghost use Rattle.policies.specs.PolicyProps.{policy_props};
-ghost use Rattle.policies.specs.Reading.{policy_of};
+ghost use Rattle.policies.specs.PolicyTexts.{policy_of};
 
 use crate::rule::Policy;
 use broker_types::{Fault, RequestError, TextBuf};

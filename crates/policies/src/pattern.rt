@@ -4,7 +4,7 @@ ghost use Rattle.std.specs.Prelude.{◌≡◌, ◌++◌, ◌∷◌, [], nat_eq};
 ghost use Rattle.std.specs.List.{starts_with};
 ghost use Rattle.broker_types.specs.Text.{same};
 ghost use Rattle.policies.specs.Patterns.{tried};
-ghost use Rattle.policies.specs.Places.{place, exact_place, prefix_place, tried_text};
+ghost use Rattle.policies.specs.PatternPlaces.{place, exact_place, prefix_place, tried_text};
 
 use broker_types::{TextBuf, Verb};
 
@@ -20,7 +20,7 @@ pub enum Pattern {
 /// How early a pattern is tried at a path: how many of those that can match are left then, itself among them; 0 if it
 /// does not match. LIST tries the path with a slash, the path, and each text that the path with a slash begins with,
 /// the longest first; the other verbs try the path, and each text that it begins with.
-#[tactic(auto, using(crate::proofs::Places::exact_placed, crate::proofs::Places::prefix_placed))]
+#[tactic(auto, using(crate::proofs::PlaceLemmas::exact_placed, crate::proofs::PlaceLemmas::prefix_placed))]
 pub(crate) fn place(verb: Verb, path: &str, pattern: &Pattern) -> usize
     ensures { result ≡ place (tried verb path.now) pattern.now }
 {

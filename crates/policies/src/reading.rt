@@ -7,7 +7,7 @@ ghost use Rattle.broker_types.specs.Text.{same};
 ghost use Rattle.api_json.specs.Kinds.{as_list, each_item};
 ghost use Rattle.api_json.specs.Parsed.{data_of};
 ghost use Rattle.api_json.specs.Reads.{IsRead};
-ghost use Rattle.policies.specs.Reading as spec;
+ghost use Rattle.policies.specs.PolicyTexts as spec;
 
 use crate::capability::{Capability, Word};
 use crate::pattern::Pattern;
@@ -23,7 +23,7 @@ impl Policy {
     /// capability than `create`, `read`, `update`, `delete`, `list`, `sudo`, `deny` and `patch`, with another member,
     /// with a segment `+` in a pattern, with a float, or with more than 127 levels. The only fault is running out of
     /// memory (Vault's documentation, "Policies"; the form is this project's).
-    #[tactic(auto, unfolding(crate::specs::Reading::policy_of))]
+    #[tactic(auto, unfolding(crate::specs::PolicyTexts::policy_of))]
     pub fn from_json(alloc: Global, text: &str) -> Result<Policy, RequestError>
         ensures { IsRead (spec.policy_read text.now) result }
     {
@@ -89,7 +89,7 @@ fn member<'m>(members: &'m Map<String, Value>, name: &str) -> Option<&'m Value>
 }
 
 /// The object that is the member `path`.
-#[tactic(auto, unfolding(crate::specs::Reading::paths_of))]
+#[tactic(auto, unfolding(crate::specs::PolicyTexts::paths_of))]
 fn paths_of(members: &Map<String, Value>) -> Option<&Map<String, Value>>
     ensures { option_map (λ m. members_view m.now.entries) result ≡ spec.paths_of (members_view members.now.entries) }
 {
@@ -170,7 +170,7 @@ fn words_in(alloc: Global, value: &Value) -> Result<Option<Vec<Word>>, AllocErro
 }
 
 /// The words of the member `capabilities`, if there is no other member.
-#[tactic(auto, unfolding(crate::specs::Reading::words_of))]
+#[tactic(auto, unfolding(crate::specs::PolicyTexts::words_of))]
 fn words_of(alloc: Global, members: &Map<String, Value>) -> Result<Option<Vec<Word>>, AllocError>
     ensures { IfOk result (λ ws. option_map (λ ws. ws.items) ws ≡ spec.words_of (members_view members.now.entries)) }
 {

@@ -19,7 +19,7 @@ use Rattle.records.specs.declared.kind.Kind.{Kind}
 use Rattle.records.specs.declared.row.Row.{Row}
 use Rattle.records.specs.Kind.{RowKey, is_of_kind}
 use Rattle.records.specs.Children.{child, past, below, is_text, push_once, push_each}
-use Rattle.records.specs.ListedLaws.{named, listed-sorted}
+use Rattle.records.specs.ListedMapLaws.{named, listed-sorted}
 use Rattle.records.specs.Splits.{slash}
 use Rattle.records.specs.Transaction.{Rows, rows_under, rows_from}
 use Rattle.records.proofs.ChildLemmas.{begun, below_one, push_more}

@@ -17,7 +17,7 @@ use Rattle.records.specs.declared.row.Row.{Row}
 use Rattle.records.specs.Children.{child, below, children, member, set_of, has, keys_under, AreNames}
 use Rattle.records.specs.Transaction.{Rows, rows_under}
 use Rattle.records.proofs.ChildLemmas.{begun, begins_with}
-use Rattle.records.specs.ListedLaws.{named, find-listed}
+use Rattle.records.specs.ListedMapLaws.{named, find-listed}
 use Rattle.records.proofs.ListedKeys.{names_are}
 
 -- ---- a text of a list that passes

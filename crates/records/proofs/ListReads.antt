@@ -6,7 +6,7 @@ use Rattle.std.proofs.lemmas.List.{append-nil, length-append, nil_from_length}
 use Rattle.std.proofs.lemmas.List.Elements.{All-nil, All-head, All-tail, All-push}
 use Rattle.broker_types.specs.declared.fault.Fault.{Fault}
 use Rattle.records.specs.Spelling.{count, items, listed}
-use Rattle.records.specs.Reading.{IsListOf}
+use Rattle.records.specs.RowReaders.{IsListOf}
 use Rattle.records.specs.Fields.{ReadsField}
 use Rattle.records.proofs.FieldReads.{finds_other, gives_up_too}
 

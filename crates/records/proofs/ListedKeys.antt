@@ -7,7 +7,7 @@ use Rattle.records.specs.declared.row.Row.{Row}
 use Rattle.records.specs.Kind.{RowKey}
 use Rattle.records.specs.Transaction.{Rows, rows_under}
 use Rattle.records.specs.Children.{children, children_in_order}
-use Rattle.records.specs.ListedLaws.{named, listed-sorted}
+use Rattle.records.specs.ListedMapLaws.{named, listed-sorted}
 use Rattle.records.proofs.ChildrenInOrder.{children_ordered}
 
 pub names_are : (es : List (RowKey × Row))

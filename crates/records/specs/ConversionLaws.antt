@@ -16,7 +16,7 @@ use Rattle.records.specs.declared.row.Row.{Row}
 use Rattle.records.specs.Fields.{IsLongText}
 use Rattle.records.specs.KeyEntry.{KeyEntry, secret_in}
 use Rattle.records.specs.Ranges.{IsKeyInRange, IsVersionInRange, IsLeaseInRange, IsWaitingInRange}
-use Rattle.records.specs.Reading.{IsWide, IsSomeIn}
+use Rattle.records.specs.RowReaders.{IsWide, IsSomeIn}
 use Rattle.records.specs.RowForms.{fields_row, key_entry_row, version_row, lease_row, waiting_row}
 use Rattle.records.specs.Spelling.{number, text, long_text, flag, optional_field}
 use Rattle.records.specs.TokenEntry.{IsMeta}

@@ -9,7 +9,7 @@ use Rattle.std.specs.declared.cmp.Ordering.TheVariants.{Less, Equal, Greater}
 use Rattle.std.proofs.Common.{refl, sym, ap, set, zero-le, suc-le-suc}
 use Rattle.std.proofs.Math.Nat.{zero-lt-suc}
 use Rattle.std.proofs.lemmas.Bool.{false≢true}
-use Rattle.records.specs.Places.{rank, is_met}
+use Rattle.records.specs.KeyPlaces.{rank, is_met}
 
 module _ {K X : Type 0} (order : K → K → Ordering) where
   -- no place is behind the end

@@ -7,7 +7,7 @@ use Rattle.broker_types.specs.Sound.{IsMoment, IsEnd, IsShortText}
 use Rattle.broker_types.specs.Secret.{Version}
 use Rattle.broker_types.specs.Token.{Lease}
 use Rattle.broker_types.specs.Broker.{Mount, Role, Waiting}
-use Rattle.records.specs.Reading.{IsWide, IsSomeIn}
+use Rattle.records.specs.RowReaders.{IsWide, IsSomeIn}
 use Rattle.records.specs.Fields.{IsLongText}
 use Rattle.records.specs.KeyEntry.{KeyEntry}
 use Rattle.records.specs.TokenEntry.{TokenEntry, IsPolicies, IsMeta}

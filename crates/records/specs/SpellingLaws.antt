@@ -10,7 +10,7 @@ use Rattle.std.proofs.lemmas.Nat.{from_be_bytes-to_be_bytes_4, from_be_bytes-to_
 use Rattle.broker_types.specs.Text.{Text}
 use Rattle.broker_types.specs.Sound.{IsMoment, IsShortText}
 use Rattle.records.specs.Fields.{IsLongText}
-use Rattle.records.specs.Reading.{IsWide, IsSomeIn, IsListOf}
+use Rattle.records.specs.RowReaders.{IsWide, IsSomeIn, IsListOf}
 use Rattle.records.specs.RowForms.{pair}
 use Rattle.records.specs.Spelling.{number, count, text, long_text, flag, optional_field, items, listed}
 use Rattle.records.specs.TokenEntry.{IsPolicies, IsMeta, IsShortPair}

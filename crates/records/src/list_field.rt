@@ -2,7 +2,7 @@
 
 ghost use Rattle.std.specs.Prelude.{◌≡◌, ◌<◌, ◌^◌, ◌++◌, length, All, true, OnOk};
 ghost use Rattle.records.specs.Spelling.{listed};
-ghost use Rattle.records.specs.Reading.{IsListOf, shown};
+ghost use Rattle.records.specs.RowReaders.{IsListOf, shown};
 ghost use Rattle.records.specs.Fields.{ReadsField};
 
 use crate::field::{Form, Spell};

@@ -3,7 +3,7 @@
 ghost use Rattle.std.specs.Prelude.{◌≡◌, ◌<◌, ◌^◌, [], length, option_map, unwrap_or, IfOk};
 ghost use Rattle.records.specs.KeyEntry.{secret_in};
 ghost use Rattle.records.specs.RowForms.{key_entry_row, old_key_row, version_row};
-ghost use Rattle.records.specs.Reading.{Reads, ReadsWithMemory};
+ghost use Rattle.records.specs.RowReaders.{Reads, ReadsWithMemory};
 ghost use Rattle.records.specs.Ranges.{IsKeyInRange, IsOldKey, IsVersionInRange};
 
 use crate::field::UpTo;

@@ -11,7 +11,7 @@ use Rattle.sqlite.specs.State.{State, IsLive, IsUnchanged, Opens, Shown}
 use Rattle.sqlite.proofs.Callers.{IsPlain, reads_as}
 use Rattle.sqlite_schema.specs.Rules.{Obeys}
 use Rattle.records.specs.Transaction.{Rows}
-use Rattle.records_sql.specs.Table.{IsStore, broker_schema, no_schema, entries_of, kept, rows_of}
+use Rattle.records_sql.specs.SqlTable.{IsStore, broker_schema, no_schema, entries_of, kept, rows_of}
 use Rattle.records_sql.specs.Texts.{numbers_text}
 use Rattle.records_sql.specs.Numbered.{AreNumbered}
 use Rattle.records_sql.specs.Adopted.{HasRows, IsSettled, IsAdopted, IsKeptIn}

@@ -23,7 +23,7 @@ use Rattle.records.specs.declared.row.Row.{Row as Fields}
 use Rattle.records.specs.Kind.{RowKey as Key, kind_number}
 use Rattle.records.specs.KeyLaws.{kind_of-number}
 use Rattle.records.specs.DueRows.{is_due, due_cmp, AreDue}
-use Rattle.records_sql.specs.Table.{Kept, stored, entries_of, are_apart, due_value, due_in, whole_entry}
+use Rattle.records_sql.specs.SqlTable.{Kept, stored, entries_of, are_apart, due_value, due_in, whole_entry}
 use Rattle.records_sql.specs.Texts.{due_params}
 use Rattle.records_sql.proofs.Texts.{due_tests, whole_project, by_due}
 use Rattle.records_sql.proofs.QueryLemmas.{passes, query, IsFound, shown_of, map_map}

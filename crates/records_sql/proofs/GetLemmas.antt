@@ -18,9 +18,9 @@ use Rattle.records.specs.Transaction.{rows_under, rows_from, rows_upto, rows_own
 use Rattle.records.specs.declared.row.Row.{Row as Fields}
 use Rattle.records.specs.KeyLaws.{key_cmp_total}
 use Rattle.row_memory.specs.Memory.{Memory, Agrees}
-use Rattle.records_sql.specs.Table.{AgreesAt, Kept, stored, kept, due_value, broker_schema, IsStore, IsSoundAt}
-use Rattle.records_sql.specs.Table.{IsActive, IsUsable, rows_of, entries_of, are_apart, due_in, Stays, read_row}
-use Rattle.records_sql.specs.Table.{entry_in, whole_entry}
+use Rattle.records_sql.specs.SqlTable.{AgreesAt, Kept, stored, kept, due_value, broker_schema, IsStore, IsSoundAt}
+use Rattle.records_sql.specs.SqlTable.{IsActive, IsUsable, rows_of, entries_of, are_apart, due_in, Stays, read_row}
+use Rattle.records_sql.specs.SqlTable.{entry_in, whole_entry}
 use Rattle.records_sql.specs.Texts.{get_text, under_text, from_text, upto_text, owner_text, due_text, key_params}
 use Rattle.records_sql.specs.Texts.{under_params, from_params, upto_params, due_params}
 use Rattle.records_sql.specs.Bounds.{IsAbove, IsLater}

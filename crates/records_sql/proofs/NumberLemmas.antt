@@ -27,8 +27,8 @@ use Rattle.sqlite.specs.Tree.{Trees}
 use Rattle.records.specs.declared.kind.Kind.{Kind}
 use Rattle.records.specs.Kind.{key_cmp, kind_number}
 use Rattle.records.specs.KeyLaws.{kind_of, key_cmp_total}
-use Rattle.records_sql.specs.Table.{Kept, stored, kept, table, broker_schema, int_in, size_of, due_in, due_value}
-use Rattle.records_sql.specs.Table.{is_apart, are_apart}
+use Rattle.records_sql.specs.SqlTable.{Kept, stored, kept, table, broker_schema, int_in, size_of, due_in, due_value}
+use Rattle.records_sql.specs.SqlTable.{is_apart, are_apart}
 use Rattle.records_sql.specs.Numbered.{IsListed, IsOver, AreNumbered, number_of}
 use Rattle.records_sql.proofs.Texts.{numbers_project, by_number}
 use Rattle.records_sql.proofs.QueryLemmas.{IsFound, shown_of, map_map}

@@ -26,7 +26,7 @@ use Rattle.records.specs.Kind.{RowKey as Key, key_cmp, kind_number, is_of_kind}
 use Rattle.records.specs.KeyLaws.{same_kind}
 use Rattle.records.specs.Transaction.{rows_from, rows_upto}
 use Rattle.records_sql.specs.Bounds.{IsAbove, IsLater}
-use Rattle.records_sql.specs.Table.{Kept, stored, are_apart, entry_in}
+use Rattle.records_sql.specs.SqlTable.{Kept, stored, are_apart, entry_in}
 use Rattle.records_sql.specs.Texts.{from_params, upto_params}
 use Rattle.records_sql.proofs.Texts.{under_tests, upto_tests, entry_project, by_key}
 use Rattle.records_sql.proofs.QueryLemmas.{IsFound}

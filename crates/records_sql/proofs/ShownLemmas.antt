@@ -25,7 +25,7 @@ use Rattle.records.specs.declared.kind.Kind.{Kind}
 use Rattle.records.specs.declared.row.Row.{Row as Fields}
 use Rattle.records.specs.Kind.{RowKey as Key, key_cmp, kind_number}
 use Rattle.records.specs.KeyLaws.{key_cmp_total}
-use Rattle.records_sql.specs.Table.{Kept, stored, entries_of, is_apart, are_apart, due_value, due_in, entry_in}
+use Rattle.records_sql.specs.SqlTable.{Kept, stored, entries_of, is_apart, are_apart, due_value, due_in, entry_in}
 use Rattle.records_sql.proofs.Texts.{entry_project, by_key}
 use Rattle.records_sql.proofs.QueryLemmas.{passes, query, IsFound, shown_of, map_map}
 use Rattle.records_sql.proofs.KeptLemmas.{due_back, and_left, and_right, apart_filter}

@@ -26,7 +26,7 @@ use Rattle.records.specs.Kind.{RowKey as Key, kind_number, is_of_kind}
 use Rattle.records.specs.KeyLaws.{same_kind}
 use Rattle.records.specs.Transaction.{rows_under, rows_owned}
 use Rattle.records_sql.specs.Bounds.{IsAbove}
-use Rattle.records_sql.specs.Table.{Kept, stored, are_apart, entry_in}
+use Rattle.records_sql.specs.SqlTable.{Kept, stored, are_apart, entry_in}
 use Rattle.records_sql.specs.Texts.{key_params, under_params}
 use Rattle.records_sql.proofs.Texts.{under_tests, owner_tests, entry_project, by_key}
 use Rattle.records_sql.proofs.QueryLemmas.{IsFound}

@@ -3,7 +3,7 @@ use Rattle.sqlite_trees.specs.declared.store.Store as store
 use Rattle.sqlite.specs.Held.{state}
 use Rattle.records.specs.Kept.{Kept}
 use Rattle.records_sql.specs.declared.sql_records.SqlRecords.{SqlRecords}
-use Rattle.records_sql.specs.Table.{is_open, mismatches, rows_of}
+use Rattle.records_sql.specs.SqlTable.{is_open, mismatches, rows_of}
 
 -- The rows are those that were committed. A storage that returned other than what was written counts as shut.
 abbrev pub kept_records : {S : Type 0} (g : store.Ghosts S) → SqlRecords S g → Kept

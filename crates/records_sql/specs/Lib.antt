@@ -5,6 +5,6 @@ pub mod Made
 pub mod Numbered
 pub mod Props
 pub mod Refused
-pub mod Table
+pub mod SqlTable
 pub mod Texts
 pub mod UsableLaws

@@ -5,7 +5,7 @@ use Rattle.sqlite.specs.Order.{Row}
 use Rattle.sqlite_value.specs.Order.{column}
 use Rattle.records.specs.Kind.{kind_number}
 use Rattle.records.specs.KeyLaws.{kind_of}
-use Rattle.records_sql.specs.Table.{int_in, size_of, due_in, due_value}
+use Rattle.records_sql.specs.SqlTable.{int_in, size_of, due_in, due_value}
 
 abbrev pub number_of : Row → ℕ
 number_of r = size_of (int_in (column r 0))

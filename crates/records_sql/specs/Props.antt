@@ -7,7 +7,7 @@ use Rattle.sqlite_value.specs.declared.value.Value.{Value}
 use Rattle.sqlite.specs.State.{State}
 use Rattle.row_memory.specs.Memory.{Memory}
 use Rattle.row_memory.specs.MemoryProps.{Agrees-prop}
-use Rattle.records_sql.specs.Table.{AgreesAt, rows_of}
+use Rattle.records_sql.specs.SqlTable.{AgreesAt, rows_of}
 
 pub schema_coded : Coded Schema
 schema_coded = schema.the_row.coded

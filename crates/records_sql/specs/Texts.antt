@@ -6,7 +6,7 @@ use Rattle.records.specs.declared.row.Row.{Row as Fields}
 use Rattle.records.specs.Kind.{RowKey as Key, kind_number}
 use Rattle.broker_types.specs.Text.{Text as Words}
 use Rattle.records_sql.specs.Bounds.{bound_value}
-use Rattle.records_sql.specs.Table.{due_value}
+use Rattle.records_sql.specs.SqlTable.{due_value}
 
 -- ---- the eight statements
 

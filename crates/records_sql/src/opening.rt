@@ -9,7 +9,7 @@ ghost use Rattle.sqlite.specs.Held.{state};
 ghost use Rattle.sqlite.specs.State.{HasCleanDisk, IsLive, IsUnchanged};
 ghost use Rattle.records_sql.specs.Adopted.{HasRows, IsAdopted, IsKeptIn, IsSettled};
 ghost use Rattle.records_sql.specs.Made.{IsNewTable};
-ghost use Rattle.records_sql.specs.Table.{IsStore, IsUsable, broker_schema, mismatches, no_schema, rows_of};
+ghost use Rattle.records_sql.specs.SqlTable.{IsStore, IsUsable, broker_schema, mismatches, no_schema, rows_of};
 
 use crate::reading::check_numbers;
 use crate::schema::{is_blank, is_ours};

@@ -11,8 +11,8 @@ ghost use Rattle.records.specs.KeyLaws.{kind_of};
 ghost use Rattle.sqlite_value.specs.Order.{column, bytes};
 ghost use Rattle.records_sql.specs.Bounds.{IsAbove, IsLater};
 ghost use Rattle.records_sql.specs.Numbered.{AreNumbered, IsOver};
-ghost use Rattle.records_sql.specs.Table.{read_row, row_from, entry_in, whole_entry};
-ghost use Rattle.records_sql.specs.Table.{due_in, due_value, int_in, size_of};
+ghost use Rattle.records_sql.specs.SqlTable.{read_row, row_from, entry_in, whole_entry};
+ghost use Rattle.records_sql.specs.SqlTable.{due_in, due_value, int_in, size_of};
 
 use broker_types::{Bytes, Fault, TextBuf};
 use records::{Due, Entry, Kind, Row};

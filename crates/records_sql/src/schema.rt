@@ -1,7 +1,7 @@
 //! Whether a database has the table of rows as this crate makes it, told from its schema.
 
 ghost use Rattle.std.specs.Prelude.{◌≡◌, [], None, false, IsTrue};
-ghost use Rattle.records_sql.specs.Table.{no_schema, broker_schema, table, strict_column, index_on};
+ghost use Rattle.records_sql.specs.SqlTable.{no_schema, broker_schema, table, strict_column, index_on};
 
 use sqlite_schema::schema::{Column, Index, Kind, Schema, Table};
 use sqlite_value::keys::{Collation, Order};

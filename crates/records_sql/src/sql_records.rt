@@ -9,8 +9,8 @@ ghost use Rattle.broker_types.specs.Fault.{IsMemoryOrStorage};
 ghost use Rattle.records.specs.DueRows.{AreDue};
 ghost use Rattle.records.specs.Transaction.{is_storage, rows_under, rows_from, rows_upto, rows_owned};
 ghost use Rattle.records_sql.specs.Props.{state_props, AgreesAt-prop};
-ghost use Rattle.records_sql.specs.Table.{IsSoundAt, IsActive, AgreesAt, IsUsable, HasEnded, Stays};
-ghost use Rattle.records_sql.specs.Table.{rows_of, mismatches};
+ghost use Rattle.records_sql.specs.SqlTable.{IsSoundAt, IsActive, AgreesAt, IsUsable, HasEnded, Stays};
+ghost use Rattle.records_sql.specs.SqlTable.{rows_of, mismatches};
 
 use crate::reading::{bound_above, entries_of, entries_under, first_row, later, whole_entries};
 use crate::statements;

@@ -6,7 +6,7 @@ ghost use Rattle.sqlite.specs.Held.{state};
 ghost use Rattle.sqlite.specs.State.{HasCleanDisk};
 ghost use Rattle.records.specs.Transaction.{is_storage};
 ghost use Rattle.records_sql.specs.Refused.{IsRefused};
-ghost use Rattle.records_sql.specs.Table.{IsUsable, HasEnded, Stays, rows_of, mismatches};
+ghost use Rattle.records_sql.specs.SqlTable.{IsUsable, HasEnded, Stays, rows_of, mismatches};
 ghost use Rattle.records_sql.specs.contracts.sql_records.SqlRecords.{the_row};
 
 use crate::sql_records::SqlRecords;
@@ -75,7 +75,7 @@ impl<S: Alter> Drop for SqlTx<'_, S> {
 
 impl<'c, S: Alter> RecordsTx for SqlTx<'c, S> {
     ghost use Rattle.sqlite.specs.Held.{state};
-    ghost use Rattle.records_sql.specs.Table.{seen_of};
+    ghost use Rattle.records_sql.specs.SqlTable.{seen_of};
 
     ghost seen = { λ t. seen_of (state S.Store t.records.now.conn) t.records.ghost_name t.records.now.failed };
 

@@ -2,9 +2,9 @@
 use Rattle.std.specs.Prelude.{List}
 use Rattle.std.proofs.Common.{lit<, lt_of_le_of_lt}
 use Rattle.broker_types.specs.Text.{Text}
-use Rattle.api_json.specs.Kept.{IsKeptCustom, IsKeptSettings}
+use Rattle.api_json.specs.KeptBodies.{IsKeptCustom, IsKeptSettings}
 use Rattle.api_json.specs.declared.secret_bodies.KeySettings.{KeySettings}
-use Rattle.records.specs.Reading.{IsSomeIn, IsWide}
+use Rattle.records.specs.RowReaders.{IsSomeIn, IsWide}
 use Rattle.records.specs.TokenEntry.{IsMeta}
 use Rattle.kv2.specs.InRange.{AreWithinLimits}
 use Rattle.broker_model.specs.parts.Secrets.{given}

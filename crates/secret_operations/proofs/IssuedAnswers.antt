@@ -25,7 +25,7 @@ use Rattle.records.specs.Parts.{Tells, KeepsOthers, of_roles}
 use Rattle.records.specs.Table.{table_of}
 use Rattle.records.specs.Transaction.{Rows}
 use Rattle.records.specs.ValueLaws.{ok_inj}
-use Rattle.leases.specs.KeptLaws.{set_role_sound}
+use Rattle.leases.specs.StaysSoundLaws.{set_role_sound}
 use Rattle.leases.specs.Roles as roles
 use Rattle.leases.specs.Roles.{Issued, role_name, creds}
 use Rattle.broker_model.specs.Forms.{forms}

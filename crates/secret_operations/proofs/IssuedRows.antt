@@ -13,7 +13,7 @@ use Rattle.broker_types.specs.Evolves.{IsNew}
 use Rattle.broker_types.specs.Map.{get, put}
 use Rattle.broker_types.specs.Name.{is_name, is_name_byte, is_mount_name}
 use Rattle.broker_types.specs.OptionLaws.{is_nothing}
-use Rattle.broker_types.specs.Places.{lease_identifier}
+use Rattle.broker_types.specs.IdentifierPlaces.{lease_identifier}
 use Rattle.broker_types.specs.Refuse.{some_or, unless}
 use Rattle.broker_types.specs.RefuseLaws.{ok_step, no_ok}
 use Rattle.broker_types.specs.RequestError.{EndsOk}

@@ -2,7 +2,7 @@
 -- a time that is kept is no longer than one that can be given (this project's row format).
 use Rattle.std.specs.Prelude.{◌≤◌, Some, ⊤}
 use Rattle.broker_types.specs.Duration.{longest_duration}
-use Rattle.api_json.specs.Kept.{IsKept, IsKeptSettings}
+use Rattle.api_json.specs.KeptBodies.{IsKept, IsKeptSettings}
 use Rattle.api_json.specs.declared.issued_bodies.RoleSettings.{RoleSettings}
 use Rattle.broker_model.specs.declared.commands.CubbyholeCommand.{CubbyholeCommand}
 use Rattle.broker_model.specs.declared.commands.CubbyholeCommand.TheVariants as cubbyhole

@@ -7,7 +7,7 @@ ghost use Rattle.broker_types.specs.Names.{names_of};
 ghost use Rattle.broker_types.specs.Operation.{nothing, plainly};
 ghost use Rattle.broker_types.specs.Path.{is_path};
 ghost use Rattle.records.specs.Calls.{IsRequestCall, IsRequestReading};
-ghost use Rattle.api_json.specs.Kept.{IsKept};
+ghost use Rattle.api_json.specs.KeptBodies.{IsKept};
 ghost use Rattle.api_json.specs.Reads.{IsRead};
 ghost use Rattle.cubbyhole.specs.Cubbyhole as cubbyhole;
 ghost use Rattle.mounts.specs.declared.operation.CubbyholeOperation.TheVariants as operations;

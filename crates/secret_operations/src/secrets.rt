@@ -15,7 +15,7 @@ ghost use Rattle.secret_operations.specs.Paths.{needs_path};
 ghost use Rattle.broker_types.specs.Limits.{longest_body};
 ghost use Rattle.api_json.specs.Readers as reader;
 ghost use Rattle.api_json.specs.Reads.{IsRead};
-ghost use Rattle.mounts.specs.Table.{takes_path};
+ghost use Rattle.mounts.specs.RouteTable.{takes_path};
 ghost use Rattle.broker_model.specs.declared.commands.SecretCommand.TheVariants as commands;
 ghost use Rattle.broker_model.specs.parts.Bodies.{read_as};
 ghost use Rattle.secret_operations.specs.Bodies.{found_in};

@@ -10,7 +10,7 @@ use Rattle.hub.specs.Feeding.{IsLater}
 use Rattle.hub.specs.Links.{number_of, unsent}
 use Rattle.hub.specs.Numbers.{IsNext}
 use Rattle.hub.specs.Representing.{ConnectionsRepresent, HubRepresents, hub_store}
-use Rattle.hub.specs.Serving.{IsAllowed, LeavesClosed, LeavesOthers}
+use Rattle.hub.specs.ServedConnection.{IsAllowed, LeavesClosed, LeavesOthers}
 use Rattle.hub.specs.Steps.{closed}
 use Rattle.hub.specs.StepsLaws.{known_open, steps_close, steps_none, steps_on, steps_turned}
 use Rattle.hub.specs.Turning.{Passes, TurnsLink}
@@ -22,7 +22,7 @@ use Rattle.hub.specs.declared.serve.ConnectionFault.{ConnectionFault}
 use Rattle.hub.specs.declared.serve.ConnectionFault.TheVariants.{Broker}
 use Rattle.hub.specs.declared.turn.Turn.{Turn}
 use Rattle.histories.specs.KeepsLaws.{AllKeepLaws}
-use Rattle.server.specs.Serving.{ClosesSome, LeavesBelow, LeavesSeen, LeavesServed, ServesLawfully, is_skipped}
+use Rattle.server.specs.ServedHub.{ClosesSome, LeavesBelow, LeavesSeen, LeavesServed, ServesLawfully, is_skipped}
 
 -- ---- nothing is done
 

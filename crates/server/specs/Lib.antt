@@ -4,5 +4,5 @@ pub mod Moments
 pub mod Noting
 pub mod Patience
 pub mod Replying
-pub mod Serving
+pub mod ServedHub
 pub mod Starting

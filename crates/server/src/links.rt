@@ -2,10 +2,10 @@
 
 ghost use Rattle.std.specs.Prelude.{◌≤◌};
 ghost use Rattle.hub.specs.Representing.{ConnectionsRepresent};
-ghost use Rattle.hub.specs.Serving.{LeavesClosed};
+ghost use Rattle.hub.specs.ServedConnection.{LeavesClosed};
 ghost use Rattle.hub.specs.Supplies.{Supplies};
 ghost use Rattle.hub.specs.World.{Connections};
-ghost use Rattle.server.specs.Serving.{ClosesSome, LeavesBelow, LeavesServed};
+ghost use Rattle.server.specs.ServedHub.{ClosesSome, LeavesBelow, LeavesServed};
 
 use crate::log::Log;
 use crate::peer::{Peer, Stay};

@@ -3,7 +3,7 @@
 ghost use Rattle.hub.specs.Representing.{ConnectionsRepresent};
 ghost use Rattle.hub.specs.Supplies.{Supplies};
 ghost use Rattle.hub.specs.World.{Connections};
-ghost use Rattle.server.specs.Serving.{ClosesSome, LeavesBelow, LeavesServed};
+ghost use Rattle.server.specs.ServedHub.{ClosesSome, LeavesBelow, LeavesServed};
 
 use crate::accepting::{Accepting, INPUT, LISTENER};
 use crate::links::Links;

@@ -6,7 +6,7 @@ ghost use Rattle.hub.specs.Representing.{ConnectionsRepresent};
 ghost use Rattle.hub.specs.Supplies.{Supplies};
 ghost use Rattle.hub.specs.World.{Connections};
 ghost use Rattle.hub.specs.declared.serve.ConnectionFault.TheVariants.{Broker};
-ghost use Rattle.server.specs.Serving.{LeavesBelow, LeavesServed, is_skipped};
+ghost use Rattle.server.specs.ServedHub.{LeavesBelow, LeavesServed, is_skipped};
 
 use crate::replying::Replying;
 use crate::waiting::{Wait, is_over};

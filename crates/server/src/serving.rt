@@ -3,7 +3,7 @@
 ghost use Rattle.hub.specs.Representing.{ConnectionsRepresent};
 ghost use Rattle.hub.specs.Supplies.{Supplies};
 ghost use Rattle.hub.specs.World.{Connections};
-ghost use Rattle.server.specs.Serving.{LeavesBelow, LeavesSeen, LeavesServed, ServesLawfully};
+ghost use Rattle.server.specs.ServedHub.{LeavesBelow, LeavesSeen, LeavesServed, ServesLawfully};
 
 use crate::listening::Listening;
 use broker::Store;

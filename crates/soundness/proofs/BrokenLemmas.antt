@@ -22,7 +22,7 @@ use Rattle.records.specs.Kind.{RowKey}
 use Rattle.records.specs.KeyEntry.{KeyEntry}
 use Rattle.records.specs.TokenEntry.{TokenEntry}
 use Rattle.records.specs.Ranges.{IsTokenInRange, IsLeaseInRange, IsKeyInRange, IsVersionInRange, IsWaitingInRange}
-use Rattle.records.specs.Reading.{IsSomeIn}
+use Rattle.records.specs.RowReaders.{IsSomeIn}
 use Rattle.records.specs.Spelling.{number}
 use Rattle.records.specs.RowForms.{entry_row, accessor_row, cubby_row, lease_row, credential_row, key_entry_row}
 use Rattle.records.specs.RowForms.{old_key_row, version_row, waiting_row, policy_row}

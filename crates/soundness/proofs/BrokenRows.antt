@@ -5,7 +5,7 @@ use Rattle.broker_types.specs.Text.{Text}
 use Rattle.broker_types.specs.TokenText.{token_text}
 use Rattle.broker_types.specs.Identifier.{id}
 use Rattle.broker_types.specs.OptionLaws.{found_or_not}
-use Rattle.broker_types.specs.Places.{token_identifier}
+use Rattle.broker_types.specs.IdentifierPlaces.{token_identifier}
 use Rattle.broker_types.specs.Broker.{Waiting}
 use Rattle.records.specs.declared.kind.Kind.{Kind}
 use Rattle.records.specs.declared.kind.Kind.TheVariants as kind

@@ -10,8 +10,8 @@ use Rattle.broker_types.specs.TextLaws.{same_true, same_self}
 use Rattle.broker_types.specs.Limits.{most_custom_metadata}
 use Rattle.broker_types.specs.Map.{get, first_where}
 use Rattle.broker_types.specs.OptionLaws.{found_or_not, mapped, mapped_none}
-use Rattle.broker_types.specs.Places as places
-use Rattle.broker_types.specs.Places.{Place, identifier_at, place_token}
+use Rattle.broker_types.specs.IdentifierPlaces as places
+use Rattle.broker_types.specs.IdentifierPlaces.{Place, identifier_at, place_token}
 use Rattle.broker_types.specs.SearchLaws.{each_entry, first_where_is, first_where_only, none_found, OnePasses}
 use Rattle.broker_types.specs.Secret.{Key}
 use Rattle.broker_types.specs.Sound.{Sound, IsIdentifier, IsCustomPair, IsSoundMount, IsSoundPolicy, IsSoundRole}

@@ -14,8 +14,8 @@ use Rattle.broker_types.specs.Identifier.{id}
 use Rattle.broker_types.specs.Lineage.{ends_within}
 use Rattle.broker_types.specs.Map.{get, len, first_where}
 use Rattle.broker_types.specs.OptionLaws.{found_or_not, is_nothing}
-use Rattle.broker_types.specs.Places as places
-use Rattle.broker_types.specs.Places.{Place, identifier_at, token_identifier, lease_identifier}
+use Rattle.broker_types.specs.IdentifierPlaces as places
+use Rattle.broker_types.specs.IdentifierPlaces.{Place, identifier_at, token_identifier, lease_identifier}
 use Rattle.broker_types.specs.SearchLaws.{first_where_only, OnePasses}
 use Rattle.broker_types.specs.Sound.{Sound}
 use Rattle.broker_types.specs.Token.{Token, Lease}

@@ -7,8 +7,8 @@ use Rattle.broker_types.specs.TextLaws.{same_self}
 use Rattle.broker_types.specs.TokenText.{token_text}
 use Rattle.broker_types.specs.Map.{get}
 use Rattle.broker_types.specs.OptionLaws.{found_or_not, mapped}
-use Rattle.broker_types.specs.Places as places
-use Rattle.broker_types.specs.Places.{Place, identifier_at, token_identifier, lease_identifier, lease_of}
+use Rattle.broker_types.specs.IdentifierPlaces as places
+use Rattle.broker_types.specs.IdentifierPlaces.{Place, identifier_at, token_identifier, lease_identifier, lease_of}
 use Rattle.broker_types.specs.Sound.{SoundIdentifiers}
 use Rattle.broker_types.specs.Token.{Token, Lease}
 use Rattle.broker_types.specs.Broker.{Broker, Waiting}

@@ -8,7 +8,7 @@ use Rattle.std.proofs.lemmas.Option.{same_Some}
 use Rattle.std.proofs.lemmas.Result.{IfOk-weaker}
 use Rattle.broker_types.specs.Text.{Text}
 use Rattle.broker_types.specs.Identifier.{id}
-use Rattle.broker_types.specs.Places.{lease_identifier}
+use Rattle.broker_types.specs.IdentifierPlaces.{lease_identifier}
 use Rattle.broker_types.specs.Sound.{IsIdentifier, IsLeaseId}
 use Rattle.broker_types.specs.declared.fault.Fault.{Fault}
 use Rattle.records.specs.declared.kind.Kind.{Kind}

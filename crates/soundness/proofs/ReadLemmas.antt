@@ -12,7 +12,7 @@ use Rattle.broker_types.specs.declared.fault.Fault.TheVariants.{Memory, Damaged}
 use Rattle.records.specs.declared.holder.Holder.{Holder}
 use Rattle.records.specs.declared.row.Row.{Row}
 use Rattle.records.specs.Ranges.{IsLeaseInRange}
-use Rattle.records.specs.Reading.{Reads, ReadsWithMemory}
+use Rattle.records.specs.RowReaders.{Reads, ReadsWithMemory}
 use Rattle.records.specs.RowForms.{accessor_row, cubby_row, lease_row, credential_row}
 use Rattle.soundness.specs.RowRules.{IsOf, Named, Owned, Held}
 

@@ -16,11 +16,11 @@ use Rattle.serde_json.specs.Written.{compact_text}
 use Rattle.broker_types.specs.Identifier.{id}
 use Rattle.broker_types.specs.IdentifierLaws.{id-length}
 use Rattle.broker_types.specs.Name.{is_name, is_mount_name}
-use Rattle.broker_types.specs.Places.{lease_identifier}
+use Rattle.broker_types.specs.IdentifierPlaces.{lease_identifier}
 use Rattle.broker_types.specs.Sound.{IsIdentifier, IsLeaseId}
 use Rattle.broker_types.specs.Text.{Text, same}
 use Rattle.api_json.specs.Json.{tree, without_floats, members_in}
-use Rattle.api_json.specs.Kept.{is_object}
+use Rattle.api_json.specs.KeptBodies.{is_object}
 use Rattle.records.specs.Splits.{slash, split_once}
 use Rattle.records.specs.SplitLaws.{lacking_split}
 use Rattle.mounts.specs.CutLaws.{cut_some, cut_none}

@@ -34,7 +34,7 @@ use Rattle.broker_types.specs.OptionLaws.{found_or_not}
 use Rattle.broker_types.specs.Text.{Text, same}
 use Rattle.broker_types.specs.TextLaws.{same_true}
 use Rattle.api_json.specs.Json.{tree, without_floats, members_in}
-use Rattle.api_json.specs.Kept.{is_object}
+use Rattle.api_json.specs.KeptBodies.{is_object}
 use Rattle.records.specs.DigitLaws.{digits_model, padded_digits, digits_after-padded, length-padded}
 use Rattle.records.specs.Rows.{padded}
 use Rattle.records.specs.Splits.{slash, split_once, lacks}

@@ -6,7 +6,7 @@ use Rattle.broker_types.specs.Text.{Text}
 use Rattle.broker_types.specs.TokenText.{token_text}
 use Rattle.broker_types.specs.Identifier.{id}
 use Rattle.broker_types.specs.Name.{is_name, is_mount_name}
-use Rattle.broker_types.specs.Places.{lease_identifier}
+use Rattle.broker_types.specs.IdentifierPlaces.{lease_identifier}
 use Rattle.broker_types.specs.Broker.{Waiting}
 use Rattle.broker_types.specs.Sound.{IsMoment, IsIdentifier, IsTokenText, IsShortText, IsPathText, IsLeaseId}
 use Rattle.broker_types.specs.Sound.{IsSecretName}
@@ -20,7 +20,7 @@ use Rattle.records.specs.Kind.{RowKey}
 use Rattle.records.specs.KeyEntry.{KeyEntry}
 use Rattle.records.specs.Ranges.{IsTokenInRange, IsLeaseInRange, IsKeyInRange, IsOldKey, IsVersionInRange}
 use Rattle.records.specs.Ranges.{IsWaitingInRange, IsMountInRange, IsRoleInRange}
-use Rattle.records.specs.Reading.{IsWide, IsSomeIn}
+use Rattle.records.specs.RowReaders.{IsWide, IsSomeIn}
 use Rattle.records.specs.RowForms.{clock_row, used_row, entry_row, accessor_row, cubby_row, lease_row, credential_row}
 use Rattle.records.specs.RowForms.{key_entry_row, old_key_row, version_row, waiting_row, mount_row, policy_row}
 use Rattle.records.specs.RowForms.{role_row}

@@ -18,7 +18,7 @@ use Rattle.records.specs.declared.row.Row.{Row}
 use Rattle.records.specs.KeyEntry.{KeyEntry}
 use Rattle.records.specs.TokenEntry.{TokenEntry}
 use Rattle.records.specs.Ranges.{IsTokenInRange, IsLeaseInRange, IsKeyInRange, IsVersionInRange, IsWaitingInRange}
-use Rattle.records.specs.Reading.{IsSomeIn}
+use Rattle.records.specs.RowReaders.{IsSomeIn}
 use Rattle.records.specs.RowForms.{clock_row, used_row, entry_row, accessor_row, cubby_row, lease_row, credential_row}
 use Rattle.records.specs.RowForms.{key_entry_row, version_row, waiting_row, mount_row, policy_row, role_row}
 use Rattle.records.specs.Rows.{version_key}

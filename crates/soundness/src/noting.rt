@@ -3,7 +3,7 @@
 ghost use Rattle.std.specs.Prelude.{◌≡◌, ℕ, Some, false, IfOk, IfErr};
 ghost use Rattle.std.specs.Bool.{OnTrue};
 ghost use Rattle.broker_types.specs.Fault.{IsMemoryOrStorage};
-ghost use Rattle.broker_types.specs.Places as leases;
+ghost use Rattle.broker_types.specs.IdentifierPlaces as leases;
 ghost use Rattle.broker_types.specs.Identifier.{id};
 ghost use Rattle.broker_types.specs.Sound.{IsIdentifier, IsLeaseId, IsTokenText};
 ghost use Rattle.broker_types.specs.Text.{Text};

@@ -20,7 +20,7 @@ use Rattle.records.specs.PartLaws.{AgreeOutside}
 use Rattle.records.specs.Parts.{Tells, KeepsOthers, of_leases}
 use Rattle.records.specs.Table.{Table, table_of}
 use Rattle.records.specs.Transaction.{Rows}
-use Rattle.leases.specs.KeptLaws.{renew_sound}
+use Rattle.leases.specs.StaysSoundLaws.{renew_sound}
 use Rattle.leases.specs.LeaseRows.{KeepsOtherLeases}
 use Rattle.leases.specs.Leases as leases
 use Rattle.leases.specs.Leases.{Times, times_of, Renewed, renewed, renewed_end, with_renewed}

@@ -22,7 +22,7 @@ use Rattle.records.specs.Table.{table_of}
 use Rattle.records.specs.Transaction.{Rows}
 use Rattle.kv2.specs.Secrets.{drop_mount}
 use Rattle.kv2.specs.SoundLaws.{drop_mount_sound}
-use Rattle.leases.specs.KeptLaws.{drop_roles_sound, revoke_under_sound}
+use Rattle.leases.specs.StaysSoundLaws.{drop_roles_sound, revoke_under_sound}
 use Rattle.leases.specs.LeaseRows.{RepresentsLeases}
 use Rattle.leases.specs.Leases.{revoke_under}
 use Rattle.leases.specs.Roles.{drop_roles}

@@ -49,7 +49,7 @@ struct Planted {
 impl Planted {
     ghost use Rattle.std.specs.Prelude.{IfOk};
     ghost use Rattle.broker_types.specs.Answer.{HasRoom, response_of};
-    ghost use Rattle.broker_model.specs.Listed.{IsListed};
+    ghost use Rattle.broker_model.specs.ListedResponses.{IsListed};
 
     fn answer(&mut self, moment: Moment, words: &Words, ask: &Ask<'_>) -> Result<Answer, Fault>
         ensures room { IfOk result HasRoom }

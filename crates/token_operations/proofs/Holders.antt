@@ -8,7 +8,7 @@ use Rattle.broker_types.specs.Broker.{Broker}
 use Rattle.broker_types.specs.LineageLaws.{revoke_unknown}
 use Rattle.broker_types.specs.Map.{get}
 use Rattle.broker_types.specs.OptionLaws.{found_or_not}
-use Rattle.broker_types.specs.Places.{OnePlaceEach}
+use Rattle.broker_types.specs.IdentifierPlaces.{OnePlaceEach}
 use Rattle.broker_types.specs.Refuse.{◌>>=◌, some_or}
 use Rattle.broker_types.specs.Spending.{drop_waiting}
 use Rattle.broker_types.specs.Text.{Text}

@@ -16,7 +16,7 @@ use Rattle.api_json.specs.declared.token_bodies.TokenCreation.{TokenCreation}
 use Rattle.records.specs.EntryMapLaws.{listed_entries}
 use Rattle.records.specs.RangeLaws.{identifier_short, name_short}
 use Rattle.records.specs.Ranges.{IsTokenInRange}
-use Rattle.records.specs.Reading.{IsSomeIn, IsWide}
+use Rattle.records.specs.RowReaders.{IsSomeIn, IsWide}
 use Rattle.records.specs.TokenEntry.{TokenEntry, token_entry}
 use Rattle.broker_model.specs.declared.making.Making.{Making}
 use Rattle.broker_model.specs.parts.TokenCreation.{new_token, new_policies, may_make, has_no_end, asked_ttl}

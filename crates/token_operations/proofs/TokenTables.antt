@@ -10,7 +10,7 @@ use Rattle.broker_types.specs.MapLaws.{get-put, get-change}
 use Rattle.broker_types.specs.TextLaws.{same_true}
 use Rattle.broker_types.specs.TreeLaws.{orphaned_is}
 use Rattle.broker_types.specs.Lineage.{without_descendants, without_parent}
-use Rattle.broker_types.specs.Places.{token, token_identifier, lease_of}
+use Rattle.broker_types.specs.IdentifierPlaces.{token, token_identifier, lease_of}
 use Rattle.broker_types.specs.Token.{Token, Tokens}
 use Rattle.broker_types.specs.Broker.{Broker, revoke, revoke_orphan}
 use Rattle.broker_types.specs.RemovalLaws.{revoke_sound, revoke_orphan_sound}

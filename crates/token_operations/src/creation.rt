@@ -14,7 +14,7 @@ ghost use Rattle.records.specs.Ranges.{IsTokenInRange};
 ghost use Rattle.records.specs.TokenEntry.{token_entry};
 ghost use Rattle.records.specs.Transaction.{IsHonest};
 ghost use Rattle.token_tree.specs.Tokens.{MayBeMade, created};
-ghost use Rattle.api_json.specs.Kept.{IsKeptCreation};
+ghost use Rattle.api_json.specs.KeptBodies.{IsKeptCreation};
 ghost use Rattle.policies.specs.Allows.{allows};
 ghost use Rattle.policies.specs.declared.capability.Capability.TheVariants as capability;
 ghost use Rattle.broker_model.specs.Forms.{forms};

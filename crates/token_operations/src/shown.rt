@@ -5,7 +5,7 @@ ghost use Rattle.broker_types.specs.Names.{names_of};
 ghost use Rattle.broker_types.specs.Sound.{IsEnd};
 ghost use Rattle.broker_types.specs.Text.{Text};
 ghost use Rattle.records.specs.Ranges.{IsTokenInRange};
-ghost use Rattle.records.specs.Reading.{IsSomeIn};
+ghost use Rattle.records.specs.RowReaders.{IsSomeIn};
 ghost use Rattle.records.specs.TokenEntry.{TokenEntry};
 ghost use Rattle.broker_model.specs.parts.TokenReplies as part;
 

@@ -31,7 +31,7 @@ use Rattle.token_tree.specs.Removed.{IsTokenRow}
 use Rattle.token_tree.specs.Walks.{HasDamagedDescent}
 use Rattle.token_tree.proofs.Taken.{without_ended, AreReadableEnded}
 use Rattle.token_tree.proofs.Fates.{IsFate, fated, under_fate, expired_fate}
-use Rattle.token_tree.proofs.Listed.{each_listed, lists_tokens}
+use Rattle.token_tree.proofs.ListedTokens.{each_listed, lists_tokens}
 use Rattle.token_tree.proofs.Removals.{tells_kept, tells_changed, others_stay}
 use Rattle.token_tree.proofs.TokenEnds.{table_of-without_tokens, rows_read}
 

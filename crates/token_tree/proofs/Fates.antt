@@ -16,7 +16,7 @@ use Rattle.broker_types.specs.OptionLaws.{found_or_not, is_nothing}
 use Rattle.broker_types.specs.TreeLaws.{lineage_none, lineage_orphan, lineage_child}
 use Rattle.records.specs.Children.{has}
 use Rattle.token_tree.specs.Ended.{goes, of_owner, has_come, is_named, IsDescent, Start}
-use Rattle.token_tree.proofs.Listed.{node, listing, each_listed, listed_at}
+use Rattle.token_tree.proofs.ListedTokens.{node, listing, each_listed, listed_at}
 
 -- the texts that end by a start
 pub record IsFate (ts : Tokens) (s : Start) (gone : Text → Bool) : Type 0 where

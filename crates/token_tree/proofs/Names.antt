@@ -18,7 +18,7 @@ use Rattle.broker_types.specs.Map.{Map, get, entries, first_where, with_values}
 use Rattle.broker_types.specs.MapLaws.{listing_is}
 use Rattle.broker_types.specs.SearchLaws.{each_entry, first_where_is, first_where_only}
 use Rattle.broker_types.specs.OptionLaws.{mapped}
-use Rattle.broker_types.specs.Places.{OnePlaceEach}
+use Rattle.broker_types.specs.IdentifierPlaces.{OnePlaceEach}
 use Rattle.broker_types.specs.Token.{Token}
 use Rattle.broker_types.specs.Broker.{Broker, Waiting}
 use Rattle.records.specs.declared.holder.Holder.TheVariants as holder

@@ -35,7 +35,7 @@ use Rattle.records.specs.Transaction.{Rows, rows_under}
 use Rattle.records.specs.TableLaws.{table_of-insert}
 use Rattle.token_tree.specs.Orphaned.{is_child, orphaned, without_parent}
 use Rattle.token_tree.proofs.Taken.{without_ended}
-use Rattle.token_tree.proofs.Listed.{node, listing, lists_tokens}
+use Rattle.token_tree.proofs.ListedTokens.{node, listing, lists_tokens}
 use Rattle.token_tree.specs.Tokens.{has_accessor, has_ended, RepresentsTokens, AreEnded}
 use Rattle.token_tree.specs.EndedLaws.{ended_by_revocation_alone}
 use Rattle.token_tree.proofs.Removals.{tells_kept}

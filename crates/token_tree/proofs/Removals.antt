@@ -10,7 +10,7 @@ use Rattle.broker_types.specs.Map.{get, entries, keep, first_where, map_values}
 use Rattle.broker_types.specs.Token.{Token, Tokens}
 use Rattle.broker_types.specs.Broker.{Broker, Waiting}
 use Rattle.broker_types.specs.Sound.{Forms, SoundTokens}
-use Rattle.broker_types.specs.Places.{accessor, wrapping_accessor, place_token, OnePlaceEach}
+use Rattle.broker_types.specs.IdentifierPlaces.{accessor, wrapping_accessor, place_token, OnePlaceEach}
 use Rattle.std.proofs.Math.Bool.{or-false}
 use Rattle.std.proofs.lemmas.Bool.{false≢true, and_parts}
 use Rattle.broker_types.specs.OptionLaws.{found_or_not, taken_out_twice}
@@ -36,7 +36,7 @@ use Rattle.records.specs.Children.{has}
 use Rattle.token_tree.specs.Removed.{without_token}
 use Rattle.token_tree.proofs.Taken.{without_ended}
 use Rattle.token_tree.specs.Tokens.{has_accessor}
-use Rattle.token_tree.proofs.Listed.{node, listing}
+use Rattle.token_tree.proofs.ListedTokens.{node, listing}
 
 -- ---- which rows are taken out
 

@@ -7,7 +7,7 @@ use Rattle.broker_types.specs.Map.{get, put, change, first_where}
 use Rattle.broker_types.specs.Token.{Token, Tokens}
 use Rattle.broker_types.specs.Broker.{Broker, Waiting}
 use Rattle.broker_types.specs.Evolves.{IsNew}
-use Rattle.broker_types.specs.Places.{token, accessor, token_identifier, OnePlaceEach, AllUsed}
+use Rattle.broker_types.specs.IdentifierPlaces.{token, accessor, token_identifier, OnePlaceEach, AllUsed}
 use Rattle.std.proofs.lemmas.Bool.{false≢true}
 use Rattle.std.proofs.lemmas.Option.{none-some, same_Some}
 use Rattle.broker_types.specs.OptionLaws.{found_or_not}

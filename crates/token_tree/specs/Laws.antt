@@ -5,7 +5,7 @@ use Rattle.broker_types.specs.Map.{get, empty}
 use Rattle.broker_types.specs.Token.{Token}
 use Rattle.broker_types.specs.Lineage.{is_under, is_alive}
 use Rattle.broker_types.specs.Broker.{Broker, revoke, revoke_orphan}
-use Rattle.broker_types.specs.Places.{OnePlaceEach, token_identifier}
+use Rattle.broker_types.specs.IdentifierPlaces.{OnePlaceEach, token_identifier}
 use Rattle.broker_types.specs.Evolves.{Evolves, IsNew}
 use Rattle.broker_types.specs.Sound.{Forms, Sound, IsEnd}
 use Rattle.records.specs.declared.kind.Kind.TheVariants as kind

@@ -11,8 +11,8 @@ use Rattle.broker_types.specs.Token.{Token, Tokens, Lease}
 use Rattle.broker_types.specs.Broker.{Broker}
 use Rattle.broker_types.specs.Evolves.{Evolves, IsNew}
 use Rattle.broker_types.specs.Lineage.{ends_within, ParentsExist, ChainsEnd}
-use Rattle.broker_types.specs.Places.{token, accessor, lease, credential, wrapping_token, wrapping_accessor}
-use Rattle.broker_types.specs.Places.{lease_of, token_identifier, lease_identifier}
+use Rattle.broker_types.specs.IdentifierPlaces.{token, accessor, lease, credential, wrapping_token, wrapping_accessor}
+use Rattle.broker_types.specs.IdentifierPlaces.{lease_of, token_identifier, lease_identifier}
 use Rattle.broker_types.specs.Sound.{Forms, Sound, IsEnd, IsIdentifier, IsSoundToken}
 use Rattle.broker_types.specs.EditLaws.{IsEdit, edit_evolves, edit_sound, unspent_still}
 use Rattle.broker_types.specs.FewerLaws.{edited_sound}

@@ -5,7 +5,7 @@ use Rattle.broker_types.specs.Text.{Text}
 use Rattle.records.specs.declared.kind.Kind.TheVariants as kind
 use Rattle.records.specs.declared.holder.Holder.TheVariants as holder
 use Rattle.records.specs.Ranges.{IsTokenInRange}
-use Rattle.records.specs.Reading.{IsSomeIn}
+use Rattle.records.specs.RowReaders.{IsSomeIn}
 use Rattle.records.specs.RowForms.{entry_row, accessor_row}
 use Rattle.records.specs.Table.{Table, with_row}
 use Rattle.records.specs.TokenEntry.{TokenEntry}

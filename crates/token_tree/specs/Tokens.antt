@@ -8,7 +8,7 @@ use Rattle.broker_types.specs.Map.{Map, get, put, change, empty, entries, keys}
 use Rattle.broker_types.specs.Token.{Token}
 use Rattle.broker_types.specs.Lineage.{alive_at}
 use Rattle.broker_types.specs.Broker.{Broker}
-use Rattle.broker_types.specs.Places.{OnePlaceEach, token_identifier}
+use Rattle.broker_types.specs.IdentifierPlaces.{OnePlaceEach, token_identifier}
 use Rattle.broker_types.specs.Evolves.{IsNew}
 use Rattle.broker_types.specs.Used.{use_up}
 use Rattle.broker_types.specs.Sound.{Forms, SoundTokens, IsSoundToken}

@@ -82,7 +82,7 @@ struct Request<'r, 'a> {
 
 impl<'r, 'a> OverRecords for Request<'r, 'a> {
     ghost use Rattle.broker_types.specs.Answer.{HasRoom, response_of};
-    ghost use Rattle.broker_model.specs.Listed.{IsListed};
+    ghost use Rattle.broker_model.specs.ListedResponses.{IsListed};
 
     type Came = Answer;
 

@@ -2,7 +2,7 @@
 
 ghost use Rattle.std.specs.Prelude.{IfOk};
 ghost use Rattle.broker_types.specs.Answer.{HasRoom, response_of};
-ghost use Rattle.broker_model.specs.Listed.{IsListed};
+ghost use Rattle.broker_model.specs.ListedResponses.{IsListed};
 
 use broker::handle;
 use broker_rows::write_first_rows;

@@ -2,7 +2,7 @@
 
 ghost use Rattle.std.specs.Prelude.{IfOk};
 ghost use Rattle.broker_types.specs.Answer.{HasRoom, response_of};
-ghost use Rattle.broker_model.specs.Listed.{IsListed};
+ghost use Rattle.broker_model.specs.ListedResponses.{IsListed};
 
 use crate::base::{Base, Outcome, Request};
 use broker::Store;

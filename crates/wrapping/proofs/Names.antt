@@ -7,7 +7,7 @@ use Rattle.broker_types.specs.Text.{Text, same}
 use Rattle.broker_types.specs.Map.{first_where}
 use Rattle.broker_types.specs.Token.{Token}
 use Rattle.broker_types.specs.Broker.{Broker, Waiting}
-use Rattle.broker_types.specs.Places.{OnePlaceEach}
+use Rattle.broker_types.specs.IdentifierPlaces.{OnePlaceEach}
 use Rattle.broker_types.specs.OptionLaws.{found_or_not}
 use Rattle.broker_types.specs.SearchLaws.{first_where_is}
 use Rattle.broker_types.specs.TextLaws.{same_true}

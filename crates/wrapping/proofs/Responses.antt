@@ -8,8 +8,9 @@ use Rattle.broker_types.specs.Map.{Map, get, put, without, first_where}
 use Rattle.broker_types.specs.Token.{Token, Tokens}
 use Rattle.broker_types.specs.Broker.{Broker, Waiting}
 use Rattle.broker_types.specs.Evolves.{IsNew}
-use Rattle.broker_types.specs.Places.{Place, token, accessor, lease, credential, wrapping_token, wrapping_accessor}
-use Rattle.broker_types.specs.Places.{identifier_at, place_token, token_identifier, OnePlaceEach, AllUsed}
+use Rattle.broker_types.specs.IdentifierPlaces.{Place, token, accessor, lease, credential, wrapping_token}
+use Rattle.broker_types.specs.IdentifierPlaces.{wrapping_accessor}
+use Rattle.broker_types.specs.IdentifierPlaces.{identifier_at, place_token, token_identifier, OnePlaceEach, AllUsed}
 use Rattle.broker_types.specs.Spending.{drop_waiting}
 use Rattle.broker_types.specs.MapLaws.{get-put, get-put_self, get-without, without_is}
 use Rattle.broker_types.specs.OptionLaws.{mapped, found_or_not}

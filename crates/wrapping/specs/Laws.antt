@@ -6,7 +6,7 @@ use Rattle.broker_types.specs.Token.{Token, Tokens}
 use Rattle.broker_types.specs.Lineage.{alive_at}
 use Rattle.broker_types.specs.Broker.{Broker, Waiting, waiting_ends, at_moment}
 use Rattle.broker_types.specs.Evolves.{Evolves, IsNew, IsTakenOut, WaitedBefore}
-use Rattle.broker_types.specs.Places.{OnePlaceEach, token_identifier}
+use Rattle.broker_types.specs.IdentifierPlaces.{OnePlaceEach, token_identifier}
 use Rattle.broker_types.specs.Sound.{Forms, Sound, SoundIdentifiers, IsMoment, IsIdentifier, IsTokenText}
 use Rattle.broker_types.specs.Spending.{drop_waiting}
 use Rattle.records.specs.Parts.{of_tokens, of_waiting, Tells, KeepsOthers}

@@ -7,7 +7,7 @@ use Rattle.broker_types.specs.Text.{Text, same}
 use Rattle.broker_types.specs.Map.{get, without, keep}
 use Rattle.broker_types.specs.Broker.{Broker, Waiting}
 use Rattle.broker_types.specs.Evolves.{IsTakenOut, WaitedBefore}
-use Rattle.broker_types.specs.Places.{token_identifier}
+use Rattle.broker_types.specs.IdentifierPlaces.{token_identifier}
 use Rattle.broker_types.specs.Sound.{SoundIdentifiers}
 use Rattle.broker_types.specs.Spending.{drop_waiting}
 use Rattle.broker_types.specs.FewerLaws.{WaitFewer}

@@ -7,8 +7,8 @@ use Rattle.broker_types.specs.Text.{Text}
 use Rattle.broker_types.specs.Map.{Map, get, put, without, keep}
 use Rattle.broker_types.specs.Broker.{Broker, Waiting}
 use Rattle.broker_types.specs.Evolves.{Evolves, IsNew, WaitedBefore}
-use Rattle.broker_types.specs.Places.{token, accessor, lease, credential, wrapping_token, wrapping_accessor}
-use Rattle.broker_types.specs.Places.{token_identifier, IsUsed}
+use Rattle.broker_types.specs.IdentifierPlaces.{token, accessor, lease, credential, wrapping_token, wrapping_accessor}
+use Rattle.broker_types.specs.IdentifierPlaces.{token_identifier, IsUsed}
 use Rattle.broker_types.specs.Sound.{Forms, Sound, IsMoment, IsIdentifier, IsTokenText}
 use Rattle.broker_types.specs.Sound.{IsSoundWaiting}
 use Rattle.broker_types.specs.Spending.{drop_waiting}

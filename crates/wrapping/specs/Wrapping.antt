@@ -6,7 +6,7 @@ use Rattle.broker_types.specs.Text.{Text, same}
 use Rattle.broker_types.specs.Map.{Map, get, put, keep, first_where}
 use Rattle.broker_types.specs.Broker.{Broker, Waiting, waiting_ends}
 use Rattle.broker_types.specs.Evolves.{IsNew, OriginIsGone, WaitedBefore}
-use Rattle.broker_types.specs.Places.{token_identifier}
+use Rattle.broker_types.specs.IdentifierPlaces.{token_identifier}
 use Rattle.broker_types.specs.Sound.{IsSoundWaiting}
 use Rattle.broker_types.specs.Spending.{drop_waiting}
 use Rattle.broker_types.specs.Used.{use_up}

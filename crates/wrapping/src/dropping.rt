@@ -8,7 +8,7 @@ ghost use Rattle.broker_types.specs.Spending.{drop_waiting};
 ghost use Rattle.records.specs.Calls.{IsCall, IsReading, IsChange, IsReadFault};
 ghost use Rattle.records.specs.Parts.{of_waiting, Tells, KeepsOthers};
 ghost use Rattle.records.specs.Ranges.{IsWaitingInRange};
-ghost use Rattle.records.specs.Reading.{IsSomeIn};
+ghost use Rattle.records.specs.RowReaders.{IsSomeIn};
 ghost use Rattle.records.specs.Table.{table};
 ghost use Rattle.records.specs.Transaction.{IsHonest};
 ghost use Rattle.wrapping.specs.AccessorRows.{NamesAt, DropsAccessor, IsDamagedAccessor, IsDamagedName};

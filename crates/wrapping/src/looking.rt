@@ -6,7 +6,7 @@ ghost use Rattle.broker_types.specs.Fault.{IsMemoryOrStorage};
 ghost use Rattle.broker_types.specs.Map.{get};
 ghost use Rattle.records.specs.Calls.{IsReading, IsReadFault};
 ghost use Rattle.records.specs.Ranges.{IsWaitingInRange};
-ghost use Rattle.records.specs.Reading.{IsSomeIn};
+ghost use Rattle.records.specs.RowReaders.{IsSomeIn};
 ghost use Rattle.records.specs.Table.{table};
 ghost use Rattle.records.specs.Transaction.{IsHonest};
 ghost use Rattle.wrapping.specs.WaitingRows.{RepresentsWaiting, IsWaitingAt, IsDamagedWaiting};

@@ -5,7 +5,7 @@ ghost use Rattle.broker_types.specs.Broker.{Broker};
 ghost use Rattle.broker_types.specs.Evolves.{IsNew};
 ghost use Rattle.broker_types.specs.Fault.{IsMemoryOrStorage};
 ghost use Rattle.broker_types.specs.Map.{get};
-ghost use Rattle.broker_types.specs.Places.{token_identifier, AllUsed};
+ghost use Rattle.broker_types.specs.IdentifierPlaces.{token_identifier, AllUsed};
 ghost use Rattle.records.specs.Calls.{IsChange, IsReadFault};
 ghost use Rattle.records.specs.Parts.{of_waiting, Tells, KeepsOthers};
 ghost use Rattle.records.specs.Ranges.{IsWaitingInRange};

@@ -8,7 +8,7 @@ ghost use Rattle.broker_types.specs.Spending as spending;
 ghost use Rattle.broker_types.specs.declared.refusal.Refusal as declared;
 ghost use Rattle.records.specs.Calls.{IsCall};
 ghost use Rattle.records.specs.Transaction.{IsHonest};
-ghost use Rattle.broker_model.specs.Listed.{IsListed};
+ghost use Rattle.broker_model.specs.ListedResponses.{IsListed};
 ghost use Rattle.broker_model.specs.Order as order;
 ghost use Rattle.broker_rows.specs.Representing.{Gives, Represents};
 ghost use Rattle.broker.specs.Stages.{HasServed, may_be_spent};

@@ -10,7 +10,7 @@ ghost use Rattle.broker_types.specs.Used.{are_new};
 ghost use Rattle.records.specs.Calls.{IsRequestCall, IsRequestReading};
 ghost use Rattle.records.specs.Transaction.{IsHonest};
 ghost use Rattle.broker_model.specs.Act as model;
-ghost use Rattle.broker_model.specs.Serving.{acted, needed_by, operated};
+ghost use Rattle.broker_model.specs.ServedAsks.{acted, needed_by, operated};
 ghost use Rattle.broker_model.specs.Step.{traits};
 ghost use Rattle.broker_rows.specs.Operating.{ActsAs, ArePrinted};
 ghost use Rattle.broker_rows.specs.Representing.{Represents};

@@ -5,7 +5,7 @@ ghost use Rattle.broker_types.specs.Broker.{Broker};
 ghost use Rattle.broker_types.specs.Fault.{IsMemoryOrStorage, IsNotBadStart};
 ghost use Rattle.records.specs.Calls.{IsReading};
 ghost use Rattle.records.specs.Ranges.{IsTokenInRange};
-ghost use Rattle.records.specs.Reading.{IsSomeIn};
+ghost use Rattle.records.specs.RowReaders.{IsSomeIn};
 ghost use Rattle.records.specs.Transaction.{IsHonest};
 ghost use Rattle.mounts.specs.Route.{route_of};
 ghost use Rattle.broker_model.specs.Permission as permission;

@@ -9,7 +9,7 @@ ghost use Rattle.records.specs.Calls.{IsRequestCall};
 ghost use Rattle.records.specs.Ranges.{IsTokenInRange};
 ghost use Rattle.records.specs.Transaction.{IsHonest};
 ghost use Rattle.broker_model.specs.Order as order;
-ghost use Rattle.broker_model.specs.Serving.{is_open, served};
+ghost use Rattle.broker_model.specs.ServedAsks.{is_open, served};
 ghost use Rattle.broker_rows.specs.Operating.{BeginsBy};
 ghost use Rattle.broker_rows.specs.Representing.{Represents, Gives};
 ghost use Rattle.broker.specs.Safely.{AnswersSafely};

@@ -8,7 +8,7 @@ ghost use Rattle.broker_types.specs.Names.{names_of};
 ghost use Rattle.broker_types.specs.Operation as operation;
 ghost use Rattle.broker_types.specs.Operation.{Done};
 ghost use Rattle.broker_types.specs.Evolves.{IsNew};
-ghost use Rattle.broker_types.specs.Places.{token_identifier};
+ghost use Rattle.broker_types.specs.IdentifierPlaces.{token_identifier};
 ghost use Rattle.broker_types.specs.Sound.{IsSoundWaiting};
 ghost use Rattle.broker_types.specs.Text.{Text};
 ghost use Rattle.broker_types.specs.TokenText.{token_text};

@@ -11,7 +11,7 @@ use Rattle.broker_types.specs.declared.ask.Verb.{Verb}
 use Rattle.broker_types.specs.declared.refusal.Refusal.{Refusal}
 use Rattle.records.specs.Parts.{Part, of_used, of_waiting}
 use Rattle.mounts.specs.Route.{operation_at}
-use Rattle.mounts.specs.Table.{facts}
+use Rattle.mounts.specs.RouteTable.{facts}
 use Rattle.mounts.specs.declared.operation.Opens.{Opens}
 use Rattle.mounts.specs.declared.operation.Opens.TheVariants.{Never, Always, WithItsOwn}
 use Rattle.mounts.specs.declared.operation.WrappingOperation.{WrappingOperation}

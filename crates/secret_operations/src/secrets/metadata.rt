@@ -7,7 +7,7 @@ ghost use Rattle.broker_types.specs.Names.{names_of};
 ghost use Rattle.broker_types.specs.Path.{is_path};
 ghost use Rattle.broker_types.specs.Text.{Text};
 ghost use Rattle.records.specs.Calls.{IsRequestCall, IsRequestReading};
-ghost use Rattle.api_json.specs.Kept.{IsKeptSettings};
+ghost use Rattle.api_json.specs.KeptBodies.{IsKeptSettings};
 ghost use Rattle.broker_model.specs.parts.Place.{at};
 ghost use Rattle.broker_model.specs.parts.Secrets as part;
 ghost use Rattle.broker_rows.specs.Operating.{Performs};

@@ -2,7 +2,7 @@ use Rattle.std.proofs.Common.{◌≡◌, ◌<◌, ◌^◌, ◌+◌, ◌∙◌, B
 use Rattle.broker_types.specs.declared.refusal.Refusal.{Refusal}
 use Rattle.broker_types.specs.declared.refusal.Field.TheVariants as field
 use Rattle.broker_types.specs.Refuse.{◌>>=◌, unless}
-use Rattle.api_json.specs.Kept.{IsKeptMeta}
+use Rattle.api_json.specs.KeptBodies.{IsKeptMeta}
 use Rattle.api_json.specs.Parsed.{members_of}
 use Rattle.api_json.specs.Readers.{token_creation}
 use Rattle.api_json.proofs.KeptObjects.{given_members}

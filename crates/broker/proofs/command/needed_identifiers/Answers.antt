@@ -4,7 +4,7 @@ use Rattle.broker_types.specs.Identifier.{id}
 use Rattle.broker_types.specs.Names.{names_of}
 use Rattle.broker_types.specs.Sound.{IsIdentifier}
 use Rattle.broker_types.specs.Text.{Text}
-use Rattle.broker_model.specs.Serving.{is_wrapped, needed_by}
+use Rattle.broker_model.specs.ServedAsks.{is_wrapped, needed_by}
 use Rattle.broker_rows.specs.Operating.{ArePrinted}
 use Rattle.broker.specs.Meant.{meant}
 use Rattle.broker.proofs.NeededIdentifiers.{needed_printed}

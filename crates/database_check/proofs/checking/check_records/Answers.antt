@@ -3,7 +3,7 @@ use Rattle.std.proofs.Math.Arith.{le-zero}
 use Rattle.sqlite.specs.Held.{state}
 use Rattle.records.specs.CallLaws.{honest_before}
 use Rattle.records.specs.Transaction.{Rows}
-use Rattle.records_sql.specs.Table.{mismatches, seen_of}
+use Rattle.records_sql.specs.SqlTable.{mismatches, seen_of}
 use Rattle.database_check.specs.Findings.{IfSound, IfUnsound, OpenAsCounted, OpenAsNone}
 use Rattle.database_check.proofs.checking.check_records.Goals as goal
 

@@ -4,7 +4,7 @@ use Rattle.sqlite.specs.Held.{state}
 use Rattle.broker_rows.specs.ClockRow.{HasNoClock}
 use Rattle.records.specs.CallLaws.{honest_before}
 use Rattle.records.specs.Transaction.{Rows}
-use Rattle.records_sql.specs.Table.{mismatches, seen_of}
+use Rattle.records_sql.specs.SqlTable.{mismatches, seen_of}
 use Rattle.database_check.specs.Findings.{OpenAsABroker, OpenAsNone}
 use Rattle.database_check.proofs.checking.defect_of.Goals as goal
 

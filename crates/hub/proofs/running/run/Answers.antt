@@ -9,7 +9,7 @@ use Rattle.std.specs.List.{All}
 use Rattle.broker_types.specs.Fault.{IsMemoryOrStorage}
 use Rattle.std.specs.declared.alloc.Global.{Global}
 use Rattle.records.specs.Kept.{Kept}
-use Rattle.hub.specs.Listed.{IsListedReply}
+use Rattle.hub.specs.ListedReplies.{IsListedReply}
 use Rattle.hub.specs.Representing.{hub_store}
 use Rattle.hub.specs.Runs.{bytes_of, Answers, TookTurns}
 use Rattle.histories.specs.History.{AreAsked, History}

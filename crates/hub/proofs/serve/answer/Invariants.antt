@@ -1,7 +1,7 @@
 use Rattle.std.proofs.Common.{◌≡◌, ◌+◌, Ok, IsTrue, false, if◌then◌else◌}
 use Rattle.std.specs.Io.KnownBytes.{Appends}
 use Rattle.hub.specs.Representing.{ConnectionsRepresent, hub_waiting}
-use Rattle.hub.specs.Serving.{IsAnswered, Serves}
+use Rattle.hub.specs.ServedConnection.{IsAnswered, Serves}
 use Rattle.hub.specs.Supplies.{Supplies}
 use Rattle.hub.specs.World.{Connections}
 use Rattle.hub.proofs.serve.answer.Given as goal

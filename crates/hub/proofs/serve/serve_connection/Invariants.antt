@@ -1,6 +1,6 @@
 use Rattle.std.proofs.Common.{◌≡◌, ◌+◌, Ok}
 use Rattle.std.specs.Io.KnownBytes.{Appends, Consumes}
-use Rattle.hub.specs.Serving.{Serves}
+use Rattle.hub.specs.ServedConnection.{Serves}
 use Rattle.hub.specs.Supplies.{Supplies}
 use Rattle.hub.proofs.serve.serve_connection.Given as goal
 

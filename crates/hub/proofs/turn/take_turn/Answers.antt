@@ -2,7 +2,7 @@ use Rattle.std.proofs.Common.{◌≡◌, ◌∙◌, ℕ, inl, refl, sym, subst, 
 use Rattle.std.proofs.lemmas.Bool.{false≢true}
 use Rattle.hub.specs.Links.{number_of, unsent}
 use Rattle.hub.specs.Representing.{ConnectionsRepresent}
-use Rattle.hub.specs.Serving.{HasEnded, IsAnswered}
+use Rattle.hub.specs.ServedConnection.{HasEnded, IsAnswered}
 use Rattle.hub.specs.SuppliesLaws.{Supplies-nil}
 use Rattle.hub.specs.declared.hub.Hub.{Hub}
 use Rattle.hub.specs.declared.serve.ConnectionFault.TheVariants.{Write}

@@ -9,7 +9,7 @@ use Rattle.records.specs.Kind.{RowKey, is_of_kind}
 use Rattle.records.specs.Transaction.{Seen, IsHonest, GoesOn}
 use Rattle.leases.specs.LeaseRows.{IsLeaseRow}
 use Rattle.leases.specs.Removed.{RemovesLease, RemovesEach, leases_among}
-use Rattle.leases.proofs.Listed.{among_lease, among_other}
+use Rattle.leases.proofs.ListedLeases.{among_lease, among_other}
 use Rattle.leases.proofs.ending.remove_leases.Goals as goal
 use Rattle.leases.proofs.ending.remove_leases.Goals.{then-is_lease+in_ok-remove_lease, else-is_lease}
 

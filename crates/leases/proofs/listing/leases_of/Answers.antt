@@ -6,7 +6,7 @@ use Rattle.records.specs.Kind.{is_of_kind}
 use Rattle.records.specs.Table.{table}
 use Rattle.leases.specs.Endings.{is_owned}
 use Rattle.leases.specs.Removed.{leases_among, AreThoseThatEnd}
-use Rattle.leases.proofs.Listed.{those_passing}
+use Rattle.leases.proofs.ListedLeases.{those_passing}
 use Rattle.leases.proofs.listing.leases_of.Goals as goal
 
 pub returns-clause-listed : goal.returns-clause-listed

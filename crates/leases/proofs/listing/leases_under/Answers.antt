@@ -8,7 +8,7 @@ use Rattle.records.specs.Table.{table}
 use Rattle.records.specs.Transaction.{rows_under}
 use Rattle.leases.specs.Endings.{is_under}
 use Rattle.leases.specs.Removed.{leases_among, AreThoseThatEnd}
-use Rattle.leases.proofs.Listed.{those_passing}
+use Rattle.leases.proofs.ListedLeases.{those_passing}
 use Rattle.leases.proofs.listing.leases_under.Goals as goal
 
 pub returns-clause-listed : goal.returns-clause-listed

@@ -4,7 +4,7 @@ use Rattle.records.specs.Table.{table_of}
 use Rattle.leases.specs.Endings.{has_come}
 use Rattle.leases.specs.Removed.{leases_among}
 use Rattle.leases.proofs.Endings.{each_readable, leases_ended, others_after}
-use Rattle.leases.proofs.Listed.{those_due}
+use Rattle.leases.proofs.ListedLeases.{those_due}
 use Rattle.leases.proofs.sweeping.end_due.Goals as goal
 
 pub returns-clause-rows : goal.returns-clause-rows

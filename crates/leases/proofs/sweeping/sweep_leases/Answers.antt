@@ -10,7 +10,7 @@ use Rattle.leases.specs.Endings.{EndsLeases, AreReadable, has_come}
 use Rattle.leases.specs.Leases.{without_expired}
 use Rattle.leases.proofs.Endings.{left_told}
 use Rattle.leases.specs.EditLaws.{expired_leaves}
-use Rattle.leases.proofs.Listed.{still_due}
+use Rattle.leases.proofs.ListedLeases.{still_due}
 use Rattle.leases.specs.LeftLaws.{all_readable}
 use Rattle.leases.proofs.sweeping.sweep_leases.Goals as goal
 

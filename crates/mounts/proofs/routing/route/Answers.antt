@@ -8,7 +8,7 @@ use Rattle.mounts.specs.FoundLaws.{bytes_of_rest}
 use Rattle.mounts.specs.Forms.{are_bytes}
 use Rattle.mounts.specs.MountRows.{IsKnownAt}
 use Rattle.mounts.specs.Route.{cut, route_by}
-use Rattle.mounts.specs.Table.{route_rows}
+use Rattle.mounts.specs.RouteTable.{route_rows}
 use Rattle.mounts.proofs.RouteSteps.{ends_refused, ends_found, route_none, route_some, within_none, within_some}
 use Rattle.mounts.proofs.Parameters.{parameter_is_path, are_bytes_from}
 use Rattle.mounts.proofs.PathParts.{IsRest, rest_of}

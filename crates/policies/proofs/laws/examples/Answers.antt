@@ -6,7 +6,7 @@ use Rattle.json.specs.Lex.{lex, punctuate}
 use Rattle.json.specs.Text.{content}
 use Rattle.broker_types.specs.Text.{same}
 use Rattle.policies.specs.Allows.{allows}
-use Rattle.policies.specs.Reading.{policy_of, pattern_of, words_of, paths_of}
+use Rattle.policies.specs.PolicyTexts.{policy_of, pattern_of, words_of, paths_of}
 use Rattle.policies.proofs.laws.examples.Goals as goal
 
 pub returns-clause-denies_one : goal.returns-clause-denies_one

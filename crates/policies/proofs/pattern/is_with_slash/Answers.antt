@@ -3,7 +3,7 @@ use Rattle.std.proofs.lemmas.Bool.{false_from_ne_true}
 use Rattle.std.proofs.lemmas.Str.Pattern.{strip_suffix_char}
 use Rattle.broker_types.specs.Text.{same}
 use Rattle.broker_types.specs.TextLaws.{same_true}
-use Rattle.policies.proofs.Places.{same_snoc}
+use Rattle.policies.proofs.PlaceLemmas.{same_snoc}
 use Rattle.policies.proofs.pattern.is_with_slash.Goals as goal
 
 pub returns-in-Some : goal.returns-in-Some

@@ -3,7 +3,7 @@ use Rattle.std.specs.Ordering.{match_ordering}
 use Rattle.std.proofs.lemmas.List.{drop_more}
 use Rattle.records.specs.declared.row.Row.{Row}
 use Rattle.records.specs.Kind.{RowKey, key_cmp}
-use Rattle.records.specs.Places.{rank, is_met}
+use Rattle.records.specs.KeyPlaces.{rank, is_met}
 use Rattle.records.proofs.list.place.Goals as goal
 
 pub loop-i-preserved : goal.loop-i-preserved

@@ -1,6 +1,6 @@
 use Rattle.std.proofs.Common.{Err, ap, ◌∙◌}
 use Rattle.std.proofs.lemmas.Result.{err_from_is_err_and}
-use Rattle.api_json.specs.Kept.{is_object}
+use Rattle.api_json.specs.KeptBodies.{is_object}
 use Rattle.policies.specs.Policies as policies
 use Rattle.policies.specs.SoundLaws.{set_sound}
 use Rattle.broker_rows.specs.RepresentingLaws.{policies_there}

@@ -1,6 +1,6 @@
 use Rattle.std.proofs.Common.{None, Ok, Err, ap, sym, ◌∙◌}
 use Rattle.std.proofs.lemmas.Result.{err_from_is_err_and}
-use Rattle.api_json.specs.Kept.{is_object}
+use Rattle.api_json.specs.KeptBodies.{is_object}
 use Rattle.api_json.specs.Objects.{policy_object}
 use Rattle.api_json.specs.Reply.{plain_reply}
 use Rattle.broker_types.specs.Names.{names_of}

@@ -4,7 +4,7 @@ use Rattle.broker_types.specs.IdentifierLaws.{id-length}
 use Rattle.broker_types.specs.Map.{get}
 use Rattle.broker_types.specs.Names.{names_of}
 use Rattle.broker_types.specs.OptionLaws.{mapped, mapped_none}
-use Rattle.broker_types.specs.Places.{token_identifier}
+use Rattle.broker_types.specs.IdentifierPlaces.{token_identifier}
 use Rattle.broker_types.specs.Text.{Text}
 use Rattle.broker_types.specs.UsedLaws.{first_new}
 use Rattle.records.specs.CallLaws.{honest_before}

@@ -1,7 +1,7 @@
 use Rattle.std.proofs.Common.{Err, ap, refl, ◌∙◌}
 use Rattle.std.proofs.lemmas.Result.{err_from_is_err_and}
 use Rattle.broker_types.specs.Map.{without}
-use Rattle.leases.specs.KeptLaws.{revoke_sound}
+use Rattle.leases.specs.StaysSoundLaws.{revoke_sound}
 use Rattle.leases.specs.Leases.{revoke}
 use Rattle.leases.specs.SoundLaws.{shows_in_leases}
 use Rattle.broker_model.specs.Forms.{forms}

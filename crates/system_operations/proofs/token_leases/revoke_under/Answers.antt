@@ -2,7 +2,7 @@ use Rattle.std.specs.Prelude.{not}
 use Rattle.std.proofs.Common.{Err, ap, refl, ◌∙◌}
 use Rattle.std.proofs.lemmas.Result.{err_from_is_err_and}
 use Rattle.broker_types.specs.Map.{keep}
-use Rattle.leases.specs.KeptLaws.{revoke_under_sound}
+use Rattle.leases.specs.StaysSoundLaws.{revoke_under_sound}
 use Rattle.leases.specs.Leases.{is_under, revoke_under}
 use Rattle.leases.specs.SoundLaws.{shows_in_leases}
 use Rattle.broker_model.specs.Forms.{forms}

@@ -22,7 +22,7 @@ use Rattle.broker_rows.specs.RepresentingLaws.{represents_dropped, represents_to
 use Rattle.broker_rows.specs.RepresentingLaws.{still_represented}
 use Rattle.broker_rows.specs.SpendingLaws.{represents-spend}
 use Rattle.broker.specs.Stages.{IsCaller}
-use Rattle.broker.proofs.Serving.{entry_called, nothing_called}
+use Rattle.broker.proofs.StepParts.{entry_called, nothing_called}
 use Rattle.broker.proofs.order.caller.find_caller.Goals as goal
 
 -- ---- there is no client token

@@ -11,7 +11,7 @@ use Rattle.broker_types.specs.Text.{Text}
 use Rattle.broker_types.specs.Used.{are_new}
 use Rattle.records.specs.CallLaws.{honest_before}
 use Rattle.broker_model.specs.Order.{wrap_200}
-use Rattle.broker_model.specs.Serving.{is_wrapped}
+use Rattle.broker_model.specs.ServedAsks.{is_wrapped}
 use Rattle.broker_model.specs.Step.{traits}
 use Rattle.broker_rows.specs.Operating.{ArePrinted}
 use Rattle.broker.specs.Askers.{who_of}

@@ -1,6 +1,6 @@
 use Rattle.std.proofs.Common.{◌≡◌, false, sym, ap, ◌∙◌}
 use Rattle.broker_types.specs.Used.{are_new}
-use Rattle.broker_model.specs.Serving.{needed_by}
+use Rattle.broker_model.specs.ServedAsks.{needed_by}
 use Rattle.broker_rows.specs.RepresentingLaws.{still_represented}
 use Rattle.broker.specs.Meant.{meant}
 use Rattle.broker.proofs.Routes.{operated_used}

@@ -5,7 +5,7 @@ use Rattle.std.proofs.lemmas.Result.{err_from_is_err_and}
 use Rattle.broker_types.specs.Map.{get}
 use Rattle.broker_types.specs.Text.{Text}
 use Rattle.records.specs.CallLaws.{honest_before}
-use Rattle.api_json.specs.Kept.{is_object}
+use Rattle.api_json.specs.KeptBodies.{is_object}
 use Rattle.policies.specs.Grants.{rules_of}
 use Rattle.broker_model.specs.Capabilities.{asked_by, has_stored}
 use Rattle.broker_model.specs.Permission.{may}
@@ -13,7 +13,7 @@ use Rattle.broker_rows.specs.Caller.{AreRulesAt, Caller}
 use Rattle.broker_rows.specs.Representing.{Represents}
 use Rattle.broker_rows.specs.RepresentingLaws.{named_policies_there, still_represented}
 use Rattle.broker.proofs.Permitted.{permitted_told, rules_before}
-use Rattle.broker.proofs.Serving.{entry_here}
+use Rattle.broker.proofs.StepParts.{entry_here}
 use Rattle.broker.proofs.order.permission.permitted.Goals as goal
 
 pub returns-in_err-rules-clause-wants : goal.returns-in_err-rules-clause-wants

@@ -6,7 +6,7 @@ use Rattle.broker_types.specs.declared.refusal.Refusal.{Refusal}
 use Rattle.broker_types.specs.declared.answer.Answer.{Answer}
 use Rattle.records.specs.CallLaws.{fault_goes_on, honest_before}
 use Rattle.broker_model.specs.Order.{Wrapped, finish}
-use Rattle.broker_model.specs.Serving.{served}
+use Rattle.broker_model.specs.ServedAsks.{served}
 use Rattle.broker_rows.specs.Caller.{Caller}
 use Rattle.broker_rows.specs.Representing.{Gives}
 use Rattle.broker.specs.Stages.{HasServed, may_be_spent}

@@ -10,7 +10,7 @@ use Rattle.broker_types.specs.declared.request_error.RequestError.TheVariants.{R
 use Rattle.broker_types.specs.Names.{names_of}
 use Rattle.broker_types.specs.Path.{is_path}
 use Rattle.mounts.specs.Route.{Route, route_of}
-use Rattle.mounts.specs.Table.{takes_parameter}
+use Rattle.mounts.specs.RouteTable.{takes_parameter}
 use Rattle.broker_model.specs.Command.{command_for}
 use Rattle.broker_model.specs.Permission.{permits}
 use Rattle.broker_rows.specs.Caller.{Asker, AreRulesAt}

@@ -3,7 +3,7 @@ use Rattle.broker_types.specs.Broker.{Waiting}
 use Rattle.broker_types.specs.Evolves.{IsNew}
 use Rattle.broker_types.specs.Names.{names_of}
 use Rattle.broker_types.specs.Operation.{reply}
-use Rattle.broker_types.specs.Places.{token_identifier}
+use Rattle.broker_types.specs.IdentifierPlaces.{token_identifier}
 use Rattle.broker_types.specs.Sound.{IsSoundWaiting}
 use Rattle.broker_types.specs.TokenText.{token_text}
 use Rattle.records.specs.RangeLaws.{waiting_in_range}

@@ -2,7 +2,7 @@ use Rattle.std.proofs.Common.{◌≡◌, Bool, true, false, ◌||◌, map, List,
 use Rattle.sqlite.specs.Order.{Row}
 use Rattle.records.specs.DueRows.{AreDue}
 use Rattle.row_memory.specs.Memory.{Agrees}
-use Rattle.records_sql.specs.Table.{whole_entry, rows_of}
+use Rattle.records_sql.specs.SqlTable.{whole_entry, rows_of}
 use Rattle.sqlite.specs.Held.{state}
 use Rattle.records_sql.proofs.StateLemmas.{stays, query_err}
 use Rattle.records_sql.proofs.GetLemmas.{due_reads}

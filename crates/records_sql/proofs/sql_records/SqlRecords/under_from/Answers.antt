@@ -5,7 +5,7 @@ use Rattle.sqlite.specs.Order.{Row}
 use Rattle.records.specs.declared.row.Row.{Row as Fields}
 use Rattle.records.specs.Kind.{RowKey as Key}
 use Rattle.records_sql.specs.Bounds.{IsAbove}
-use Rattle.records_sql.specs.Table.{entry_in}
+use Rattle.records_sql.specs.SqlTable.{entry_in}
 use Rattle.sqlite.specs.Held.{state}
 use Rattle.records_sql.proofs.StateLemmas.{stays, query_err}
 use Rattle.records_sql.proofs.GetLemmas.{from_reads}

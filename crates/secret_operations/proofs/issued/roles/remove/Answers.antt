@@ -2,7 +2,7 @@ use Rattle.std.proofs.Common.{refl}
 use Rattle.broker_types.specs.Map.{without}
 use Rattle.records.specs.PartLaws.{rows_of-other_roles}
 use Rattle.records.specs.Parts.{of_roles}
-use Rattle.leases.specs.KeptLaws.{remove_role_sound}
+use Rattle.leases.specs.StaysSoundLaws.{remove_role_sound}
 use Rattle.leases.specs.Roles.{role_name, remove_role}
 use Rattle.broker_model.specs.Forms.{forms}
 use Rattle.broker_rows.specs.RepresentingLaws.{represents_next, tells_part}

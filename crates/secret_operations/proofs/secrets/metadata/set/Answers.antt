@@ -1,6 +1,6 @@
 use Rattle.std.proofs.Common.{ap, sym, subst, ◌∙◌}
 use Rattle.records.specs.Parts.{Tells, of_secrets}
-use Rattle.records.specs.Reading.{IsSomeIn, IsWide}
+use Rattle.records.specs.RowReaders.{IsSomeIn, IsWide}
 use Rattle.records.specs.Table.{table_of}
 use Rattle.records.specs.TokenEntry.{IsMeta}
 use Rattle.kv2.specs.Secrets.{secret_name}

@@ -1,6 +1,6 @@
 use Rattle.hub.specs.Representing.{ConnectionsRepresent}
 use Rattle.hub.specs.World.{Connections}
-use Rattle.server.specs.Serving.{ClosesSome, LeavesBelow}
+use Rattle.server.specs.ServedHub.{ClosesSome, LeavesBelow}
 use Rattle.server.proofs.links.Links.look.Given as goal
 
 abbrev pub invariant-loop : goal.invariant-loop

@@ -2,7 +2,7 @@ use Rattle.std.proofs.Common.{Ok}
 use Rattle.hub.specs.Representing.{ConnectionsRepresent}
 use Rattle.hub.specs.Supplies.{Supplies}
 use Rattle.hub.specs.World.{Connections}
-use Rattle.server.specs.Serving.{LeavesBelow, LeavesServed}
+use Rattle.server.specs.ServedHub.{LeavesBelow, LeavesServed}
 use Rattle.server.proofs.links.Links.turns.Given as goal
 
 abbrev pub invariant-loop : goal.invariant-loop

@@ -20,7 +20,7 @@ use Rattle.http_layer.specs.Asked.{asked, verb_asked, value_asked, token_asked, 
 use Rattle.http_layer.specs.Asked.{path_asked, bad_request}
 use Rattle.http_layer.specs.Query.{target_path, target_query}
 use Rattle.http_layer.specs.Laws.{FrontRefusalIsListed, AskRefusalIsListed}
-use Rattle.http_layer.specs.Listed.{IsFrontRefusal, IsAskRefusal}
+use Rattle.http_layer.specs.ListedRefusals.{IsFrontRefusal, IsAskRefusal}
 use Rattle.http_layer.specs.Refusing.{◌>>=◌, RefusalParts}
 
 -- ---- refusals of two cases

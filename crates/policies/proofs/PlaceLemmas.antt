@@ -12,7 +12,7 @@ use Rattle.broker_types.specs.declared.ask.Verb.{Verb}
 use Rattle.broker_types.specs.declared.ask.Verb.TheVariants as verb
 use Rattle.policies.specs.declared.pattern.Pattern.TheVariants.{Exact, Prefix}
 use Rattle.policies.specs.Patterns.{tried, beginnings, with_slash}
-use Rattle.policies.specs.Places.{place, exact_place, prefix_place, tried_text}
+use Rattle.policies.specs.PatternPlaces.{place, exact_place, prefix_place, tried_text}
 
 -- ---- among texts
 

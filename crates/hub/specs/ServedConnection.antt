@@ -11,7 +11,7 @@ use Rattle.records.specs.Kept.{Kept, IsHonestStore}
 use Rattle.hub.specs.AnyRows.{RunConnections, close_history}
 use Rattle.hub.specs.Feeding.{IsLater}
 use Rattle.hub.specs.Histories.{EventsAsked}
-use Rattle.hub.specs.Listed.{IsListedReply}
+use Rattle.hub.specs.ListedReplies.{IsListedReply}
 use Rattle.hub.specs.Representing.{ConnectionsRepresent, HubRepresents, hub_store}
 use Rattle.hub.specs.Runs.{Answers, TookTurns}
 use Rattle.hub.specs.World.{Connections, FollowsRequests, Run, World, history_at}

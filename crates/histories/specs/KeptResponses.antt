@@ -18,7 +18,7 @@ use Rattle.api_json.specs.Reply.{plain_reply, reply_text, wrap_reply}
 use Rattle.broker_model.specs.Command.{Command, on_wrapping, command_of}
 use Rattle.broker_model.specs.Order.{wrap_info}
 use Rattle.broker_model.specs.Responses.{ok}
-use Rattle.broker_model.specs.Serving.{is_open}
+use Rattle.broker_model.specs.ServedAsks.{is_open}
 use Rattle.broker_model.specs.Step.{step, unwrapped_ask}
 use Rattle.broker_model.specs.declared.commands.WrappingCommand.TheVariants as response
 use Rattle.histories.specs.History.{Asking, AskedAt, History, clocked}
