@@ -16,7 +16,7 @@ use std::alloc::Global;
 #[tactic(auto, unfolding(crate::specs::Readers::policy_text))]
 pub fn policy_text(alloc: Global, body: &Body) -> Result<TextBuf, RequestError>
     ensures reads { IsRead (reader.policy_text (members_of body.now)) result }
-    ensures kept { (bytes : List ℕ) → length bytes ≤ longest_body → body_members bytes ≡ Ok (members_of body.now)
+    ensures storable { (bytes : List ℕ) → length bytes ≤ longest_body → body_members bytes ≡ Ok (members_of body.now)
         → IfOk result (λ t. length t < 2 ^ 32) }
 {
     required(alloc, &body.members, Field::Policy)

@@ -77,7 +77,7 @@ impl Body {
     /// The compact text of the object. The only error is running out of memory.
     pub fn into_text(self, alloc: Global) -> Result<TextBuf, AllocError>
         ensures text { IfOk result (λ t. t ≡ compact_text (object (members_of self))) }
-        ensures kept { (bytes : List ℕ) → length bytes ≤ longest_body → body_members bytes ≡ Ok (members_of self)
+        ensures storable { (bytes : List ℕ) → length bytes ≤ longest_body → body_members bytes ≡ Ok (members_of self)
             → IfOk result IsKept }
     {
         let Body { members } = self;

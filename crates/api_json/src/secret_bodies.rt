@@ -42,7 +42,7 @@ pub struct SecretWrite {
 #[tactic(auto, unfolding(crate::specs::Readers::secret_write))]
 pub fn secret_write(alloc: Global, body: &Body) -> Result<SecretWrite, RequestError>
     ensures reads { IsRead (reader.secret_write (members_of body.now)) result }
-    ensures kept { (bytes : List ℕ) → length bytes ≤ longest_body → body_members bytes ≡ Ok (members_of body.now)
+    ensures storable { (bytes : List ℕ) → length bytes ≤ longest_body → body_members bytes ≡ Ok (members_of body.now)
         → IfOk result (λ w. IsKept w.object) }
 {
     let members = &body.members;
@@ -126,7 +126,7 @@ pub struct KeySettings {
 #[tactic(auto, unfolding(crate::specs::Readers::key_settings))]
 pub fn key_settings(alloc: Global, body: &Body) -> Result<KeySettings, RequestError>
     ensures reads { IsRead (reader.key_settings (members_of body.now)) result }
-    ensures kept { (bytes : List ℕ) → length bytes ≤ longest_body → body_members bytes ≡ Ok (members_of body.now)
+    ensures storable { (bytes : List ℕ) → length bytes ≤ longest_body → body_members bytes ≡ Ok (members_of body.now)
         → IfOk result IsKeptSettings }
 {
     let members = &body.members;

@@ -42,7 +42,7 @@ pub struct TokenCreation {
 #[tactic(auto, unfolding(crate::specs::Readers::token_creation))]
 pub fn token_creation(alloc: Global, body: &Body) -> Result<TokenCreation, RequestError>
     ensures reads { IsRead (reader.token_creation (members_of body.now)) result }
-    ensures kept { (bytes : List ℕ) → length bytes ≤ longest_body → body_members bytes ≡ Ok (members_of body.now)
+    ensures storable { (bytes : List ℕ) → length bytes ≤ longest_body → body_members bytes ≡ Ok (members_of body.now)
         → IfOk result IsKeptCreation }
 {
     let members = &body.members;

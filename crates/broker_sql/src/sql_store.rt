@@ -43,7 +43,7 @@ impl SqlStore<FileStore<RamFile>> {
     pub fn in_memory(alloc: Global) -> Result<SqlStore<FileStore<RamFile>>, Fault>
         ensures rows { IfOk result (λ store. (sql_kept over_files store).rows ≡ map.empty) }
         ensures ready { IfOk result (λ store. IsReady (sql_kept over_files store)) }
-        ensures storage { IfErr result (λ fault. fault ≡ Fault.Storage) }
+        ensures faults { IfErr result (λ fault. fault ≡ Fault.Storage) }
     {
         let records = SqlRecords::in_memory(alloc)?;
         Ok(SqlStore {

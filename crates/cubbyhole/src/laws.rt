@@ -32,7 +32,7 @@ pub fn answers_are_of_one_cubbyhole()
     ensures read { AreReadAlike }
     ensures damaged { AreDamagedAlike }
     ensures there { AreThereAlike }
-    ensures listed { AreListedAlike }
+    ensures lists { AreListedAlike }
 {}
 
 /// A law: the rows of a broker's cubbyholes are filed under their owners, and edits leave them so. Then the keys that

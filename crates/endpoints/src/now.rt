@@ -63,7 +63,7 @@ impl<R: Read> NowReading<R> {
     /// A source with what the reader has left. Nothing was pulled, and nothing has failed.
     pub fn new(reader: R) -> NowReading<R>
         ensures left { ⟦<NowReading<R> as NowSource>⟧.left result ≡ R.remaining reader }
-        ensures failed { ⟦<NowReading<R> as NowSource>⟧.has_failed result ≡ false }
+        ensures failing { ⟦<NowReading<R> as NowSource>⟧.has_failed result ≡ false }
     {
         NowReading {
             reader,
@@ -120,7 +120,7 @@ impl<W: Write> NowWriting<W> {
     /// A sink that adds to what the writer has. Nothing has failed.
     pub fn new(writer: W) -> NowWriting<W>
         ensures written { ⟦<NowWriting<W> as NowSink>⟧.written result ≡ W.contents writer }
-        ensures failed { ⟦<NowWriting<W> as NowSink>⟧.has_failed result ≡ false }
+        ensures failing { ⟦<NowWriting<W> as NowSink>⟧.has_failed result ≡ false }
     {
         NowWriting {
             writer,

@@ -46,7 +46,7 @@ impl<R: Read> Reading<R> {
     pub fn new(reader: R) -> Reading<R>
         ensures left { ⟦<Reading<R> as Source>⟧.left result ≡ R.remaining reader }
         ensures pulls { ⟦<Reading<R> as Source>⟧.pulls result ≡ 0 }
-        ensures failed { ⟦<Reading<R> as Source>⟧.has_failed result ≡ false }
+        ensures failing { ⟦<Reading<R> as Source>⟧.has_failed result ≡ false }
     {
         Reading {
             reader,

@@ -35,7 +35,7 @@ impl<W: Write> Writing<W> {
     /// A sink that adds to what the writer has. Nothing has failed.
     pub fn new(writer: W) -> Writing<W>
         ensures written { ⟦<Writing<W> as Sink>⟧.written result ≡ W.contents writer }
-        ensures failed { ⟦<Writing<W> as Sink>⟧.has_failed result ≡ false }
+        ensures failing { ⟦<Writing<W> as Sink>⟧.has_failed result ≡ false }
     {
         Writing {
             writer,

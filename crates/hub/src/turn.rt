@@ -91,7 +91,7 @@ fn send_rest<W: NowSink>(link: &mut Link, writer: &mut W) -> Result<Turn, Failed
     ensures sent { Passes (Appends (W.written writer.old) (W.written writer.new))
         (unsent link.old) (unsent link.new) [] }
     ensures same { number_of link.new ≡ number_of link.old }
-    ensures failed { MatchResult result
+    ensures turns { MatchResult result
         (λ turn. ((turn ≡ Turn.WentOn) × (length (unsent link.new) < length (unsent link.old)))
         ⊎ (turn ≡ Turn.NeedsRoom)) (λ _. IsTrue (W.has_failed writer.new)) }
     ensures room { IfOk result (λ turn. turn ≡ Turn.NeedsRoom → unsent link.new ≡ unsent link.old) }

@@ -109,7 +109,7 @@ fn versions_kept(mount: &MountRecord, key: &KeyRecord) -> u64
 /// The key of a secret after one more version at a moment.
 fn next_key(key: KeyRecord, now: u64) -> KeyRecord
     requires room { key.current < greatest_version }
-    requires kept { IsKeyInRange key }
+    requires storable { IsKeyInRange key }
     requires moment { IsMoment now }
     ensures key { result ≡ rows.next_entry now key }
     ensures in_range { IsKeyInRange result }
@@ -134,7 +134,7 @@ fn put_version<T: RecordsTx>(
     limit: u64,
     object: &str,
 ) -> Result<(), Fault>
-    requires kept { IsKeyInRange key.now }
+    requires storable { IsKeyInRange key.now }
     requires short { length object.now < 2 ^ 32 }
     ensures rows { IsHonest (T.seen tx.new) → OnOk result (table (T.seen tx.new)
         ≡ rows.with_current (table (T.seen tx.old)) name.now key.now limit object.now) }

@@ -19,7 +19,7 @@ pub(crate) fn leases_under<T: RecordsTx>(
     tx: &mut T,
     prefix: &str,
 ) -> Result<Vec<Entry>, Fault>
-    ensures listed { IsHonest (T.seen tx.new) → IfOk result
+    ensures entries { IsHonest (T.seen tx.new) → IfOk result
         (λ list. AreThoseThatEnd (is_under prefix.now) (table (T.seen tx.old)) (leases_among list.items)) }
     ensures call { IsReading (T.seen tx.old) (T.seen tx.new) result IsMemoryOrStorage }
 {
@@ -29,7 +29,7 @@ pub(crate) fn leases_under<T: RecordsTx>(
 
 /// The leases of a token.
 pub(crate) fn leases_of<T: RecordsTx>(tx: &mut T, token: &str) -> Result<Vec<Entry>, Fault>
-    ensures listed { IsHonest (T.seen tx.new) → IfOk result
+    ensures entries { IsHonest (T.seen tx.new) → IfOk result
         (λ list. AreThoseThatEnd (is_owned token.now) (table (T.seen tx.old)) (leases_among list.items)) }
     ensures call { IsReading (T.seen tx.old) (T.seen tx.new) result IsMemoryOrStorage }
 {

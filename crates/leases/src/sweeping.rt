@@ -18,7 +18,7 @@ use records::{Entry, RecordsTx};
 /// As `sweep_leases`, from a list of all rows that are due. It may have been asked for before the rows of other kinds
 /// changed, so that one list serves the sweeps of all kinds. Whatever the list is, its leases go, and no others.
 pub fn end_due<T: RecordsTx>(tx: &mut T, due: &[Entry]) -> Result<(), Fault>
-    ensures listed { IsHonest (T.seen tx.new) → OnOk result
+    ensures any_list { IsHonest (T.seen tx.new) → OnOk result
         (RemovesEach (leases_among due.now) (T.seen tx.old).rows (T.seen tx.new).rows) }
     ensures rows { IsHonest (T.seen tx.new) → (now : ℕ) → AreStillDue now due.now (table (T.seen tx.old))
         → OnOk result (EndsLeases (has_come now) (table (T.seen tx.old)) (table (T.seen tx.new))) }

@@ -38,7 +38,7 @@ fn make_table<S: Alter>(conn: &mut Connection<S>) -> Result<(), Fault>
     ensures made { HasCleanDisk (state S.Store conn.new) → (state S.Store conn.old).now.schema ≡ no_schema
         → OnOk result (IsTrue (state S.Store conn.old).is_open × IsNewTable (state S.Store conn.new)) }
     ensures mismatches { mismatches (state S.Store conn.old) ≤ mismatches (state S.Store conn.new) }
-    ensures storage { IfErr result (λ fault. fault ≡ Fault.Storage) }
+    ensures faults { IfErr result (λ fault. fault ≡ Fault.Storage) }
 {
     let Ok(_) = statements::begin(conn) else {
         return Err(Fault::Storage);
@@ -66,7 +66,7 @@ fn check_rows<S: Alter>(conn: &mut Connection<S>) -> Result<(), Fault>
     ensures same { HasCleanDisk (state S.Store conn.new) → (state S.Store conn.old).now.schema ≡ broker_schema
         → OnOk result (IsUnchanged (state S.Store conn.old) (state S.Store conn.new)) }
     ensures mismatches { mismatches (state S.Store conn.old) ≤ mismatches (state S.Store conn.new) }
-    ensures storage { IfErr result (λ fault. fault ≡ Fault.Storage) }
+    ensures faults { IfErr result (λ fault. fault ≡ Fault.Storage) }
 {
     let Ok(rows) = statements::numbers(conn) else {
         return Err(Fault::Storage);
@@ -79,7 +79,7 @@ fn find_table<S: Alter>(conn: &mut Connection<S>) -> Result<(), Fault>
     ensures found { HasCleanDisk (state S.Store conn.new) → IsSettled (state S.Store conn.old)
         → OnOk result (IsAdopted (state S.Store conn.old) (state S.Store conn.new)) }
     ensures mismatches { mismatches (state S.Store conn.old) ≤ mismatches (state S.Store conn.new) }
-    ensures storage { IfErr result (λ fault. fault ≡ Fault.Storage) }
+    ensures faults { IfErr result (λ fault. fault ≡ Fault.Storage) }
 {
     if is_blank(conn.schema()) {
         return make_table(conn);
@@ -103,8 +103,8 @@ impl<S: Alter + Drop> SqlRecords<S> {
         ensures autocommit { OnOk result ((state S.Store conn).in_transaction ≡ false) }
         ensures mismatches { IfOk result (λ records.
             mismatches (state S.Store conn) ≤ mismatches (state S.Store records.conn)) }
-        ensures failed { IfOk result (λ records. records.failed ≡ false) }
-        ensures storage { IfErr result (λ fault. fault ≡ Fault.Storage) }
+        ensures failing { IfOk result (λ records. records.failed ≡ false) }
+        ensures faults { IfErr result (λ fault. fault ≡ Fault.Storage) }
     {
         if !conn.is_autocommit() {
             return Err(Fault::Storage);
@@ -141,8 +141,8 @@ impl SqlRecords<FileStore<RamFile>> {
     pub fn in_memory(alloc: Global) -> Result<SqlRecords<FileStore<RamFile>>, Fault>
         ensures empty { IfOk result (λ records. rows_of (file_state records.conn).committed.trees ≡ map.empty) }
         ensures ready { IfOk result (λ records. IsUsable (file_state records.conn)) }
-        ensures failed { IfOk result (λ records. records.failed ≡ false) }
-        ensures storage { IfErr result (λ fault. fault ≡ Fault.Storage) }
+        ensures failing { IfOk result (λ records. records.failed ≡ false) }
+        ensures faults { IfErr result (λ fault. fault ≡ Fault.Storage) }
     {
         let Ok(conn) = ram_disk::open(alloc) else {
             return Err(Fault::Storage);
@@ -164,9 +164,9 @@ impl<S: Start> SqlRecords<FileStore<FileFrom<S>>> {
             → IsKeptIn (image_at S.Start) (rows_of (file_state records.conn).committed.trees)) }
         ensures usable { IfOk result (λ records. HasCleanDisk (file_state records.conn)
             → IsUsable (file_state records.conn)) }
-        ensures failed { IfOk result (λ records. records.failed ≡ false) }
+        ensures failing { IfOk result (λ records. records.failed ≡ false) }
         ensures memory { path.now ≡ codes ":memory:" → result ≡ Err Fault.Storage }
-        ensures storage { IfErr result (λ fault. fault ≡ Fault.Storage) }
+        ensures faults { IfErr result (λ fault. fault ≡ Fault.Storage) }
     {
         let conn = open_files(rt, path, start)?;
         SqlRecords::adopt(rt.alloc(), conn)
@@ -183,7 +183,7 @@ fn open_files<S: Start>(
         → FindsIn (image_at S.Start) (file_state conn)) }
     ensures opened { IfOk result (λ conn. HasCleanDisk (file_state conn) → IsOpened conn) }
     ensures memory { path.now ≡ codes ":memory:" → result ≡ Err Fault.Storage }
-    ensures storage { IfErr result (λ fault. fault ≡ Fault.Storage) }
+    ensures faults { IfErr result (λ fault. fault ≡ Fault.Storage) }
 {
     // To SQLite these are no names of files.
     if path == ":memory:" || path.starts_with("file:") {

@@ -21,7 +21,7 @@ use std::alloc::{AllocError, Global};
 
 fn text_at(row: &SqlRow, at: usize) -> Result<TextBuf, Fault>
     ensures value { IfOk result (λ text. text ≡ bytes (column row.now at)) }
-    ensures storage { IfErr result (λ fault. fault ≡ Fault.Storage) }
+    ensures faults { IfErr result (λ fault. fault ≡ Fault.Storage) }
 {
     match row.get::<String>(at) {
         Ok(text) => Ok(TextBuf::new(text)),
@@ -31,7 +31,7 @@ fn text_at(row: &SqlRow, at: usize) -> Result<TextBuf, Fault>
 
 fn bytes_at(row: &SqlRow, at: usize) -> Result<Bytes, Fault>
     ensures value { IfOk result (λ b. b ≡ bytes (column row.now at)) }
-    ensures storage { IfErr result (λ fault. fault ≡ Fault.Storage) }
+    ensures faults { IfErr result (λ fault. fault ≡ Fault.Storage) }
 {
     match row.get::<Vec<u8>>(at) {
         Ok(bytes) => Ok(Bytes::new(bytes)),
@@ -42,7 +42,7 @@ fn bytes_at(row: &SqlRow, at: usize) -> Result<Bytes, Fault>
 fn due_at(row: &SqlRow, at: usize) -> Result<Option<Due>, Fault>
     ensures value { IfOk result (λ due. due ≡ due_in (column row.now at)) }
     ensures exact { OnOk result (column row.now at ≡ due_value (due_in (column row.now at))) }
-    ensures storage { IfErr result (λ fault. fault ≡ Fault.Storage) }
+    ensures faults { IfErr result (λ fault. fault ≡ Fault.Storage) }
 {
     match row.get::<Option<u64>>(at) {
         Ok(None) => Ok(None),
@@ -58,7 +58,7 @@ fn due_at(row: &SqlRow, at: usize) -> Result<Option<Due>, Fault>
 fn row_at(row: &SqlRow, at: usize) -> Result<Row, Fault>
     requires { at < 8 }
     ensures value { IfOk result (λ r. r ≡ row_from row.now at) }
-    ensures storage { IfErr result (λ fault. fault ≡ Fault.Storage) }
+    ensures faults { IfErr result (λ fault. fault ≡ Fault.Storage) }
 {
     Ok(Row {
         owner: text_at(row, at)?,
@@ -69,7 +69,7 @@ fn row_at(row: &SqlRow, at: usize) -> Result<Row, Fault>
 
 pub(crate) fn first_row(rows: &[SqlRow]) -> Result<Option<Row>, Fault>
     ensures found { IfOk result (λ found. found ≡ option_map read_row (slice_get rows.now 0)) }
-    ensures storage { IfErr result (λ fault. fault ≡ Fault.Storage) }
+    ensures faults { IfErr result (λ fault. fault ≡ Fault.Storage) }
 {
     match rows.first() {
         None => Ok(None),
@@ -79,7 +79,7 @@ pub(crate) fn first_row(rows: &[SqlRow]) -> Result<Option<Row>, Fault>
 
 fn entry_of(kind: Kind, row: &SqlRow) -> Result<Entry, Fault>
     ensures value { IfOk result (λ entry. entry ≡ entry_in kind row.now) }
-    ensures storage { IfErr result (λ fault. fault ≡ Fault.Storage) }
+    ensures faults { IfErr result (λ fault. fault ≡ Fault.Storage) }
 {
     Ok(Entry {
         kind,
@@ -90,7 +90,7 @@ fn entry_of(kind: Kind, row: &SqlRow) -> Result<Entry, Fault>
 
 /// The entries of a kind that rows show.
 pub(crate) fn entries_of(alloc: Global, kind: Kind, rows: &[SqlRow]) -> Result<Vec<Entry>, Fault>
-    ensures listed { IfOk result (λ list. list.items ≡ map (entry_in kind) rows.now) }
+    ensures entries { IfOk result (λ list. list.items ≡ map (entry_in kind) rows.now) }
     ensures faults { IfErr result IsMemoryOrStorage }
 {
     let mut list = Vec::new(alloc);
@@ -107,7 +107,7 @@ pub(crate) fn entries_under(
     prefix: &str,
     rows: &[SqlRow],
 ) -> Result<Vec<Entry>, Fault>
-    ensures listed { IfOk result (λ list.
+    ensures entries { IfOk result (λ list.
         list.items ≡ filter (λ e. starts_with nat_eq e.0.1 prefix.now) (map (entry_in kind) rows.now)) }
     ensures faults { IfErr result IsMemoryOrStorage }
 {
@@ -126,7 +126,7 @@ fn begins_with(key: &str, prefix: &str) -> bool
 fn kind_at(row: &SqlRow, at: usize) -> Result<Kind, Fault>
     ensures value { IfOk result (λ kind. kind ≡ kind_of (size_of (int_in (column row.now at)))) }
     ensures exact { IfOk result (λ kind. column row.now at ≡ Int (pos (kind_number kind))) }
-    ensures storage { IfErr result (λ fault. fault ≡ Fault.Storage) }
+    ensures faults { IfErr result (λ fault. fault ≡ Fault.Storage) }
 {
     match row.get::<u32>(at) {
         Ok(number) => kind_of(number),
@@ -138,7 +138,7 @@ fn kind_at(row: &SqlRow, at: usize) -> Result<Kind, Fault>
 fn kind_of(number: u32) -> Result<Kind, Fault>
     ensures value { IfOk result (λ kind. kind ≡ kind_of number) }
     ensures number { IfOk result (λ kind. kind_number kind ≡ number) }
-    ensures storage { IfErr result (λ fault. fault ≡ Fault.Storage) }
+    ensures faults { IfErr result (λ fault. fault ≡ Fault.Storage) }
 {
     match number {
         1 => Ok(Kind::Clock),
@@ -160,7 +160,7 @@ fn kind_of(number: u32) -> Result<Kind, Fault>
 
 fn whole_entry_of(row: &SqlRow) -> Result<Entry, Fault>
     ensures value { IfOk result (λ entry. entry ≡ whole_entry row.now) }
-    ensures storage { IfErr result (λ fault. fault ≡ Fault.Storage) }
+    ensures faults { IfErr result (λ fault. fault ≡ Fault.Storage) }
 {
     Ok(Entry {
         kind: kind_at(row, 0)?,
@@ -171,7 +171,7 @@ fn whole_entry_of(row: &SqlRow) -> Result<Entry, Fault>
 
 /// The entries of all kinds that rows show.
 pub(crate) fn whole_entries(alloc: Global, rows: &[SqlRow]) -> Result<Vec<Entry>, Fault>
-    ensures listed { IfOk result (λ list. list.items ≡ map whole_entry rows.now) }
+    ensures entries { IfOk result (λ list. list.items ≡ map whole_entry rows.now) }
     ensures faults { IfErr result IsMemoryOrStorage }
 {
     let mut list = Vec::new(alloc);
@@ -184,7 +184,7 @@ pub(crate) fn whole_entries(alloc: Global, rows: &[SqlRow]) -> Result<Vec<Entry>
 /// The number of a row. SQLite gives none below 1 to a row that is put without one.
 fn number_at(row: &SqlRow, at: usize) -> Result<u64, Fault>
     ensures value { IfOk result (λ number. column row.now at ≡ Int (pos number)) }
-    ensures storage { IfErr result (λ fault. fault ≡ Fault.Storage) }
+    ensures faults { IfErr result (λ fault. fault ≡ Fault.Storage) }
 {
     match row.get::<u64>(at) {
         Ok(number) => Ok(number),
@@ -205,7 +205,7 @@ fn is_over(last: Option<u64>, number: u64) -> bool
 /// there is, is due at a moment or never, and has a number above that of the row before.
 pub(crate) fn check_numbers(rows: &[SqlRow]) -> Result<(), Fault>
     ensures numbered { OnOk result (AreNumbered None rows.now) }
-    ensures storage { IfErr result (λ fault. fault ≡ Fault.Storage) }
+    ensures faults { IfErr result (λ fault. fault ≡ Fault.Storage) }
 {
     let mut last = None;
     for row in rows {

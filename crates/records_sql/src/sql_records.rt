@@ -51,7 +51,7 @@ impl<S: Alter> SqlRecords<S> {
         ensures same { HasCleanDisk (state S.Store self.new.conn) → OnOk result
             (rows_of (state S.Store self.new.conn).now.trees ≡ rows_of (state S.Store self.old.conn).now.trees) }
         ensures stays { Stays (state S.Store self.old.conn) (state S.Store self.new.conn) }
-        ensures failed { self.new.failed ≡ (self.old.failed || is_storage result) }
+        ensures failing { self.new.failed ≡ (self.old.failed || is_storage result) }
         ensures faults { IfErr result IsMemoryOrStorage }
     {
         if !self.is_active {
@@ -82,7 +82,7 @@ impl<S: Alter> SqlRecords<S> {
             (rows_of (state S.Store self.new.conn).now.trees
             ≡ map.insert (rows_of (state S.Store self.old.conn).now.trees) (kind, key.now) row.now) }
         ensures stays { Stays (state S.Store self.old.conn) (state S.Store self.new.conn) }
-        ensures failed { self.new.failed ≡ (self.old.failed || is_storage result) }
+        ensures failing { self.new.failed ≡ (self.old.failed || is_storage result) }
         ensures faults { IfErr result IsMemoryOrStorage }
     {
         if !self.is_active {
@@ -108,7 +108,7 @@ impl<S: Alter> SqlRecords<S> {
             (rows_of (state S.Store self.new.conn).now.trees
             ≡ map.remove (rows_of (state S.Store self.old.conn).now.trees) (kind, key.now)) }
         ensures stays { Stays (state S.Store self.old.conn) (state S.Store self.new.conn) }
-        ensures failed { self.new.failed ≡ (self.old.failed || is_storage result) }
+        ensures failing { self.new.failed ≡ (self.old.failed || is_storage result) }
         ensures faults { IfErr result IsMemoryOrStorage }
     {
         if !self.is_active {
@@ -142,12 +142,12 @@ fn lent(bound: &Option<Vec<u8>>) -> Option<&[u8]>
 
 impl<S: Alter> SqlRecords<S> {
     pub(crate) fn under(&mut self, kind: Kind, prefix: &str) -> Result<Vec<Entry>, Fault>
-        ensures listed { HasCleanDisk (state S.Store self.new.conn) → IfOk result (λ list.
+        ensures entries { HasCleanDisk (state S.Store self.new.conn) → IfOk result (λ list.
             list.items ≡ rows_under (rows_of (state S.Store self.old.conn).now.trees) kind prefix.now) }
         ensures same { HasCleanDisk (state S.Store self.new.conn) → OnOk result
             (rows_of (state S.Store self.new.conn).now.trees ≡ rows_of (state S.Store self.old.conn).now.trees) }
         ensures stays { Stays (state S.Store self.old.conn) (state S.Store self.new.conn) }
-        ensures failed { self.new.failed ≡ (self.old.failed || is_storage result) }
+        ensures failing { self.new.failed ≡ (self.old.failed || is_storage result) }
         ensures faults { IfErr result IsMemoryOrStorage }
     {
         if !self.is_active {
@@ -180,12 +180,12 @@ impl<S: Alter> SqlRecords<S> {
         from: &str,
         count: u32,
     ) -> Result<Vec<Entry>, Fault>
-        ensures listed { HasCleanDisk (state S.Store self.new.conn) → IfOk result (λ list. list.items
+        ensures entries { HasCleanDisk (state S.Store self.new.conn) → IfOk result (λ list. list.items
             ≡ take count (rows_from (rows_of (state S.Store self.old.conn).now.trees) kind prefix.now from.now)) }
         ensures same { HasCleanDisk (state S.Store self.new.conn) → OnOk result
             (rows_of (state S.Store self.new.conn).now.trees ≡ rows_of (state S.Store self.old.conn).now.trees) }
         ensures stays { Stays (state S.Store self.old.conn) (state S.Store self.new.conn) }
-        ensures failed { self.new.failed ≡ (self.old.failed || is_storage result) }
+        ensures failing { self.new.failed ≡ (self.old.failed || is_storage result) }
         ensures faults { IfErr result IsMemoryOrStorage }
     {
         if !self.is_active {
@@ -219,12 +219,12 @@ impl<S: Alter> SqlRecords<S> {
         prefix: &str,
         last: &str,
     ) -> Result<Vec<Entry>, Fault>
-        ensures listed { HasCleanDisk (state S.Store self.new.conn) → IfOk result (λ list. list.items
+        ensures entries { HasCleanDisk (state S.Store self.new.conn) → IfOk result (λ list. list.items
             ≡ rows_upto (rows_of (state S.Store self.old.conn).now.trees) kind prefix.now last.now) }
         ensures same { HasCleanDisk (state S.Store self.new.conn) → OnOk result
             (rows_of (state S.Store self.new.conn).now.trees ≡ rows_of (state S.Store self.old.conn).now.trees) }
         ensures stays { Stays (state S.Store self.old.conn) (state S.Store self.new.conn) }
-        ensures failed { self.new.failed ≡ (self.old.failed || is_storage result) }
+        ensures failing { self.new.failed ≡ (self.old.failed || is_storage result) }
         ensures faults { IfErr result IsMemoryOrStorage }
     {
         if !self.is_active {
@@ -250,12 +250,12 @@ impl<S: Alter> SqlRecords<S> {
     }
 
     pub(crate) fn by_owner(&mut self, kind: Kind, owner: &str) -> Result<Vec<Entry>, Fault>
-        ensures listed { HasCleanDisk (state S.Store self.new.conn) → IfOk result (λ list.
+        ensures entries { HasCleanDisk (state S.Store self.new.conn) → IfOk result (λ list.
             list.items ≡ rows_owned (rows_of (state S.Store self.old.conn).now.trees) kind owner.now) }
         ensures same { HasCleanDisk (state S.Store self.new.conn) → OnOk result
             (rows_of (state S.Store self.new.conn).now.trees ≡ rows_of (state S.Store self.old.conn).now.trees) }
         ensures stays { Stays (state S.Store self.old.conn) (state S.Store self.new.conn) }
-        ensures failed { self.new.failed ≡ (self.old.failed || is_storage result) }
+        ensures failing { self.new.failed ≡ (self.old.failed || is_storage result) }
         ensures faults { IfErr result IsMemoryOrStorage }
     {
         if !self.is_active {
@@ -281,12 +281,12 @@ impl<S: Alter> SqlRecords<S> {
     }
 
     pub(crate) fn due_until(&mut self, moment: Moment) -> Result<Vec<Entry>, Fault>
-        ensures listed { HasCleanDisk (state S.Store self.new.conn) → IfOk result (λ list.
+        ensures entries { HasCleanDisk (state S.Store self.new.conn) → IfOk result (λ list.
             AreDue (rows_of (state S.Store self.old.conn).now.trees) moment list.items) }
         ensures same { HasCleanDisk (state S.Store self.new.conn) → OnOk result
             (rows_of (state S.Store self.new.conn).now.trees ≡ rows_of (state S.Store self.old.conn).now.trees) }
         ensures stays { Stays (state S.Store self.old.conn) (state S.Store self.new.conn) }
-        ensures failed { self.new.failed ≡ (self.old.failed || is_storage result) }
+        ensures failing { self.new.failed ≡ (self.old.failed || is_storage result) }
         ensures faults { IfErr result IsMemoryOrStorage }
     {
         if !self.is_active {
@@ -325,8 +325,8 @@ impl<S: Alter> SqlRecords<S> {
         ensures usable { HasCleanDisk (state S.Store self.new.conn)
             → OnOk result (IsUsable (state S.Store self.new.conn)) }
         ensures stays { Stays (state S.Store self.old.conn) (state S.Store self.new.conn) }
-        ensures failed { self.new.failed ≡ (self.old.failed || is_storage result) }
-        ensures storage { IfErr result (λ fault. fault ≡ Fault.Storage) }
+        ensures failing { self.new.failed ≡ (self.old.failed || is_storage result) }
+        ensures faults { IfErr result (λ fault. fault ≡ Fault.Storage) }
     {
         self.is_active = false;
         self.memory.clear();
@@ -344,8 +344,8 @@ impl<S: Alter> SqlRecords<S> {
             (rows_of (state S.Store self.new.conn).now.trees ≡ rows_of (state S.Store self.old.conn).committed.trees) }
         ensures stays { Stays (state S.Store self.old.conn) (state S.Store self.new.conn) }
         ensures ended { OnErr result (HasEnded (state S.Store self.new.conn)) }
-        ensures failed { self.new.failed ≡ is_storage result }
-        ensures storage { IfErr result (λ fault. fault ≡ Fault.Storage) }
+        ensures failing { self.new.failed ≡ is_storage result }
+        ensures faults { IfErr result (λ fault. fault ≡ Fault.Storage) }
     {
         self.roll_back();
         let Ok(_) = statements::begin(&mut self.conn) else {
@@ -371,7 +371,7 @@ impl<S: Alter> SqlRecords<S> {
             → (state S.Store self.new.conn).now ≡ (state S.Store self.new.conn).committed }
         ensures inactive { self.new.is_active ≡ false }
         ensures stays { Stays (state S.Store self.old.conn) (state S.Store self.new.conn) }
-        ensures failed { self.new.failed ≡ self.old.failed }
+        ensures failing { self.new.failed ≡ self.old.failed }
     {
         self.is_active = false;
         if !self.conn.is_autocommit() {
@@ -390,8 +390,8 @@ impl<S: Alter> SqlRecords<S> {
         ensures ended { HasEnded (state S.Store self.new.conn) }
         ensures mismatches { mismatches (state S.Store self.old.conn) ≤ mismatches (state S.Store self.new.conn) }
         ensures closes { IsUsable (state S.Store self.new.conn) → IsUsable (state S.Store self.old.conn) }
-        ensures failed { self.new.failed ≡ (self.old.failed || is_storage result) }
-        ensures storage { IfErr result (λ fault. fault ≡ Fault.Storage) }
+        ensures failing { self.new.failed ≡ (self.old.failed || is_storage result) }
+        ensures faults { IfErr result (λ fault. fault ≡ Fault.Storage) }
     {
         if !self.is_active {
             self.roll_back();

@@ -30,8 +30,8 @@ impl<S: Alter> SqlRecords<S> {
             → rows_of (state S.Store tx.records.now.conn).now.trees
             ≡ rows_of (state S.Store self.old.conn).committed.trees) }
         ensures stays { IfOk result (λ tx. Stays (state S.Store self.old.conn) (state S.Store tx.records.now.conn)) }
-        ensures failed { IfOk result (λ tx. tx.records.now.failed ≡ false) }
-        ensures storage { IfErr result (λ fault. fault ≡ Fault.Storage) }
+        ensures failing { IfOk result (λ tx. tx.records.now.failed ≡ false) }
+        ensures faults { IfErr result (λ fault. fault ≡ Fault.Storage) }
     {
         self.start()?;
         Ok(SqlTx { records: self })
@@ -54,8 +54,8 @@ impl<S: Alter> SqlTx<'_, S> {
             ≤ mismatches (state S.Store self.exit.0.now.conn) }
         ensures closes { IsUsable (state S.Store self.exit.0.now.conn)
             → IsUsable (state S.Store self.entry.records.now.conn) }
-        ensures failed { self.exit.0.now.failed ≡ (self.entry.records.now.failed || is_storage result) }
-        ensures storage { IfErr result (λ fault. fault ≡ Fault.Storage) }
+        ensures failing { self.exit.0.now.failed ≡ (self.entry.records.now.failed || is_storage result) }
+        ensures faults { IfErr result (λ fault. fault ≡ Fault.Storage) }
     {
         let SqlTx { records } = self;
         records.finish()
@@ -66,7 +66,7 @@ impl<S: Alter> Drop for SqlTx<'_, S> {
     fn drop(self)
         ensures stays { Stays (state S.Store self.entry.records.now.conn) (state S.Store self.exit.0.now.conn) }
         ensures ended { HasEnded (state S.Store self.exit.0.now.conn) }
-        ensures failed { self.exit.0.now.failed ≡ self.entry.records.now.failed }
+        ensures failing { self.exit.0.now.failed ≡ self.entry.records.now.failed }
     {
         let SqlTx { records } = self;
         records.roll_back();

@@ -30,7 +30,7 @@ impl From<AllocError> for Unread {
 pub fn read_to_end<R: Source>(alloc: Global, reader: &mut R) -> Result<Vec<u8>, Unread>
     ensures ok { IfOk result (λ bytes. Consumes (R.left reader.old) (R.left reader.new) bytes.items
         × IsAtEnd (R.left reader.new)) }
-    ensures failed { IfErr result (λ unread. unread ≡ Unread.Failed
+    ensures err { IfErr result (λ unread. unread ≡ Unread.Failed
         → IsTrue (R.has_failed reader.new)
         ⊎ (R.pulls reader.new ≡ R.pulls reader.old + 4294967296)) }
 {

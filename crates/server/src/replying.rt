@@ -15,7 +15,7 @@ impl<W: NowSink> Replying<W> {
     /// The sink, with what was pushed to it.
     pub(crate) fn new(sink: W) -> Replying<W>
         ensures written { ⟦<Replying<W> as NowSink>⟧.written result ≡ W.written sink }
-        ensures failed { ⟦<Replying<W> as NowSink>⟧.has_failed result ≡ W.has_failed sink }
+        ensures failing { ⟦<Replying<W> as NowSink>⟧.has_failed result ≡ W.has_failed sink }
     {
         Replying { sink, status: None }
     }

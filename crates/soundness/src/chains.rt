@@ -44,7 +44,7 @@ fn add(
     ensures queue { OnOk result ((rows : Table) → Ends rows token.now
         → All (IsAbove rows) queue.old.items → All (IsAbove rows) queue.new.items) }
     ensures added { OnOk result (HasWordOf words.new token.now) }
-    ensures kept { OnOk result (OnlyAdds words.old words.new queue.old.items queue.new.items) }
+    ensures grows { OnOk result (OnlyAdds words.old words.new queue.old.items queue.new.items) }
     ensures memory { IfErr result (λ fault. fault ≡ faults.Memory) }
 {
     let Some(word) = word_of_token(token) else {
@@ -68,7 +68,7 @@ fn add_each(
     ensures queue { OnOk result ((rows : Table) → All (λ e. Ends rows e.0.1) tokens.now
         → All (IsAbove rows) queue.old.items → All (IsAbove rows) queue.new.items) }
     ensures added { OnOk result (All (λ e. HasWordOf words.new e.0.1) tokens.now) }
-    ensures kept { OnOk result (OnlyAdds words.old words.new queue.old.items queue.new.items) }
+    ensures grows { OnOk result (OnlyAdds words.old words.new queue.old.items queue.new.items) }
     ensures memory { IfErr result (λ fault. fault ≡ faults.Memory) }
 {
     for token in tokens {

@@ -83,7 +83,7 @@ fn visit<T: RecordsTx>(
     ensures broken { IsHonest (T.seen tx.new) → AreTrue (table (T.seen tx.old)) notes.old
         → IsFresh notes.old entry.now.0 → Shows result
         (λ rule. BreaksAt (table (T.seen tx.old)) rule entry.now.0.0 entry.now.0.1 entry.now.1) }
-    ensures kept { IsHonest (T.seen tx.new) → IsEntry (table (T.seen tx.old)) entry.now
+    ensures spares { IsHonest (T.seen tx.new) → IsEntry (table (T.seen tx.old)) entry.now
         → Finds result (Spares (table (T.seen tx.old)) (λ key. key ≢ entry.now.0) notes.old notes.new) }
     ensures call { IsReading (T.seen tx.old) (T.seen tx.new) result IsMemoryOrStorage }
 {
@@ -113,7 +113,7 @@ fn visit_each<T: RecordsTx>(
     ensures broken { IsHonest (T.seen tx.new) → AreTrue (table (T.seen tx.old)) notes.old
         → CanBeVisited (table (T.seen tx.old)) notes.old entries.now
         → Shows result (Breaks (table (T.seen tx.old))) }
-    ensures kept { IsHonest (T.seen tx.new) → All (IsEntry (table (T.seen tx.old))) entries.now
+    ensures spares { IsHonest (T.seen tx.new) → All (IsEntry (table (T.seen tx.old))) entries.now
         → Finds result (Spares (table (T.seen tx.old)) (λ key. All (λ e. key ≢ e.0) entries.now)
         notes.old notes.new) }
     ensures call { IsReading (T.seen tx.old) (T.seen tx.new) result IsMemoryOrStorage }
@@ -156,7 +156,7 @@ fn visit_kind<T: RecordsTx>(
         × ArePassed (table (T.seen tx.old)) (noted notes.new.identifiers) (noted notes.new.origins) kind) }
     ensures broken { IsHonest (T.seen tx.new) → AreTrue (table (T.seen tx.old)) notes.old
         → IsFreshKind notes.old kind → Shows result (Breaks (table (T.seen tx.old))) }
-    ensures kept { IsHonest (T.seen tx.new)
+    ensures spares { IsHonest (T.seen tx.new)
         → Finds result (Spares (table (T.seen tx.old)) (λ key. key.0 ≢ kind) notes.old notes.new) }
     ensures call { IsReading (T.seen tx.old) (T.seen tx.new) result IsMemoryOrStorage }
 {

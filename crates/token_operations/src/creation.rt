@@ -47,7 +47,7 @@ pub(crate) fn create<T: RecordsTx>(
     making: Making,
     asked: &TokenCreation,
 ) -> Result<Answered, RequestError>
-    requires kept { IsKeptCreation asked.now }
+    requires storable { IsKeptCreation asked.now }
     requires known { IsTokenInRange asker.now.caller.known }
     requires own { ArePrinted own.now (token_names (names_of context.now.words)) }
     ensures told { AreItsRules (T.seen tx.old).rows asker.now

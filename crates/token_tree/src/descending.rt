@@ -62,7 +62,7 @@ pub(crate) fn descend<T: RecordsTx>(
 ) -> Result<Vec<Entry>, Fault>
     ensures found { IsHonest (T.seen tx.new) → AreStarted (starts start.now) (T.seen tx.old).rows started.items
         → IfOk result (λ list. AreDescending (starts start.now) (T.seen tx.old).rows list.items) }
-    ensures listed { IsHonest (T.seen tx.new)
+    ensures any_list { IsHonest (T.seen tx.new)
         → IfOk result (λ list. Descends (T.seen tx.old).rows started.items list.items) }
     ensures call { IsReading (T.seen tx.old) (T.seen tx.new) result IsMemoryOrStorage }
 {

@@ -67,7 +67,7 @@ pub(crate) fn end_all<T: RecordsTx>(
     ensures rows { IsHonest (T.seen tx.new) → AreStarted (starts start.now) (T.seen tx.old).rows started.items
         → IfOk result (λ list.
         EndsDescent (starts start.now) (T.seen tx.old).rows list.items (T.seen tx.new).rows) }
-    ensures listed { IsHonest (T.seen tx.new) → IfOk result (λ list.
+    ensures any_list { IsHonest (T.seen tx.new) → IfOk result (λ list.
         EndsListed started.items (T.seen tx.old).rows list.items (T.seen tx.new).rows) }
     ensures call { IsChange (KeepsOthers of_tokens) (T.seen tx.old) (T.seen tx.new) result
         (IsReadFault (IsHonest (T.seen tx.new) → AreStarted (starts start.now) (T.seen tx.old).rows started.items

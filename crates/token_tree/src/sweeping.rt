@@ -47,7 +47,7 @@ pub fn end_due<T: RecordsTx>(
     due: &[Entry],
     clock: Moment,
 ) -> Result<Vec<TextBuf>, Fault>
-    ensures listed { IsHonest (T.seen tx.new) → IfOk result (λ list.
+    ensures any_list { IsHonest (T.seen tx.new) → IfOk result (λ list.
         EndsListed (filter (λ e. is_of_kind kind.Token e.0) due.now) (T.seen tx.old).rows list.items
         (T.seen tx.new).rows) }
     ensures rows { IsHonest (T.seen tx.new) → AreDue (T.seen tx.old).rows clock due.now → IfOk result (λ list.

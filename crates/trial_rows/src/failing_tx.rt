@@ -41,8 +41,8 @@ impl<'t, T: RecordsTx> FailingTx<'t, T> {
     fn pass(&mut self) -> Result<(), Fault>
         ensures same { self.new.tx ≡ self.old.tx }
         ensures passed { OnOk result (self.new.has_failed ≡ self.old.has_failed) }
-        ensures failed { OnErr result (self.new.has_failed ≡ true) }
-        ensures storage { IfErr result (λ fault. fault ≡ Fault.Storage) }
+        ensures failing { OnErr result (self.new.has_failed ≡ true) }
+        ensures faults { IfErr result (λ fault. fault ≡ Fault.Storage) }
     {
         if self.calls >= self.passes {
             self.has_failed = true;
@@ -56,8 +56,8 @@ impl<'t, T: RecordsTx> FailingTx<'t, T> {
     fn pass_write(&mut self) -> Result<(), Fault>
         ensures same { self.new.tx ≡ self.old.tx }
         ensures passed { OnOk result (self.new.has_failed ≡ self.old.has_failed) }
-        ensures failed { OnErr result (self.new.has_failed ≡ true) }
-        ensures storage { IfErr result (λ fault. fault ≡ Fault.Storage) }
+        ensures failing { OnErr result (self.new.has_failed ≡ true) }
+        ensures faults { IfErr result (λ fault. fault ≡ Fault.Storage) }
     {
         self.pass()?;
         self.writes = self.writes.saturating_add(1);

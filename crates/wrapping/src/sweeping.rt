@@ -53,7 +53,7 @@ fn remove_each<T: RecordsTx>(tx: &mut T, entries: &[Entry]) -> Result<(), Fault>
 /// As `sweep_waiting`, from a list of all rows that are due. It may have been asked for before the rows of other kinds
 /// changed, so that one list serves the sweeps of all kinds. Whatever the list is, its responses go, and no others.
 pub fn drop_due<T: RecordsTx>(tx: &mut T, due: &[Entry]) -> Result<(), Fault>
-    ensures listed { IsHonest (T.seen tx.new)
+    ensures any_list { IsHonest (T.seen tx.new)
         → OnOk result (table (T.seen tx.new) ≡ without_each due.now (table (T.seen tx.old))) }
     ensures rows { IsHonest (T.seen tx.new) → (now : ℕ) → AreStillDue now due.now (table (T.seen tx.old))
         → OnOk result (Sweeps now (table (T.seen tx.old)) (table (T.seen tx.new))) }

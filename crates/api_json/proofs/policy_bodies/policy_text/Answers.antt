@@ -4,7 +4,7 @@ use Rattle.api_json.proofs.KeptObjects.{given_members}
 use Rattle.api_json.proofs.KeptMeta.{short_text}
 use Rattle.api_json.proofs.policy_bodies.policy_text.Goals as goal
 
-pub returns-clause-kept : goal.returns-clause-kept
-returns-clause-kept c bytes fits is =
+pub returns-clause-storable : goal.returns-clause-storable
+returns-clause-storable c bytes fits is =
     let ms = members_of c.args.body.now in
     short_text bytes ms field.Policy c.required.result fits (given_members bytes ms is) c.required.ensures

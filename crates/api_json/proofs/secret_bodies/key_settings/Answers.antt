@@ -6,8 +6,8 @@ use Rattle.api_json.proofs.KeptCustom.{custom_kept, passed}
 use Rattle.api_json.proofs.KeptObjects.{given_members}
 use Rattle.api_json.proofs.secret_bodies.key_settings.Goals as goal
 
-pub returns-clause-kept : goal.returns-clause-kept
-returns-clause-kept c bytes fits is =
+pub returns-clause-storable : goal.returns-clause-storable
+returns-clause-storable c bytes fits is =
     let ms = members_of c.args.body.now in
     let accepted = passed c.is_custom.result (invalid field.CustomMetadata) _ c.in_ok-unless.ensures in
     record {

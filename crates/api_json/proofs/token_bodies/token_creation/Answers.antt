@@ -27,8 +27,8 @@ returns-clause-reads c =
     (goes _ (accepted _ c.is_empty.ensures c.in_ok-unless-2.ensures) (goes _ c.in_ok-type_name.ensures
     (goes _ (accepted _ c.is_service.ensures c.in_ok-unless-3.ensures) (cc))))))))))))))
 
-pub returns-clause-kept : goal.returns-clause-kept
-returns-clause-kept c bytes fits is =
+pub returns-clause-storable : goal.returns-clause-storable
+returns-clause-storable c bytes fits is =
     let ms = members_of c.args.body.now in
     let read = given_members bytes ms is in
     let policies = c.unwrap_or-2.ensures ∙ ap (unwrap_or c.in_ok-policies.policies)

@@ -37,10 +37,10 @@ returns-clause-told g c honest b st =
     let still = still_represented at timed old same later.1 in
     let tokens = represents_tokens at old still in
     let listed : AreDue timed now c.deref.result.now =
-    subst (AreDue timed now) (sym c.deref.ensures.value) (c.in_ok-due.ensures.listed asked) in
+    subst (AreDue timed now) (sym c.deref.ensures.value) (c.in_ok-due.ensures.entries asked) in
     let due = subst (λ (rows : Rows). AreDue rows now c.deref.result.now) (sym same) listed in
     let listed_too : AreDue timed now c.deref-2.result.now =
-    subst (AreDue timed now) (sym c.deref-2.ensures.value) (c.in_ok-due.ensures.listed asked) in
+    subst (AreDue timed now) (sym c.deref-2.ensures.value) (c.in_ok-due.ensures.entries asked) in
     let leases = c.in_ok-end_due.ensures.rows live now
     (still_due timed old mid now c.deref-2.result.now listed_too same (c.in_ok-ended.ensures.call.others swept)) in
     let are = subst (AreEnded at (without_expired at now)) (sym c.deref-3.ensures.value)
@@ -51,7 +51,7 @@ returns-clause-told g c honest b st =
     let gone = c.in_ok-leave_nothing.ensures.told left None None at (alive_at now b.tokens) ended in
     let due_now = due_yet timed old mid (seen c.end_due-2.new.tx).rows rest now c.deref-4.result.now
     c.deref-3.result.now
-    (subst (AreDue timed now) (sym c.deref-4.ensures.value) (c.in_ok-due.ensures.listed asked)) same
+    (subst (AreDue timed now) (sym c.deref-4.ensures.value) (c.in_ok-due.ensures.entries asked)) same
     (c.in_ok-ended.ensures.call.others swept)
     leases.others (c.in_ok-leave_nothing.ensures.rows left) in
     let waiting = represents_waiting (without_expired at now) rest gone in (
@@ -86,10 +86,10 @@ returns-in_err-drop_due-clause-wants g c honest b st =
     let still = still_represented at timed old same later.1 in
     let tokens = represents_tokens at old still in
     let listed : AreDue timed now c.deref.result.now =
-    subst (AreDue timed now) (sym c.deref.ensures.value) (c.in_ok-due.ensures.listed asked) in
+    subst (AreDue timed now) (sym c.deref.ensures.value) (c.in_ok-due.ensures.entries asked) in
     let due = subst (λ (rows : Rows). AreDue rows now c.deref.result.now) (sym same) listed in
     let listed_too : AreDue timed now c.deref-2.result.now =
-    subst (AreDue timed now) (sym c.deref-2.ensures.value) (c.in_ok-due.ensures.listed asked) in
+    subst (AreDue timed now) (sym c.deref-2.ensures.value) (c.in_ok-due.ensures.entries asked) in
     let leases = c.in_ok-end_due.ensures.rows live now
     (still_due timed old mid now c.deref-2.result.now listed_too same (c.in_ok-ended.ensures.call.others swept)) in
     let are = subst (AreEnded at (without_expired at now)) (sym c.deref-3.ensures.value)
@@ -100,7 +100,7 @@ returns-in_err-drop_due-clause-wants g c honest b st =
     let gone = c.in_ok-leave_nothing.ensures.told left None None at (alive_at now b.tokens) ended in
     let due_now = due_yet timed old mid (seen c.end_due-2.new.tx).rows rest now c.deref-4.result.now
     c.deref-3.result.now
-    (subst (AreDue timed now) (sym c.deref-4.ensures.value) (c.in_ok-due.ensures.listed asked)) same
+    (subst (AreDue timed now) (sym c.deref-4.ensures.value) (c.in_ok-due.ensures.entries asked)) same
     (c.in_ok-ended.ensures.call.others swept)
     leases.others (c.in_ok-leave_nothing.ensures.rows left) in
     let waiting = represents_waiting (without_expired at now) rest gone in
@@ -123,7 +123,7 @@ returns-in_err-ended-clause-wants g c honest b st =
     let still = still_represented at timed old same later.1 in
     let tokens = represents_tokens at old still in
     let listed : AreDue timed now c.deref.result.now =
-    subst (AreDue timed now) (sym c.deref.ensures.value) (c.in_ok-due.ensures.listed asked) in
+    subst (AreDue timed now) (sym c.deref.ensures.value) (c.in_ok-due.ensures.entries asked) in
     let due = subst (λ (rows : Rows). AreDue rows now c.deref.result.now) (sym same) listed in
     let p = err_from_is_err_and c.from_residual-in_err-ended.result c.from_residual-in_err-ended.ensures.1 in
     rw (p.1, p.2) (c.in_err-ended.ensures.wants honest forms at tokens due)
@@ -145,7 +145,7 @@ returns-in_err-end_due-clause-wants g c honest b st =
     let later = c.in_ok-now.ensures.told ticked b st in
     let still = still_represented at timed old same later.1 in
     let listed_too : AreDue timed now c.deref-2.result.now =
-    subst (AreDue timed now) (sym c.deref-2.ensures.value) (c.in_ok-due.ensures.listed asked) in
+    subst (AreDue timed now) (sym c.deref-2.ensures.value) (c.in_ok-due.ensures.entries asked) in
     let due_too = still_due timed old (seen c.end_due.new.tx).rows now c.deref-2.result.now listed_too same
     (c.in_ok-ended.ensures.call.others swept) in
     let p = err_from_is_err_and c.from_residual-in_err-end_due.result c.from_residual-in_err-end_due.ensures.1 in
@@ -174,10 +174,10 @@ returns-in_err-leave_nothing-clause-wants g c honest b st =
     let still = still_represented at timed old same later.1 in
     let tokens = represents_tokens at old still in
     let listed : AreDue timed now c.deref.result.now =
-    subst (AreDue timed now) (sym c.deref.ensures.value) (c.in_ok-due.ensures.listed asked) in
+    subst (AreDue timed now) (sym c.deref.ensures.value) (c.in_ok-due.ensures.entries asked) in
     let due = subst (λ (rows : Rows). AreDue rows now c.deref.result.now) (sym same) listed in
     let listed_too : AreDue timed now c.deref-2.result.now =
-    subst (AreDue timed now) (sym c.deref-2.ensures.value) (c.in_ok-due.ensures.listed asked) in
+    subst (AreDue timed now) (sym c.deref-2.ensures.value) (c.in_ok-due.ensures.entries asked) in
     let due_too = still_due timed old (seen c.end_due.new.tx).rows now c.deref-2.result.now listed_too same
     (c.in_ok-ended.ensures.call.others swept) in
     let are = subst (AreEnded at (without_expired at now)) (sym c.deref-3.ensures.value)

@@ -9,7 +9,7 @@ pub loop-kind-preserved : goal.loop-kind-preserved
 loop-kind-preserved g c =
     looked_further _ (g.T.RecordsTx.seen c.loop-kind.tx) (g.T.RecordsTx.seen c.under.new.self) c.loop-kind.kind-index
     c.loop-kind.invariant c.in_ok-under.ensures.call.same c.in_ok-under.ensures.call.goes_on
-    (λ honest. sym (c.in_ok-under.ensures.listed honest)
+    (λ honest. sym (c.in_ok-under.ensures.entries honest)
     ∙ nil_from_length c.in_ok-under.field-0.items (grind (arith, nat_tests, c.if-not-is_empty.ensures)))
 
 pub returns-clause-found : goal.returns-clause-found
@@ -28,7 +28,7 @@ returns-then-not-is_empty-clause-found g c = λ honest.
     honest in (
       (λ no. absurd (let e = no in cc)),
       λ is.
-          let none = c.in_ok-under.ensures.listed honest
+          let none = c.in_ok-under.ensures.entries honest
           ∙ none_in_empty mid.rows _ (c.loop-kind.invariant.same before ∙ is) in
           let long : length c.in_ok-under.field-0.items ≡ 0 = ap length none in
           absurd (grind (arith, nat_tests, c.if-not-is_empty.ensures, long)),

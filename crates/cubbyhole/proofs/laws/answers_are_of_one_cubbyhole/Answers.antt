@@ -16,5 +16,5 @@ returns-clause-damaged c rows others t path one damaged object short is =
 pub returns-clause-there : goal.returns-clause-there
 returns-clause-there c rows others t path one = ap is_some (one (object_key t path) (begins t path))
 
-pub returns-clause-listed : goal.returns-clause-listed
-returns-clause-listed c rows others t path one = listed_alike rows others t path one
+pub returns-clause-lists : goal.returns-clause-lists
+returns-clause-lists c rows others t path one = listed_alike rows others t path one

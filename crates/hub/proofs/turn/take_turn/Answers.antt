@@ -22,7 +22,7 @@ returns-in-Ok-clause-took g c =
     (serves_none g.S.Store.seen (number_of link) _ _ _ _ _ _ c.args.hub.now (Consumes-nil _) c.send_rest.ensures.sent
     (Supplies-nil g.C.Clock.may_tell c.args.clock.now g.D.WordSource.may_give c.args.words.now))
     (omega arith)
-    (said_sending c.in-Ok.turn (unsent link) (unsent c.send_rest.new.link) c.in-Ok.ensures.failed)
+    (said_sending c.in-Ok.turn (unsent link) (unsent c.send_rest.new.link) c.in-Ok.ensures.turns)
 
 pub returns-in-Ok-clause-room : goal.returns-in-Ok-clause-room
 returns-in-Ok-clause-room g c = λ is nothing.
@@ -34,7 +34,7 @@ returns-in-Err-clause-took g c =
     turns_err c.args.link.now c.send_rest.new.link c.conn.result
     (c.conn.ensures ∙ c.send_rest.ensures.same) c.send_rest.ensures.same
     (serves_closing g.S.Store.seen c.conn.result _ _ _ _ _ Write c.args.hub.now c.close.new.self refl
-    (λ is. cc is) (λ is. c.in-Err.ensures.failed) (Consumes-nil _) c.send_rest.ensures.sent
+    (λ is. cc is) (λ is. c.in-Err.ensures.turns) (Consumes-nil _) c.send_rest.ensures.sent
     (Supplies-nil g.C.Clock.may_tell c.args.clock.now g.D.WordSource.may_give c.args.words.now)
     (record { store = c.close.ensures.store; connections = c.close.ensures.connections }))
     (omega arith) c.send_rest.ensures.sent

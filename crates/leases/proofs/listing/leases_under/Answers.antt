@@ -11,8 +11,8 @@ use Rattle.leases.specs.Removed.{leases_among, AreThoseThatEnd}
 use Rattle.leases.proofs.ListedLeases.{those_passing}
 use Rattle.leases.proofs.listing.leases_under.Goals as goal
 
-pub returns-clause-listed : goal.returns-clause-listed
-returns-clause-listed g c honest =
+pub returns-clause-entries : goal.returns-clause-entries
+returns-clause-entries g c honest =
     let old = g.T.RecordsTx.seen c.args.tx.now in
     let prefix = c.args.prefix.now in
     let key = c.as_str.ensures.value ∙ c.in_ok-key.ensures in
@@ -21,4 +21,4 @@ returns-clause-listed g c honest =
     (sym (is ∙ ap (rows_under old.rows kind.Lease) key))
     (those_passing old.rows (is_under prefix)
     (λ e. is_of_kind kind.Lease e.0 && starts_with nat_eq e.0.1 (prefix ++ slash ∷ [])) (λ q row. refl)))
-    (c.under.ensures.listed honest)
+    (c.under.ensures.entries honest)

@@ -21,7 +21,7 @@ returns-clause-rows g c honest =
     let new = (seen c.remove_leases.new.tx).rows in
     let es = leases_among c.deref.result.now in
     let those = subst (λ es. AreThoseThatEnd ends (table_of old) (leases_among es)) (sym c.deref.ensures.value)
-    (c.in_ok-entries.ensures.listed first) in
+    (c.in_ok-entries.ensures.entries first) in
     on_ok_weaker c.remove_leases.result (λ each.
     leases_ended ends es old new those
     (subst (λ (r : Rows). RemovesEach es r new) (c.in_ok-entries.ensures.call.same first) each))
@@ -49,7 +49,7 @@ returns-clause-call g c =
           let first : IsHonest (seen c.leases_under.new.tx) =
           honest_before _ _ _ c.remove_leases.ensures.call.goes_on honest in
           let those = subst (λ es. AreThoseThatEnd ends (table_of old) (leases_among es)) (sym c.deref.ensures.value)
-          (c.in_ok-entries.ensures.listed first) in
+          (c.in_ok-entries.ensures.entries first) in
           damage (each_readable ends (leases_among c.deref.result.now) old old those readable)) f)
           c.remove_leases.result c.remove_leases.ensures.call.faults;
       goes_on =

@@ -22,7 +22,7 @@ returns-clause-rows g c honest =
     (seen c.end_due.new.tx) _ c.end_due.ensures.call.goes_on honest in
     let same = c.in_ok-due.ensures.call.same mid in
     let due = subst (AreDue (seen c.args.tx.now).rows now) (sym c.deref.ensures.value)
-    (c.in_ok-due.ensures.listed mid) in
+    (c.in_ok-due.ensures.entries mid) in
     let still = still_due (seen c.args.tx.now).rows (seen c.due_until.new.self).rows now c.deref.result.now same due in
     subst (λ (rows : Rows). OnOk c.end_due.result
     (EndsLeases (has_come now) (table_of rows) (table (seen c.end_due.new.tx)))) same
@@ -53,7 +53,7 @@ returns-clause-call g c =
           (seen c.end_due.new.tx) _ c.end_due.ensures.call.goes_on honest in
           let same = c.in_ok-due.ensures.call.same mid in
           let due = subst (AreDue (seen c.args.tx.now).rows now) (sym c.deref.ensures.value)
-          (c.in_ok-due.ensures.listed mid) in
+          (c.in_ok-due.ensures.entries mid) in
           let still = still_due (seen c.args.tx.now).rows
           (seen c.due_until.new.self).rows now c.deref.result.now same due in
           damage honest now still

@@ -32,7 +32,7 @@ returns-then-len-clause-set g c honest =
     let early = honest_before (seen c.loop.tx)
     (seen c.under_from.new.self) _ c.in_ok-page.ensures.call.goes_on honest in
     let is : page ≡ take 16 (rows_from rows c.args.kind prefix from) =
-    c.in_ok-page.ensures.listed honest
+    c.in_ok-page.ensures.entries honest
     ∙ (λ i. take 16 (rows_from (c.loop.invariant.same early i) c.args.kind prefix (c.as_str.ensures.value i))) in
     let now : c.push_children.new.names.items ≡ push_each names (found_in prefix (keys_of page)) =
     c.in_ok-push_children.ensures ∙ ap (λ es. push_each names (found_in prefix (keys_of es))) c.deref.ensures.value in
@@ -59,7 +59,7 @@ loop-preserved g c =
           let early = honest_before (seen c.loop.tx)
           (seen c.under_from.new.self) _ c.in_ok-page.ensures.call.goes_on honest in
           let is : page ≡ take 16 (rows_from rows c.args.kind prefix from) =
-          c.in_ok-page.ensures.listed honest
+          c.in_ok-page.ensures.entries honest
           ∙ (λ i. take 16 (rows_from (c.loop.invariant.same early i) c.args.kind prefix (c.as_str.ensures.value i)))
           in
           let now : c.push_children.new.names.items ≡ push_each names (found_in prefix (keys_of page)) =

@@ -14,5 +14,5 @@ returns-clause-rows g c honest =
     (rw none at (c.loop-entry.invariant.rows honest))
     ∙ ap (λ m. without_listed m items) (c.in_ok-list.ensures.call.same early)
     ∙ ap (without_listed (g.T.RecordsTx.seen c.args.tx.now).rows)
-    (c.deref-entry-items.ensures.value ∙ c.in_ok-list.ensures.listed early))
+    (c.deref-entry-items.ensures.value ∙ c.in_ok-list.ensures.entries early))
     ∙ table_of-without_under (g.T.RecordsTx.seen c.args.tx.now).rows c.args.kind c.args.prefix.now

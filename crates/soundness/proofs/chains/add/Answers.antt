@@ -30,8 +30,8 @@ returns-in_ok-push-clause-added c =
     token_there c.args.words.now c.insert.new.self c.in-Some.word c.in_ok-insert.ensures.updates.0 c.args.token.now
     c.in-Some.ensures.sound.0 c.in-Some.ensures.sound.1
 
-pub returns-in_ok-push-clause-kept : goal.returns-in_ok-push-clause-kept
-returns-in_ok-push-clause-kept c =
+pub returns-in_ok-push-clause-grows : goal.returns-in_ok-push-clause-grows
+returns-in_ok-push-clause-grows c =
     adds_token c.args.words.now c.insert.new.self c.in-Some.word c.in_ok-insert.ensures.updates.0 c.args.token.now
     c.in-Some.ensures.sound.0 c.in-Some.ensures.sound.1 c.args.queue.now.items c.push.new.self.items
     (c.in_ok-push.ensures.items ∙ ap (λ t. c.args.queue.now.items ++ t ∷ []) c.in_ok-copied.ensures)

@@ -23,7 +23,7 @@ loop-token-preserved c =
           below_more
           (λ (k : ℕ). (d : RowKey × Row) → HasWordOf c.add.new.words (get_or c.args.tokens.now k d).0.1)
           c.loop-token.token-index
-          (λ k low d w small is. c.in_ok-add.ensures.kept.words w (c.loop-token.invariant.added k d low w small is))
+          (λ k low d w small is. c.in_ok-add.ensures.grows.words w (c.loop-token.invariant.added k d low w small is))
           (λ d w small is.
           c.in_ok-add.ensures.added w small
           (key
@@ -31,5 +31,5 @@ loop-token-preserved c =
           (same_at c.args.tokens.now c.loop-token.token-index c.token-item.result d c.loop-token-test.true)
           ∙ is)) k upto d;
       kept = adds_further c.args.words.now c.loop-token.words c.add.new.words c.args.queue.now.items
-          c.loop-token.queue.items c.add.new.queue.items c.loop-token.invariant.kept c.in_ok-add.ensures.kept;
+          c.loop-token.queue.items c.add.new.queue.items c.loop-token.invariant.kept c.in_ok-add.ensures.grows;
     }

@@ -47,7 +47,7 @@ loop-next-preserved g c =
     let before = honest_before (seen c.loop-next.tx)
     (seen c.by_owner.new.self) _ c.in_ok-children.ensures.call.goes_on honest in
     let above = c.loop-next.invariant.queue before c.loop-next.next next below in
-    let listed = c.deref.ensures.value ∙ c.in_ok-children.ensures.listed honest
+    let listed = c.deref.ensures.value ∙ c.in_ok-children.ensures.entries honest
     ∙ (λ i. rows_owned (c.loop-next.invariant.same before i) kind.Token (asked i)) in
     subst (All (λ (e : RowKey × Row). Ends (table_of rows) e.0.1)) (sym listed) (children_end rows _ above) in
     record {
@@ -64,15 +64,15 @@ loop-next-preserved g c =
           (seen c.by_owner.new.self) _ c.in_ok-children.ensures.call.goes_on honest in
           c.in_ok-add_each.ensures.queue (table_of rows) (children honest) (c.loop-next.invariant.queue before);
       root = still_queued c.loop-next.words c.add_each.new.words es c.add_each.new.queue.items
-          c.in_ok-add_each.ensures.kept [] c.loop-next.invariant.root;
-      queued = c.in_ok-add_each.ensures.kept.queued c.loop-next.invariant.queued;
+          c.in_ok-add_each.ensures.grows [] c.loop-next.invariant.root;
+      queued = c.in_ok-add_each.ensures.grows.queued c.loop-next.invariant.queued;
       done = λ honest.
           let before = honest_before (seen c.loop-next.tx)
           (seen c.by_owner.new.self) _ c.in_ok-children.ensures.call.goes_on honest in
-          let listed = c.deref.ensures.value ∙ c.in_ok-children.ensures.listed honest
+          let listed = c.deref.ensures.value ∙ c.in_ok-children.ensures.entries honest
           ∙ (λ i. rows_owned (c.loop-next.invariant.same before i) kind.Token (asked i)) in
           one_more_done rows c.loop-next.words c.add_each.new.words es c.add_each.new.queue.items c.loop-next.next owner
-          below (same_at es c.loop-next.next owner next below) c.in_ok-add_each.ensures.kept
+          below (same_at es c.loop-next.next owner next below) c.in_ok-add_each.ensures.grows
           (subst (All (λ (e : RowKey × Row). HasWordOf c.add_each.new.words e.0.1)) listed
           c.in_ok-add_each.ensures.added) (c.loop-next.invariant.done before);
       goes_on = search rules;

@@ -66,8 +66,8 @@ returns-in-Some-3-clause-broken g c honest are fresh =
     (λ origins not_noted. if_some (λ (r : Rule). BreaksAt (table_of now) r k q row) c.in_ok-origin.field-0
     c.in-Some-3.origin c.in-Some-3.is (c.in_ok-origin.ensures.broken honest origins not_noted))
 
-pub returns-clause-kept : goal.returns-clause-kept
-returns-clause-kept g c honest here =
+pub returns-clause-spares : goal.returns-clause-spares
+returns-clause-spares g c honest here =
     let first = (g.T.RecordsTx.seen c.args.tx.now).rows in
     let after : Notes = record {
       rooted = c.args.notes.now.rooted;

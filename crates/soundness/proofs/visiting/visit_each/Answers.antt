@@ -41,13 +41,13 @@ loop-entry-preserved g c =
           entry_keeps (seen c.args.tx.now).rows (seen c.loop-entry.tx).rows (c.loop-entry.invariant.same early)
           c.args.notes.now c.loop-entry.notes c.visit.new.notes c.args.entries.now c.loop-entry.entry-index
           c.loop-entry-test.true c.entry-item.result c.entry-item.is c.in_ok-rule.field-0 c.in_default.is
-          (done.kept honest) all (c.loop-entry.invariant.kept early all);
+          (done.spares honest) all (c.loop-entry.invariant.kept early all);
       fresh = λ honest can.
           let early = honest_before (seen c.loop-entry.tx) (seen c.visit.new.tx) false done.call.goes_on honest in
           entry_frees (seen c.args.tx.now).rows (seen c.loop-entry.tx).rows (c.loop-entry.invariant.same early)
           c.args.notes.now c.loop-entry.notes c.visit.new.notes c.args.entries.now c.loop-entry.entry-index
           c.loop-entry-test.true c.entry-item.result c.entry-item.is c.in_ok-rule.field-0 c.in_default.is
-          (done.kept honest) can (c.loop-entry.invariant.fresh early can);
+          (done.spares honest) can (c.loop-entry.invariant.fresh early can);
       goes_on = goes_further (seen c.args.tx.now) (seen c.loop-entry.tx) (seen c.visit.new.tx) false
           c.loop-entry.invariant.goes_on done.call.goes_on;
     }

@@ -44,7 +44,7 @@ returns-then-len-clause-passed g c honest ends =
     (seen c.under_from.new.self) false c.in_ok-page.ensures.call.goes_on listed in
     let same = c.loop.invariant.same early in
     let is : page ≡ take 16 (rows_from first c.args.kind [] from) =
-    c.in_ok-page.ensures.listed listed
+    c.in_ok-page.ensures.entries listed
     ∙ (λ i. take 16 (rows_from (same i) c.args.kind [] (c.as_str.ensures.value i))) in
     let more = page_more first (seen c.under_from.new.self).rows (c.in_ok-page.ensures.call.same listed ∙ same)
     c.args.notes.now c.loop.notes c.visit_each.new.notes c.args.kind from c.deref.result.now c.in_ok-trouble.field-0
@@ -76,7 +76,7 @@ loop-preserved g c =
           (seen c.under_from.new.self) false c.in_ok-page.ensures.call.goes_on listed in
           let same = c.loop.invariant.same early in
           let is : page ≡ take 16 (rows_from first c.args.kind [] from) =
-          c.in_ok-page.ensures.listed listed
+          c.in_ok-page.ensures.entries listed
           ∙ (λ i. take 16 (rows_from (same i) c.args.kind [] (c.as_str.ensures.value i))) in
           let more = page_more first (seen c.under_from.new.self).rows (c.in_ok-page.ensures.call.same listed ∙ same)
           c.args.notes.now c.loop.notes c.visit_each.new.notes c.args.kind from c.deref.result.now
@@ -98,11 +98,11 @@ loop-preserved g c =
           (seen c.under_from.new.self) false c.in_ok-page.ensures.call.goes_on listed in
           let same = c.loop.invariant.same early in
           let is : page ≡ take 16 (rows_from first c.args.kind [] from) =
-          c.in_ok-page.ensures.listed listed
+          c.in_ok-page.ensures.entries listed
           ∙ (λ i. take 16 (rows_from (same i) c.args.kind [] (c.as_str.ensures.value i))) in
           page_keeps first (seen c.under_from.new.self).rows (c.in_ok-page.ensures.call.same listed ∙ same)
           c.args.notes.now c.loop.notes c.visit_each.new.notes c.args.kind from 16 page c.deref.result.now is
-          c.deref.ensures.value c.in_ok-trouble.field-0 c.in_default.is (c.in_ok-trouble.ensures.kept honest)
+          c.deref.ensures.value c.in_ok-trouble.field-0 c.in_default.is (c.in_ok-trouble.ensures.spares honest)
           (c.loop.invariant.kept early);
       fresh = λ honest fresh.
           let listed = honest_before (seen c.under_from.new.self)
@@ -111,7 +111,7 @@ loop-preserved g c =
           (seen c.under_from.new.self) false c.in_ok-page.ensures.call.goes_on listed in
           let same = c.loop.invariant.same early in
           let is : page ≡ take 16 (rows_from first c.args.kind [] from) =
-          c.in_ok-page.ensures.listed listed
+          c.in_ok-page.ensures.entries listed
           ∙ (λ i. take 16 (rows_from (same i) c.args.kind [] (c.as_str.ensures.value i))) in
           let some : 0 < length page = omega (arith, c.if-len.false, c.len.ensures) in
           let e = last_row page some in
@@ -120,7 +120,7 @@ loop-preserved g c =
           subst (IsFreshFrom c.visit_each.new.notes c.args.kind) (sym (c.in_ok-from.ensures e.0 last))
           (page_frees first (seen c.under_from.new.self).rows (c.in_ok-page.ensures.call.same listed ∙ same)
           c.args.notes.now c.loop.notes c.visit_each.new.notes c.args.kind from 16 page c.deref.result.now is
-          c.deref.ensures.value c.in_ok-trouble.field-0 c.in_default.is (c.in_ok-trouble.ensures.kept honest)
+          c.deref.ensures.value c.in_ok-trouble.field-0 c.in_default.is (c.in_ok-trouble.ensures.spares honest)
           e.0 e.1 (c.loop.invariant.fresh early fresh));
       goes_on =
           goes_further (seen c.args.tx.now) (seen c.under_from.new.self) (seen c.visit_each.new.tx) false
@@ -141,15 +141,15 @@ returns-in-Some-clause-broken g c honest are fresh =
     (seen c.under_from.new.self) false c.in_ok-page.ensures.call.goes_on listed in
     let same = c.loop.invariant.same early in
     let is : page ≡ take 16 (rows_from first c.args.kind [] from) =
-    c.in_ok-page.ensures.listed listed
+    c.in_ok-page.ensures.entries listed
     ∙ (λ i. take 16 (rows_from (same i) c.args.kind [] (c.as_str.ensures.value i))) in
     page_breaks first (seen c.under_from.new.self).rows (c.in_ok-page.ensures.call.same listed ∙ same)
     c.args.notes.now c.loop.notes c.visit_each.new.notes c.args.kind from 16 page c.deref.result.now is
     c.deref.ensures.value ((c.loop.invariant.kept early).stay_true are) (c.loop.invariant.fresh early fresh)
     c.in_ok-trouble.field-0 c.in-Some.trouble c.in-Some.is (c.in_ok-trouble.ensures.broken honest)
 
-pub returns-then-len-clause-kept : goal.returns-then-len-clause-kept
-returns-then-len-clause-kept g c honest =
+pub returns-then-len-clause-spares : goal.returns-then-len-clause-spares
+returns-then-len-clause-spares g c honest =
     let seen = g.T.RecordsTx.seen in
     let first = (seen c.args.tx.now).rows in
     let page = c.in_ok-page.page.items in
@@ -160,11 +160,11 @@ returns-then-len-clause-kept g c honest =
     (seen c.under_from.new.self) false c.in_ok-page.ensures.call.goes_on listed in
     let same = c.loop.invariant.same early in
     let is : page ≡ take 16 (rows_from first c.args.kind [] from) =
-    c.in_ok-page.ensures.listed listed
+    c.in_ok-page.ensures.entries listed
     ∙ (λ i. take 16 (rows_from (same i) c.args.kind [] (c.as_str.ensures.value i))) in
     page_keeps first (seen c.under_from.new.self).rows (c.in_ok-page.ensures.call.same listed ∙ same)
     c.args.notes.now c.loop.notes c.visit_each.new.notes c.args.kind from 16 page c.deref.result.now is
-    c.deref.ensures.value c.in_ok-trouble.field-0 c.in_default.is (c.in_ok-trouble.ensures.kept honest)
+    c.deref.ensures.value c.in_ok-trouble.field-0 c.in_default.is (c.in_ok-trouble.ensures.spares honest)
     (c.loop.invariant.kept early)
 
 pub returns-in_err-page-clause-call : goal.returns-in_err-page-clause-call

@@ -36,13 +36,13 @@ loop-kind-preserved g c =
           let early = honest_before (seen c.loop-kind.tx) (seen c.visit_kind.new.tx) false done.call.goes_on honest in
           kind_stays_true (seen c.args.tx.now).rows (seen c.loop-kind.tx).rows (c.loop-kind.invariant.same early)
           c.args.notes.now c.loop-kind.notes c.visit_kind.new.notes c.args.kinds.now c.loop-kind.kind-index
-          c.loop-kind-test.true _ c.in_ok-trouble.field-0 c.in_default.is (done.kept honest)
+          c.loop-kind-test.true _ c.in_ok-trouble.field-0 c.in_default.is (done.spares honest)
           (c.loop-kind.invariant.are early);
       fresh = λ honest apart all.
           let early = honest_before (seen c.loop-kind.tx) (seen c.visit_kind.new.tx) false done.call.goes_on honest in
           kind_frees (seen c.args.tx.now).rows (seen c.loop-kind.tx).rows (c.loop-kind.invariant.same early)
           c.args.notes.now c.loop-kind.notes c.visit_kind.new.notes c.args.kinds.now c.loop-kind.kind-index
-          c.loop-kind-test.true _ c.in_ok-trouble.field-0 c.in_default.is (done.kept honest) apart
+          c.loop-kind-test.true _ c.in_ok-trouble.field-0 c.in_default.is (done.spares honest) apart
           (c.loop-kind.invariant.fresh early apart all);
       goes_on = goes_further (seen c.args.tx.now) (seen c.loop-kind.tx) (seen c.visit_kind.new.tx) false
           c.loop-kind.invariant.goes_on done.call.goes_on;

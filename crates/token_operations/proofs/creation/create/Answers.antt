@@ -62,7 +62,7 @@ make-requires g c =
     let made = c.in_ok-token.ensures in
     let range : IsInRange asked =
     record {
-      kept = c.requires.kept;
+      kept = c.requires.storable;
       explicit_max_ttl = made.long;
       num_uses = made.wide;
       texts = each_pair asked.meta made.texts;
@@ -131,7 +131,7 @@ returns-clause-told g c are honest b starts fresh =
     let row = c.in_ok-token.ensures in
     let range : IsInRange asked =
     record {
-      kept = c.requires.kept;
+      kept = c.requires.storable;
       explicit_max_ttl = row.long;
       num_uses = row.wide;
       texts = each_pair asked.meta row.texts;
@@ -170,7 +170,7 @@ returns-clause-told g c are honest b starts fresh =
     (allowed (is_privileged b (making_path making) x.0) making x.0 given asked c.in_ok-check.field-0 may).named in
     let policies_are = new_policies_are IsPolicyName refl refl (is_privileged b (making_path making) x.0) x.0 asked
     (sound_policies forms caller x.0 (st.sound.tokens.each caller x.0 x.1))
-    (each_passes asked.policies names_given) c.requires.kept.few_policies in
+    (each_passes asked.policies names_given) c.requires.storable.few_policies in
     let good = printed c.args.own.now names c.requires.own in
     let can = may_be_made forms (Some caller) b st.sound names good fresh caller making given asked range
     (starts.begins.here caller refl) policies_are in

@@ -24,4 +24,4 @@ returns-clause-found g c honest =
     let named = λ (empty : c.args.token.now ≡ []). true≢false
     (sym (c.is_empty.ensures ∙ ap (λ t. length t == 0) empty) ∙ c.if-is_empty.false) in
     IfOk-weaker c.by_owner.result _ _ (λ list is. is ∙ owned_children c.args.token.now rows named)
-    (c.by_owner.ensures.listed honest)
+    (c.by_owner.ensures.entries honest)

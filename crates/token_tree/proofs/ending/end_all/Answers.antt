@@ -49,15 +49,15 @@ returns-clause-rows g c honest started =
     ∙ ap (without_each c.deref-2.result.now) (c.in_ok-ended.ensures.call.same mid)
     ∙ ap (λ es. without_each es rows) c.deref-2.ensures.value))
 
-pub returns-clause-listed : goal.returns-clause-listed
-returns-clause-listed g c honest =
+pub returns-clause-any_list : goal.returns-clause-any_list
+returns-clause-any_list g c honest =
     let seen = g.T.RecordsTx.seen in
     let rows = (seen c.args.tx.now).rows in
     let mid = honest_before (seen c.descend.new.tx)
     (seen c.remove_tokens.new.tx) _ c.in_ok-remove_tokens.ensures.call.goes_on honest in
     record {
       list = c.in_ok-ended.ended.items;
-      descends = c.in_ok-ended.ensures.listed mid;
+      descends = c.in_ok-ended.ensures.any_list mid;
       texts_are = c.in_ok-texts.ensures ∙ ap (Rattle.token_tree.specs.Walks.texts) c.deref.ensures.value;
       rows = c.in_ok-remove_tokens.ensures.rows honest
           ∙ ap (without_each c.deref-2.result.now) (c.in_ok-ended.ensures.call.same mid)

@@ -74,7 +74,7 @@ returns-clause-told g c honest forms b stands =
     let is_new : (seen c.orphan_children.new.tx).rows ≡ without_parent t (rows_under rows kind.Token [])
     (seen c.remove_token.new.tx).rows =
     c.in_ok-orphan_children.ensures.rows honest
-    ∙ (λ i. without_parent t ((c.deref.ensures.value ∙ c.in_ok-children.ensures.listed early
+    ∙ (λ i. without_parent t ((c.deref.ensures.value ∙ c.in_ok-children.ensures.entries early
     ∙ ap (λ m. rows_owned m kind.Token t) (c.in_ok-row.ensures.call.same first)) i) (seen c.remove_token.new.tx).rows)
     ∙ owned_orphans t rows (seen c.remove_token.new.tx).rows in
     revoked_one forms b rows stands t (rows_under rows kind.Token []) (rows_under rows kind.Token [])
@@ -133,7 +133,7 @@ returns-clause-call g c =
           let is_new : (seen c.orphan_children.new.tx).rows ≡ without_parent t (rows_under rows kind.Token [])
           (seen c.remove_token.new.tx).rows =
           c.in_ok-orphan_children.ensures.rows honest
-          ∙ (λ i. without_parent t ((c.deref.ensures.value ∙ c.in_ok-children.ensures.listed early
+          ∙ (λ i. without_parent t ((c.deref.ensures.value ∙ c.in_ok-children.ensures.entries early
           ∙ ap (λ m. rows_owned m kind.Token t) (c.in_ok-row.ensures.call.same first)) i)
           (seen c.remove_token.new.tx).rows)
           ∙ owned_orphans t rows (seen c.remove_token.new.tx).rows in
@@ -166,7 +166,7 @@ returns-clause-rows g c honest =
     let is_new : (seen c.orphan_children.new.tx).rows ≡ without_parent t (rows_under rows kind.Token [])
     (seen c.remove_token.new.tx).rows =
     c.in_ok-orphan_children.ensures.rows honest
-    ∙ (λ i. without_parent t ((c.deref.ensures.value ∙ c.in_ok-children.ensures.listed early
+    ∙ (λ i. without_parent t ((c.deref.ensures.value ∙ c.in_ok-children.ensures.entries early
     ∙ ap (λ m. rows_owned m kind.Token t) (c.in_ok-row.ensures.call.same first)) i) (seen c.remove_token.new.tx).rows)
     ∙ owned_orphans t rows (seen c.remove_token.new.tx).rows in
     ends_alone rows t c.in-Some.row is (rows_under rows kind.Token []) (t ∷ []) refl refl

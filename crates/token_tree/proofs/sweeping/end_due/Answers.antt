@@ -20,12 +20,12 @@ returns-clause-rows g c honest due =
     → IfOk c.end_all.result (λ list. EndsDescent (has_come n) rows list.items (seen c.end_all.new.tx).rows))
     c.seconds.ensures.value (c.end_all.ensures.rows honest) started
 
-pub returns-clause-listed : goal.returns-clause-listed
-returns-clause-listed g c honest =
+pub returns-clause-any_list : goal.returns-clause-any_list
+returns-clause-any_list g c honest =
     let seen = g.T.RecordsTx.seen in
     subst (λ (first : List (RowKey × Row)). IfOk c.end_all.result (λ list.
     EndsListed first (seen c.args.tx.now).rows list.items (seen c.end_all.new.tx).rows)) c.in_ok-started.ensures
-    (c.end_all.ensures.listed honest)
+    (c.end_all.ensures.any_list honest)
 
 pub returns-clause-call : goal.returns-clause-call
 returns-clause-call g c =

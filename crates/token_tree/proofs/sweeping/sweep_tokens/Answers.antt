@@ -22,7 +22,8 @@ returns-clause-rows g c honest =
     subst (λ rows. AreDue rows c.args.clock c.deref.result.now
     → IfOk c.end_due.result (λ list. EndsDescent s rows list.items (seen c.end_due.new.tx).rows)) same
     (c.end_due.ensures.rows honest)
-    (subst (AreDue (seen c.args.tx.now).rows c.args.clock) (sym c.deref.ensures.value) (c.in_ok-due.ensures.listed mid))
+    (subst (AreDue (seen c.args.tx.now).rows c.args.clock) (sym c.deref.ensures.value)
+    (c.in_ok-due.ensures.entries mid))
 
 pub returns-clause-told : goal.returns-clause-told
 returns-clause-told g c honest forms b stands =
@@ -44,7 +45,7 @@ returns-clause-wants g c honest forms b stands =
     (seen c.end_due.new.tx) _ c.end_due.ensures.call.goes_on honest in
     let same = c.in_ok-due.ensures.call.same mid in
     let due = subst (AreDue (seen c.args.tx.now).rows c.args.clock) (sym c.deref.ensures.value)
-    (c.in_ok-due.ensures.listed mid) in
+    (c.in_ok-due.ensures.entries mid) in
     each_fault (λ f. not_damaged (λ damage. undamaged forms b (seen c.args.tx.now).rows stands s
     (subst (HasDamagedDescent s) same
     (damage honest (subst (λ rows. AreDue rows c.args.clock c.deref.result.now) (sym same) due)))) f)
@@ -66,7 +67,7 @@ returns-clause-call g c =
           (seen c.end_due.new.tx) _ c.end_due.ensures.call.goes_on honest in
           let same = c.in_ok-due.ensures.call.same mid in
           let due = subst (AreDue (seen c.args.tx.now).rows c.args.clock) (sym c.deref.ensures.value)
-          (c.in_ok-due.ensures.listed mid) in
+          (c.in_ok-due.ensures.entries mid) in
           damaged_descent s (seen c.args.tx.now).rows (subst (HasDamagedDescent s) same
           (damage honest (subst (λ rows. AreDue rows c.args.clock c.deref.result.now) (sym same) due)))) f)
           c.end_due.result c.end_due.ensures.call.faults;

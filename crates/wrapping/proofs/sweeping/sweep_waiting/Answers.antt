@@ -17,7 +17,7 @@ returns-clause-rows g c honest =
     c.drop_due.ensures.call.goes_on honest in
     let same = ap table_of (c.in_ok-due.ensures.call.same mid) in
     let due = subst (AreDue (seen c.args.tx.now).rows c.args.clock) (sym c.deref.ensures.value)
-    (c.in_ok-due.ensures.listed mid) in
+    (c.in_ok-due.ensures.entries mid) in
     subst (λ (t : Table). AreStillDue c.args.clock c.deref.result.now t
     → OnOk c.drop_due.result (Sweeps c.args.clock t (table (seen c.drop_due.new.tx)))) same
     (c.drop_due.ensures.rows honest c.args.clock)
@@ -30,7 +30,7 @@ returns-clause-told g c honest b r =
     c.drop_due.ensures.call.goes_on honest in
     let same = ap table_of (c.in_ok-due.ensures.call.same mid) in
     let due = subst (AreDue (seen c.args.tx.now).rows c.args.clock) (sym c.deref.ensures.value)
-    (c.in_ok-due.ensures.listed mid) in
+    (c.in_ok-due.ensures.entries mid) in
     subst (λ (t : Table). RepresentsWaiting t b → AreStillDue c.args.clock c.deref.result.now t
     → OnOk c.drop_due.result (Tells of_waiting (table (seen c.drop_due.new.tx)) (without_ended b c.args.clock))) same
     (λ r still. c.drop_due.ensures.told honest b r c.args.clock still) r
@@ -43,7 +43,7 @@ returns-clause-wants g c honest b r =
     c.drop_due.ensures.call.goes_on honest in
     let same = ap table_of (c.in_ok-due.ensures.call.same mid) in
     let due = subst (AreDue (seen c.args.tx.now).rows c.args.clock) (sym c.deref.ensures.value)
-    (c.in_ok-due.ensures.listed mid) in
+    (c.in_ok-due.ensures.entries mid) in
     subst (λ (t : Table). RepresentsWaiting t b → AreStillDue c.args.clock c.deref.result.now t
     → IfErr c.drop_due.result IsMemoryOrStorage) same
     (λ r still. c.drop_due.ensures.wants honest b r c.args.clock still) r
@@ -63,7 +63,7 @@ returns-clause-call g c =
           c.drop_due.ensures.call.goes_on honest in
           let same = ap table_of (c.in_ok-due.ensures.call.same mid) in
           let due = subst (AreDue (seen c.args.tx.now).rows c.args.clock) (sym c.deref.ensures.value)
-          (c.in_ok-due.ensures.listed mid) in
+          (c.in_ok-due.ensures.entries mid) in
           subst (λ (t : Table). (AreStillDue c.args.clock c.deref.result.now t → IsDamagedDue c.args.clock t)
           → IsDamagedDue c.args.clock (table (seen c.args.tx.now))) (sym same)
           (λ damage. damage (record { asked = (seen c.args.tx.now).rows; due = due; same = λ t. refl }))

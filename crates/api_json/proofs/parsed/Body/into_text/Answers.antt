@@ -6,8 +6,8 @@ use Rattle.api_json.specs.Parsed.{members_of}
 use Rattle.api_json.proofs.KeptObjects.{bodies_kept, given_members}
 use Rattle.api_json.proofs.parsed.Body.into_text.Goals as goal
 
-pub returns-clause-kept : goal.returns-clause-kept
-returns-clause-kept c bytes fits is =
+pub returns-clause-storable : goal.returns-clause-storable
+returns-clause-storable c bytes fits is =
     let seen = view-Object c.args.self.members in
     let text = c.new.ensures ∙ c.in_ok-to_string.ensures.text (ap has_float seen ∙ c.args.self.whole)
     ∙ ap compact_text seen in

@@ -12,7 +12,7 @@ returns-clause-tells g c honest =
     let trouble = c.args.trouble.now in
     let listed : IsHonest (seen c.under_upto.new.self) =
     honest_before (seen c.under_upto.new.self) (seen c.name_of.new.tx) _ c.in_ok-name.ensures.call.goes_on honest in
-    let items = c.in_ok-under_upto.ensures.listed listed in
+    let items = c.in_ok-under_upto.ensures.entries listed in
     let counted : c.len-number.result ≡ length (rows_upto rows trouble.kind [] c.as_str-key.result.now) =
     search rules in
     record {

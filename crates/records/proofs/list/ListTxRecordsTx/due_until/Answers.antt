@@ -6,8 +6,8 @@ use Rattle.records.specs.declared.row.Row.{Row}
 use Rattle.records.proofs.MapLemmas.{lists}
 use Rattle.records.proofs.list.ListTxRecordsTx.due_until.Goals as goal
 
-pub returns-clause-listed : goal.returns-clause-listed
-returns-clause-listed c honest =
+pub returns-clause-entries : goal.returns-clause-entries
+returns-clause-entries c honest =
     let es = c.args.self.now.entries.items in
     let chosen : c.in_ok-list.list.items ≡ rows_due (rows_in es) c.args.moment =
     c.in_ok-list.ensures.ok

@@ -7,8 +7,8 @@ use Rattle.records.specs.declared.row.Row.{Row}
 use Rattle.records.proofs.MapLemmas.{lists}
 use Rattle.records.proofs.list.ListTxRecordsTx.under_from.Goals as goal
 
-pub returns-clause-listed : goal.returns-clause-listed
-returns-clause-listed c honest =
+pub returns-clause-entries : goal.returns-clause-entries
+returns-clause-entries c honest =
     let es = c.args.self.now.entries.items in
     c.keep_from.ensures
     ∙ ap (λ list. take c.args.count (filter (λ (e : RowKey × Row). is_ge (text_cmp e.0.1 c.args.from.now)) list))

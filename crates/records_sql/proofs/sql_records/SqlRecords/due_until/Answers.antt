@@ -12,8 +12,8 @@ or_true : (b : Bool) → true ≡ (b || true)
 or_true true = refl
 or_true false = refl
 
-pub returns-in-Some-clause-listed : goal.returns-in-Some-clause-listed
-returns-in-Some-clause-listed g c clean =
+pub returns-in-Some-clause-entries : goal.returns-in-Some-clause-entries
+returns-in-Some-clause-entries g c clean =
     c.in-Some.ensures (rows_of (state g.S.Store c.args.self.now.conn).now.trees) (c.args.self.now.remembered clean)
 
 pub invariant_of-self-in_default-due_until : goal.invariant_of-self-in_default-due_until
@@ -47,18 +47,18 @@ invariant_of-self-in-Ok-whole_entries g c =
       remembered = λ clean. subst (Agrees c.keep_due.new.self) (sym (it.same clean))
           (c.keep_due.ensures (rows_of old.now.trees) (c.args.self.now.remembered (it.was_clean clean))
           (subst (AreDue (rows_of old.now.trees) c.args.moment)
-          (sym (c.deref-in-Ok-whole_entries.ensures.value ∙ c.in-Ok-whole_entries.ensures.listed
+          (sym (c.deref-in-Ok-whole_entries.ensures.value ∙ c.in-Ok-whole_entries.ensures.entries
           ∙ ap (λ (rs : List Row). map whole_entry rs) c.deref.ensures.value)) (it.rows clean)));
     }
 
-pub returns-in-Ok-whole_entries-clause-listed : goal.returns-in-Ok-whole_entries-clause-listed
-returns-in-Ok-whole_entries-clause-listed g c clean =
+pub returns-in-Ok-whole_entries-clause-entries : goal.returns-in-Ok-whole_entries-clause-entries
+returns-in-Ok-whole_entries-clause-entries g c clean =
     let old = state g.S.Store c.args.self.now.conn in
     let new = state g.S.Store c.due_until.new.conn in
     let it = due_reads old new _ c.due_until.ensures.survives c.args.self.now.sound
     (c.args.self.now.active c.if-not-self.false) c.args.moment c.in-Ok.rows.items c.in-Ok.ensures.ok in
     subst (AreDue (rows_of old.now.trees) c.args.moment)
-    (sym (c.in-Ok-whole_entries.ensures.listed ∙ ap (λ (rs : List Row). map whole_entry rs) c.deref.ensures.value))
+    (sym (c.in-Ok-whole_entries.ensures.entries ∙ ap (λ (rs : List Row). map whole_entry rs) c.deref.ensures.value))
     (it.rows clean)
 
 pub returns-in-Ok-whole_entries-clause-same : goal.returns-in-Ok-whole_entries-clause-same
@@ -112,4 +112,10 @@ returns g c =
     let new = state g.S.Store c.due_until.new.conn in
     let it = due_reads old new _ c.due_until.ensures.survives c.args.self.now.sound
     (c.args.self.now.active c.if-not-self.false) c.args.moment c.in-Ok.rows.items c.in-Ok.ensures.ok in
-    record { listed = λ _. tt; same = λ _. tt; stays = it.stays; failed = or_true c.args.self.now.failed; faults = tt }
+    record {
+      entries = λ _. tt;
+      same = λ _. tt;
+      stays = it.stays;
+      failing = or_true c.args.self.now.failed;
+      faults = tt;
+    }

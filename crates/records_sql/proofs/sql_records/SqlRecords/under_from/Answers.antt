@@ -48,8 +48,8 @@ invariant_of-self-in-Ok-entries_under g c =
       remembered = it.agrees _ c.args.self.now.remembered;
     }
 
-pub returns-in-Ok-entries_under-clause-listed : goal.returns-in-Ok-entries_under-clause-listed
-returns-in-Ok-entries_under-clause-listed g c clean =
+pub returns-in-Ok-entries_under-clause-entries : goal.returns-in-Ok-entries_under-clause-entries
+returns-in-Ok-entries_under-clause-entries g c clean =
     let q : Key = (c.args.kind, c.args.prefix.now) in
     let old = state g.S.Store c.args.self.now.conn in
     let new = state g.S.Store c.under_from.new.conn in
@@ -57,7 +57,7 @@ returns-in-Ok-entries_under-clause-listed g c clean =
     (c.args.self.now.active c.if-not-self.false) q c.args.from.now c.later-first.result.now
     (option_copied c.lent.result) c.args.count c.in-Ok.rows.items
     (subst (IsAbove q.1) (sym c.lent.ensures) c.in_ok-bound.ensures) c.later-first.ensures c.in-Ok.ensures.ok in
-    c.in-Ok-entries_under.ensures.listed
+    c.in-Ok-entries_under.ensures.entries
     ∙ ap (λ (rs : List Row). filter (λ (e : Key × Fields). starts_with nat_eq e.0.1 q.1) (map (entry_in q.0) rs))
     c.deref.ensures.value ∙ it.rows clean
 
@@ -130,4 +130,10 @@ returns g c =
     (c.args.self.now.active c.if-not-self.false) q c.args.from.now c.later-first.result.now
     (option_copied c.lent.result) c.args.count c.in-Ok.rows.items
     (subst (IsAbove q.1) (sym c.lent.ensures) c.in_ok-bound.ensures) c.later-first.ensures c.in-Ok.ensures.ok in
-    record { listed = λ _. tt; same = λ _. tt; stays = it.stays; failed = or_true c.args.self.now.failed; faults = tt }
+    record {
+      entries = λ _. tt;
+      same = λ _. tt;
+      stays = it.stays;
+      failing = or_true c.args.self.now.failed;
+      faults = tt;
+    }
