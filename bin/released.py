@@ -8,6 +8,7 @@ from dataclasses import dataclass
 from repository import TOP
 
 PROGRAMS = ("brokerd", "client")
+VERSION_FILE = "crates/endpoints/src/version.rt"
 
 
 @dataclass(frozen=True)
@@ -42,7 +43,7 @@ def output_of(*words):
 
 def version_of_sources():
     """The version of the programs, from the one place that has it."""
-    source = (TOP / "crates/version/src/lib.rt").read_text(encoding="utf-8")
+    source = (TOP / VERSION_FILE).read_text(encoding="utf-8")
     return re.search(r'VERSION: &str = "([^"]+)"', source)[1]
 
 

@@ -18,7 +18,7 @@ from pathlib import Path
 TOP = Path(__file__).resolve().parent.parent
 COREUTILS = ("chmod", "cp", "cut", "dirname", "head", "mkdir", "mkfifo", "mktemp", "mv", "readlink", "rm", "sha256sum",
              "sort", "tac", "tail", "uname")
-CRATES = "# layers\nlow:\nversion:\nother: low\nbrokerd: version low # the broker\nclient: version\n"
+CRATES = "# layers\nlow:\nendpoints:\nother: low\nbrokerd: endpoints low # the broker\nclient: endpoints\n"
 
 # In place of the toolchain: it "proves" what crates.txt names, and has built the programs before.
 RT = """#!/bin/sh
@@ -62,10 +62,10 @@ class Checkout:
 
     def __init__(self, room):
         self.room, self.top = room, room / "top"
-        for name in ("low", "version", "other", "brokerd", "client"):
+        for name in ("low", "endpoints", "other", "brokerd", "client"):
             for part in ("src/deep/a.rt", "specs/Lib.antt", "proofs/f/Answers.antt"):
                 self.write(f"crates/{name}/{part}", f"// {name}\n")
-        self.write("crates/version/src/lib.rt", 'pub const VERSION: &str = "1.2.3";\n')
+        self.write("crates/endpoints/src/version.rt", 'pub const VERSION: &str = "1.2.3";\n')
         self.write("crates.txt", CRATES)
         self.write("HANDLES", "Handles allowed: none.\n")
         self.write(".gitignore", "out/\n__pycache__/\n")
@@ -241,7 +241,7 @@ def proves(checkout):
     checkout.compile("client", "-DOTHER", "-O3")
     status, output, _ = checkout.run("bin/prove", path=None)
     yield "other bytes", status == 1 and "of release/client, though its sources are those of release 1.2.3" in output
-    checkout.write("crates/version/src/deep/a.rt", "// changed\n")
+    checkout.write("crates/endpoints/src/deep/a.rt", "// changed\n")
     status, output, _ = checkout.run("bin/prove", path=None)
     yield "other sources", status == 0 and output.count("not compared, since its sources are not those of release") == 2
     shutil.rmtree(checkout.top / "release")
@@ -254,7 +254,7 @@ def refuses_to_release(checkout):
     status, _, told = checkout.run("bin/release", "1.2.3", path=None)
     yield "not built", status == 1 and "brokerd is not built, or older than its sources" in told
     checkout.build()
-    yield "another version", "crates/version has 1.2.3" in checkout.run("bin/release", "1.2.4", path=None)[2]
+    yield "another version", "/version.rt has 1.2.3" in checkout.run("bin/release", "1.2.4", path=None)[2]
     checkout.write("docs/PAGE.md", "Changed.\n")
     yield "not committed", "docs/PAGE.md" in checkout.run("bin/release", "1.2.3", path=None)[2]
     yield "nothing was made", not (checkout.top / "release").exists()
@@ -266,7 +266,7 @@ def refuses_to_release(checkout):
     yield "once more", status == 0 and " bytes, +0\n" in said and "after 1.2.3 of " in said
     checkout.commit()
     yield "its age", age(checkout) == "release 1.2.3 is of these sources"
-    checkout.write("crates/version/src/deep/a.rt", "// changed\n")
+    checkout.write("crates/endpoints/src/deep/a.rt", "// changed\n")
     checkout.commit()
     yield "its age later", age(checkout).startswith("release 1.2.3 is of other sources, and 2 commits behind: ")
 

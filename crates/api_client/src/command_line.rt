@@ -6,8 +6,8 @@ ghost use Rattle.api_client.specs.CommandLine.{client_app, options_app, path_app
 ghost use Rattle.api_client.specs.CommandLine.{option_rule, value_rule, wanted};
 
 use clap::Arg;
+use endpoints::VERSION;
 use std::alloc::{AllocError, Global};
-use version::VERSION;
 
 const AFTER_HELP: &str =
     "The body of the reply goes to standard output. The exit status is 0 after a reply\n\

@@ -9,9 +9,9 @@ ghost use Rattle.brokerd.specs.CommandLine.{IsMeant, IsCommandOf, IsCount, IsPla
 
 use clap::error::{Error, ErrorKind};
 use clap::{Arg, ArgAction, ArgMatches};
+use endpoints::VERSION;
 use server::Settings;
 use std::alloc::{AllocError, Global};
-use version::VERSION;
 
 /// How many connections are served if the command line does not say.
 const CONNECTIONS: u32 = 1_000;

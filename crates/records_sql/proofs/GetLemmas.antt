@@ -17,7 +17,7 @@ use Rattle.records.specs.Kind.{RowKey as Key, key_cmp}
 use Rattle.records.specs.Transaction.{rows_under, rows_from, rows_upto, rows_owned}
 use Rattle.records.specs.declared.row.Row.{Row as Fields}
 use Rattle.records.specs.KeyLaws.{key_cmp_total}
-use Rattle.row_memory.specs.Memory.{Memory, Agrees}
+use Rattle.records_sql.specs.Memory.{Memory, Agrees}
 use Rattle.records_sql.specs.SqlTable.{AgreesAt, Kept, stored, kept, due_value, broker_schema, IsStore, IsSoundAt}
 use Rattle.records_sql.specs.SqlTable.{IsActive, IsUsable, rows_of, entries_of, are_apart, due_in, Stays, read_row}
 use Rattle.records_sql.specs.SqlTable.{entry_in, whole_entry}

@@ -2,6 +2,8 @@ pub mod Adopted
 pub mod Bounds
 pub mod KeptRecords
 pub mod Made
+pub mod Memory
+pub mod MemoryProps
 pub mod Numbered
 pub mod Props
 pub mod Refused

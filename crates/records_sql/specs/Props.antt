@@ -5,8 +5,8 @@ use Rattle.sqlite_schema.specs.declared.schema.Schema.{Schema}
 use Rattle.sqlite_value.specs.contracts.value.Value as value
 use Rattle.sqlite_value.specs.declared.value.Value.{Value}
 use Rattle.sqlite.specs.State.{State}
-use Rattle.row_memory.specs.Memory.{Memory}
-use Rattle.row_memory.specs.MemoryProps.{Agrees-prop}
+use Rattle.records_sql.specs.Memory.{Memory}
+use Rattle.records_sql.specs.MemoryProps.{Agrees-prop}
 use Rattle.records_sql.specs.SqlTable.{AgreesAt, rows_of}
 
 pub schema_coded : Coded Schema

@@ -12,12 +12,12 @@ ghost use Rattle.records_sql.specs.Made.{IsNewTable};
 ghost use Rattle.records_sql.specs.SqlTable.{IsStore, IsUsable, broker_schema, mismatches, no_schema, rows_of};
 
 use crate::reading::check_numbers;
+use crate::row_memory::RowMemory;
 use crate::schema::{is_blank, is_ours};
 use crate::sql_records::SqlRecords;
 use crate::statements;
 use broker_types::Fault;
 use ram_disk::RamFile;
-use row_memory::RowMemory;
 use sqlite::{Alter, Connection, FileFrom, FileStore, Options, Start};
 use std::alloc::Global;
 use std::fs;

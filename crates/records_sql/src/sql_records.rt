@@ -13,10 +13,10 @@ ghost use Rattle.records_sql.specs.SqlTable.{IsSoundAt, IsActive, AgreesAt, IsUs
 ghost use Rattle.records_sql.specs.SqlTable.{rows_of, mismatches};
 
 use crate::reading::{bound_above, entries_of, entries_under, first_row, later, whole_entries};
+use crate::row_memory::RowMemory;
 use crate::statements;
 use broker_types::{Fault, Moment};
 use records::{Entry, Kind, Row};
-use row_memory::RowMemory;
 use sqlite::{Alter, Connection};
 use std::alloc::Global;
 

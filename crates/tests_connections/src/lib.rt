@@ -1,5 +1,6 @@
 //! Tests of connections and of stores: of their ends and what fails there, of turns, of runs that a fault ends, of
-//! stores in a database, and of files in memory. Requests with their replies are in `tests/rows`.
+//! stores in a database, of rows that are remembered, and of files in memory. Requests with their replies are in
+//! `tests/rows`.
 #![tactic(auto)]
 
 #[cfg(test)]
@@ -12,6 +13,8 @@ mod exchange;
 mod failing_ends;
 #[cfg(test)]
 mod ram_files;
+#[cfg(test)]
+mod remembered;
 #[cfg(test)]
 mod stopping;
 #[cfg(test)]

@@ -1,5 +1,5 @@
 //! Tests of the calls on rows of one part each: cubbyholes, tokens, leases, mounts, secrets, policies and responses
-//! that wait; and of rows that are remembered. They are here because a crate with tests is proved once more for them.
+//! that wait. They are here because a crate with tests is proved once more for them.
 #![tactic(auto)]
 
 #[cfg(test)]
@@ -12,8 +12,6 @@ mod leases_and_roles;
 mod old_keys;
 #[cfg(test)]
 mod permissions;
-#[cfg(test)]
-mod remembered;
 #[cfg(test)]
 mod routes;
 #[cfg(test)]

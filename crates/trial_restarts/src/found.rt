@@ -1,5 +1,6 @@
 //! The broker that is found in files.
 
+use crate::disk::pair::Pair;
 use crate::opening::{OverRecords, Until, Writes, over_files};
 use crate::running::{feed, rows_of};
 use broker_sql::prepare;
@@ -9,7 +10,6 @@ use records_sql::SqlRecords;
 use replay::Start;
 use sqlite::Alter;
 use std::alloc::Global;
-use trial_disk::Pair;
 use trial_rows::Rows;
 
 /// The rows in files, and what is made of them.

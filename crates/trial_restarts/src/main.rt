@@ -6,6 +6,7 @@ ghost use Rattle.std.specs.Prelude.{◌≡◌, IfOk};
 ghost use Rattle.std.specs.Process.{exit_status};
 ghost use Rattle.trial_restarts.specs.Ends.{status_after};
 
+mod disk;
 mod ending;
 mod found;
 mod opening;

@@ -2,12 +2,12 @@
 
 ghost use Rattle.std.specs.Prelude.{⊤, IfOk};
 
+use crate::disk::pair::{Pair, Part};
 use broker_types::Fault;
 use records_sql::SqlRecords;
 use sqlite::{Alter, Connection, FileStore, Files, Options};
 use sqlite_disk::Disk;
 use std::alloc::Global;
-use trial_disk::{Pair, Part};
 
 /// What a crash may make of a write.
 #[derive(Clone, Copy, Debug, PartialEq, Eq)]

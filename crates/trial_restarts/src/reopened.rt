@@ -1,5 +1,6 @@
 //! The lines of a replay over files that are opened for each request, and closed after it.
 
+use crate::disk::pair::Pair;
 use crate::opening::{OverRecords, Until, Writes, over_files};
 use crate::reading::script_of;
 use crate::running::Steps;
@@ -12,7 +13,6 @@ use records_sql::SqlRecords;
 use replay::{Exit, Script, Start, run_script};
 use sqlite::Alter;
 use std::alloc::Global;
-use trial_disk::Pair;
 
 /// A store in two files in memory, which are open while a request is answered. Nothing is said of its rows: what it
 /// answers is for tests to compare.

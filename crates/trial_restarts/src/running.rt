@@ -1,5 +1,7 @@
 //! A run of a script, step by step: the start, then each event, and the close of the files.
 
+use crate::disk::pair::{Pair, Part};
+use crate::disk::trace::Counts;
 use crate::opening::{OverRecords, Until, Writes, in_memory, over_files};
 use broker::Store;
 use broker_sql::{SqlStore, prepare};
@@ -9,7 +11,6 @@ use records_sql::SqlRecords;
 use replay::{Script, Start};
 use sqlite::Alter;
 use std::alloc::Global;
-use trial_disk::{Counts, Pair, Part};
 use trial_rows::Rows;
 
 /// How far a run came.

@@ -1,6 +1,8 @@
 //! Steps over files that stop: after each stop, whatever a crash left, the broker is found as it was before the step in
 //! progress, or as it is after it.
 
+use crate::disk::images::Image;
+use crate::disk::pair::Part;
 use crate::ending::End;
 use crate::found::{reply_found, rows_found};
 use crate::opening::{Until, Writes, in_memory};
@@ -14,7 +16,6 @@ use endpoints::{Sink, Source};
 use hub::Event;
 use replay::{Exit, Script};
 use std::alloc::Global;
-use trial_disk::{Image, Part};
 use trial_rows::Rows;
 
 /// An event that is asked of what is found once the last step is in progress, and its replies.

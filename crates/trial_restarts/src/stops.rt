@@ -1,7 +1,8 @@
 //! Where a run stops, and what is left then.
 
+use crate::disk::images::Image;
+use crate::disk::pair::Part;
 use std::fmt;
-use trial_disk::{Image, Part};
 
 /// A file that answered so many calls, and then failed each, and what a crash leaves then.
 #[derive(Clone, Copy, Debug, PartialEq, Eq)]

@@ -1,10 +1,11 @@
 //! What was met at the steps of a script.
 
+use crate::disk::pair::Part;
+use crate::disk::trace::Counts;
 use crate::running::Progress;
 use broker_types::Fault;
 use std::alloc::Global;
 use std::fmt;
-use trial_disk::{Counts, Part};
 
 /// The stops of a file after calls that a step made.
 #[derive(Clone, Copy, Debug, PartialEq, Eq)]

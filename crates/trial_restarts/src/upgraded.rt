@@ -1,5 +1,6 @@
 //! Files in which the keys have rows of format 1, and their opening, which rewrites these rows.
 
+use crate::disk::pair::Pair;
 use crate::opening::{OverRecords, Until, Writes, over_files};
 use crate::running::{Run, Steps, rows_of};
 use broker_sql::prepare;
@@ -9,7 +10,6 @@ use records_sql::SqlRecords;
 use replay::{Script, Start};
 use sqlite::Alter;
 use std::alloc::Global;
-use trial_disk::Pair;
 use trial_rows::Rows;
 
 /// How long a row of format 1 is: its first byte, and three numbers.

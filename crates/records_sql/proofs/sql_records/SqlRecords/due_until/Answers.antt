@@ -1,7 +1,7 @@
 use Rattle.std.proofs.Common.{◌≡◌, Bool, true, false, ◌||◌, map, List, refl, sym, ap, subst, ◌∙◌}
 use Rattle.sqlite.specs.Order.{Row}
 use Rattle.records.specs.DueRows.{AreDue}
-use Rattle.row_memory.specs.Memory.{Agrees}
+use Rattle.records_sql.specs.Memory.{Agrees}
 use Rattle.records_sql.specs.SqlTable.{whole_entry, rows_of}
 use Rattle.sqlite.specs.Held.{state}
 use Rattle.records_sql.proofs.StateLemmas.{stays, query_err}
