@@ -2,8 +2,8 @@
 
 use crate::disk::pair::Pair;
 use crate::opening::{OverRecords, Until, Writes, over_files};
-use crate::reading::script_of;
 use crate::running::Steps;
+use crate::script::script_of;
 use broker::Store;
 use broker_sql::prepare;
 use broker_types::{Answer, Ask, Fault, Moment, Words};

@@ -4,7 +4,7 @@ use crate::base::{Base, SqlBase};
 use crate::ending::End;
 use crate::failing::{Failing, Tally, Way};
 use crate::memory::{OverSql, in_memory};
-use crate::reading::script_exit;
+use crate::script::script_exit;
 use broker_sql::SqlStore;
 use broker_types::Fault;
 use endpoints::{Failed, Sink};

@@ -1,7 +1,7 @@
 //! The lines of a replay, where a request that met a fault is sent once more.
 
 use crate::memory::{OverSql, in_memory};
-use crate::reading::script_exit;
+use crate::script::script_exit;
 use broker::{ListStore, Store};
 use broker_sql::SqlStore;
 use broker_types::Fault;

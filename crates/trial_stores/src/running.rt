@@ -1,6 +1,6 @@
 //! The lines of a replay over the list of rows. `replay::replay` does the same over a database.
 
-use crate::reading::script_of;
+use crate::script::script_of;
 use broker::ListStore;
 use endpoints::{Sink, Source};
 use hub::Hub;

@@ -1,4 +1,4 @@
-//! The lines of standard input.
+//! Scripts of replays, read from standard input.
 
 use endpoints::Source;
 use replay::{Exit, Script, Unread, read_script, read_to_end};
@@ -19,12 +19,11 @@ pub(crate) fn script_of<R: Source>(alloc: Global, reader: &mut R) -> Result<Scri
     }
 }
 
-/// The same, if no line is bad.
-pub(crate) fn whole_script_of<R: Source>(alloc: Global, reader: &mut R) -> Result<Script, Exit> {
-    let script = script_of(alloc, reader)?;
+/// How the run of a script ends if nothing fails.
+pub(crate) fn script_exit(script: &Script) -> Exit {
     if script.is_cut {
-        Err(Exit::BadLine((script.events.len() as u64).saturating_add(2)))
+        Exit::BadLine((script.events.len() as u64).saturating_add(2))
     } else {
-        Ok(script)
+        Exit::Done
     }
 }
