@@ -132,7 +132,8 @@ module _ (b : Broker) (sound : Sound forms None b) where
       subst (λ (z : Done). Unspent None z.next.tokens) (ok_inj may.2)
       (put_unspent (token_text names.token) fresh asked.num_uses refl)
 
-  renewed_unspent : (t : Text) (names : Names) (increment : ℕ) (d : Done) → tokens.renew b names t increment ≡ Ok d
+  renewed_unspent : (t : Text) (names : Names) (increment : ℕ) (d : Done)
+      → tokens.renew_token b names t increment ≡ Ok d
       → Unspent None d.next.tokens
   renewed_unspent t names increment d e =
       let x = ok_step (known b t) _ d e in

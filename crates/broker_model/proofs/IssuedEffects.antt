@@ -31,7 +31,7 @@ use Rattle.broker_model.specs.NewIdentifierLaws.{first_in, later_in}
 use Rattle.broker_model.specs.Traits.{lease_names}
 use Rattle.broker_model.specs.declared.commands.IssuedCommand.{IssuedCommand}
 use Rattle.broker_model.specs.declared.commands.IssuedCommand.TheVariants as command
-use Rattle.broker_model.specs.parts.Issued.{act_on_issued, given, of_issued, set_role}
+use Rattle.broker_model.specs.parts.Issued.{act_on_issued, issued_reply, of_issued, set_role}
 use Rattle.broker_model.specs.parts.Place.{Place}
 use Rattle.broker_model.proofs.Operations.{leaves_roles, shown_does, silent_does}
 use Rattle.broker_model.proofs.Staying.{stay_edited}
@@ -87,7 +87,7 @@ module _ (b : Broker) (c : Text) (names : Names) (p : Place) where
         (λ q x. record { rest = refl; cubbyhole = inl refl; leases = inr refl })
         (λ q x there k l e. by_lease q x (same q c) refl k l e)
 
-    given_does : DoesIt command.Issue (given names issued)
+    given_does : DoesIt command.Issue (issued_reply names issued)
     given_does = record {
       gives_own = inr refl;
       none_at_204 = λ e. absurd (cc);
@@ -114,13 +114,13 @@ module _ (b : Broker) (c : Text) (names : Names) (p : Place) where
   -- a credential that is not refused is that of a role
   issue_does : (i : Issued) → length names.lease ≡ 36
       → roles.creds b c p.mount p.path names.lease names.credential ≡ Ok i
-      → DoesIt command.Issue (given names i)
+      → DoesIt command.Issue (issued_reply names i)
   issue_does i long e =
       let x = ok_step (roles.issued (roles.role b p.mount p.path)
       (is_last_use b c) b.clock p.mount p.path names.lease names.credential) _ i e in
       let r = ok_step (some_or refusal.NotFound (roles.role b p.mount p.path)) _ x.0 x.1 in
       let lasts = ok_step (unless (not (is_last_use b c)) (refusal.BadRequest reason.LastUseTakesLease)) _ x.0 r.2 in
-      subst (λ i. DoesIt command.Issue (given names i))
+      subst (λ i. DoesIt command.Issue (issued_reply names i))
       (ap (λ (x : roles.IssuedLease). record {
         lease_id = x.lease_id;
         lease = x.lease;

@@ -21,7 +21,7 @@ use Rattle.broker_model.specs.declared.commands.SecretCommand.{SecretCommand}
 use Rattle.broker_model.specs.declared.commands.SecretCommand.TheVariants as command
 use Rattle.broker_model.specs.parts.Place.{Place}
 use Rattle.broker_model.specs.parts.SecretReplies.{object_left, version_reply, version_answered, written_reply}
-use Rattle.broker_model.specs.parts.Secrets.{act_on_secrets, given}
+use Rattle.broker_model.specs.parts.Secrets.{act_on_secrets, given_settings}
 use Rattle.broker_model.proofs.Operations.{Leaves, leaves_mounts, leaves_secrets, listed_does, missing_does, shown_does}
 use Rattle.broker_model.proofs.Operations.{silent_does}
 use Rattle.broker_model.proofs.Operations.{told_does}
@@ -94,7 +94,7 @@ module _ (b : Broker) (c : Text) (names : Names) (p : Place) where
   acts (command.SetMetadata asked) d e =
       subst (DoesIt (command.SetMetadata asked)) (ok_inj e)
       (silent_does b (Some c) names _ refl _ (leaves_secrets b (Some c) _ (λ given_.
-      metadata_stays b p.mount p.path (given asked))))
+      metadata_stays b p.mount p.path (given_settings asked))))
   acts command.Remove d e =
       subst (DoesIt command.Remove) (ok_inj e)
       (silent_does b (Some c) names _ refl _ (leaves_secrets b (Some c) _ (λ given_. all_but b.secrets name)))

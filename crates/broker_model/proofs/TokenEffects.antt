@@ -27,8 +27,8 @@ use Rattle.broker_model.specs.declared.commands.TokenCommand.TheVariants as comm
 use Rattle.broker_model.specs.declared.making.Making.{Making}
 use Rattle.broker_model.specs.parts.TokenCommands.{of_ended, token_changes, token_fate}
 use Rattle.broker_model.specs.parts.TokenCreation.{is_privileged, making_path, may_make, new_policies}
-use Rattle.broker_model.specs.parts.Tokens.{act_on_tokens, create, holder, known, look_up, named, new_end, renew}
-use Rattle.broker_model.specs.parts.Tokens.{revoke, revoke_alone}
+use Rattle.broker_model.specs.parts.Tokens.{act_on_tokens, create, holder, known, look_up, named, new_end, renew_token}
+use Rattle.broker_model.specs.parts.Tokens.{revoke_token, revoke_alone}
 use Rattle.broker_model.proofs.Operations.{shown_does}
 
 -- the text that an accessor names, if it names one
@@ -83,7 +83,8 @@ module _ (b : Broker) (c : Text) (names : Names) where
 
   module _ (command : TokenCommand) (t : Text) where
     renew_does : (increment : ℕ) (d : Done) → token_changes command ≡ Some of_tokens
-        → IsFated (token_fate command) (token_changes command) b (Some c) names d → renew b names t increment ≡ Ok d
+        → IsFated (token_fate command) (token_changes command) b (Some c) names d
+        → renew_token b names t increment ≡ Ok d
         → DoesIt command d
     renew_does increment d changes fated e =
         let x = ok_step (known b t) _ d e in
@@ -135,8 +136,8 @@ module _ (b : Broker) (c : Text) (names : Names) where
     }
 
     revoke_does : token_changes command ≡ Some of_ended
-        → IsFated (token_fate command) (token_changes command) b (Some c) names (revoke b t)
-        → DoesIt command (revoke b t)
+        → IsFated (token_fate command) (token_changes command) b (Some c) names (revoke_token b t)
+        → DoesIt command (revoke_token b t)
     revoke_does changes fated = ends_does (broker.revoke b t) refl refl
         (subst (λ (o : Option Part). KeepsMaps o b (drop_waiting (broker.revoke b t) t)) (sym changes)
         (record {

@@ -46,7 +46,7 @@ use Rattle.mounts.specs.declared.operation.TokenOperation.TheVariants as operati
 use Rattle.broker_model.specs.declared.commands.TokenCommand.TheVariants as command
 use Rattle.broker_model.specs.parts.TokenCommands.{token_command}
 use Rattle.wrapping.specs.ResponseLaws.{drop_unknown}
-use Rattle.broker_model.specs.parts.Tokens.{act_on_tokens, made, look_up, new_end, revoke, revoke_alone}
+use Rattle.broker_model.specs.parts.Tokens.{act_on_tokens, made, look_up, new_end, revoke_token, revoke_alone}
 
 -- ---- times
 
@@ -302,7 +302,8 @@ unknown : (b : Broker) (names : Names) (t id : Text) → get b.tokens t ≡ None
 unknown b names t id none = rw none refl
 
 -- a text that is neither a token nor a wrapping token, as the empty one, ends nothing
-ends_nothing : (b : Broker) (t : Text) → get b.tokens t ≡ None → get b.waiting t ≡ None → revoke b t ≡ plainly nothing b
+ends_nothing : (b : Broker) (t : Text) → get b.tokens t ≡ None → get b.waiting t ≡ None
+    → revoke_token b t ≡ plainly nothing b
 ends_nothing b t none bare =
     ap (λ ts. plainly nothing (drop_waiting (record b { tokens = ts }) t)) (revoke_unknown b.tokens t none)
     ∙ ap (plainly nothing) (drop_unknown b t bare)
@@ -314,6 +315,6 @@ ends_none_alone b t parents none bare =
     ∙ ap (plainly nothing) (drop_unknown b t bare)
 
 -- and a wrapping token ends alone
-ends_wrapping : (b : Broker) (t : Text) → get b.tokens t ≡ None → revoke b t ≡ plainly nothing (drop_waiting b t)
+ends_wrapping : (b : Broker) (t : Text) → get b.tokens t ≡ None → revoke_token b t ≡ plainly nothing (drop_waiting b t)
 ends_wrapping b t none = ap (λ ts. plainly nothing (drop_waiting (record b { tokens = ts }) t))
     (revoke_unknown b.tokens t none)

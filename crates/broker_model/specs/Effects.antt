@@ -87,9 +87,9 @@ IsFated (make making asked) changes b who names d =
     (c : Text) × (who ≡ Some c) × (tokens.create b c names making asked ≡ Ok d)
 IsFated (renew named increment) changes b who names d =
     (c : Text) × (t : Text) × (who ≡ Some c) × (text_named b c named ≡ Some t)
-    × (tokens.renew b names t increment ≡ Ok d)
+    × (tokens.renew_token b names t increment ≡ Ok d)
 IsFated (revoke named) changes b who names d =
-    (c : Text) × (t : Text) × (who ≡ Some c) × (text_named b c named ≡ Some t) × (d ≡ tokens.revoke b t)
+    (c : Text) × (t : Text) × (who ≡ Some c) × (text_named b c named ≡ Some t) × (d ≡ tokens.revoke_token b t)
 IsFated (orphan t) changes b who names d = (c : Text) × (who ≡ Some c) × (d ≡ tokens.revoke_alone b t)
 
 -- ---- secrets

@@ -73,7 +73,7 @@ module _ (b : Broker) (who : Option Text) (names : Names) (d : Done)
         waiting = made.waiting;
       })
 
-  renewed_evolves : (t : Text) (increment : ℕ) → tokens.renew b names t increment ≡ Ok d → Evolves b d.next
+  renewed_evolves : (t : Text) (increment : ℕ) → tokens.renew_token b names t increment ≡ Ok d → Evolves b d.next
   renewed_evolves t increment e =
       let x = ok_step (known b t) _ d e in
       let ending = ok_step (unless (is_some x.0.ends) (refusal.BadRequest reason.TokenNotRenewable)) _ d x.2 in

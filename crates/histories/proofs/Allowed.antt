@@ -73,7 +73,7 @@ use Rattle.broker_model.specs.declared.commands.SecretCommand.TheVariants as of_
 use Rattle.broker_model.specs.declared.commands.TokenCommand.{TokenCommand}
 use Rattle.broker_model.specs.declared.commands.TokenCommand.TheVariants as of_token
 use Rattle.broker_model.specs.declared.making.Making.{Making}
-use Rattle.broker_model.specs.parts.Issued.{given, issue}
+use Rattle.broker_model.specs.parts.Issued.{issued_reply, issue}
 use Rattle.broker_model.specs.parts.Leases as of_leases
 use Rattle.broker_model.specs.parts.Lists.{are_none, list_reply, listed}
 use Rattle.broker_model.specs.parts.Mounts.{without_kept}
@@ -268,7 +268,7 @@ module _ (b : Broker) (names : Names) (t : Text) (x : Token) (there : get b.toke
       )
 
   renewed_done : (increment : ℕ) → x.ends ≢ None → (d : Done) × (r : Reply)
-      × (tokens.renew b names t increment ≡ Ok d) × (d.answered ≡ reply r None)
+      × (tokens.renew_token b names t increment ≡ Ok d) × (d.answered ≡ reply r None)
   renewed_done increment ends =
       let next : Token → ℕ = λ y. new_end b.clock (token_entry y) increment in
       let tells : Token → Reply = λ y.
@@ -295,7 +295,7 @@ module _ (b : Broker) (names : Names) (lease_id : Text) (l : Lease) (there : lea
       × (d.answered ≡ reply r None)
   lease_looked_up =
       let tells : Lease → Reply = λ m.
-      plain_reply names.request (lease_object (of_leases.shown b.clock lease_id (times_of m))) in (
+      plain_reply names.request (lease_object (of_leases.shown_lease b.clock lease_id (times_of m))) in (
         plainly (reply (tells l) None) b,
         tells l,
         ap (λ (o : Option Lease). some_or (refusal.BadRequest reason.InvalidLease) o
@@ -338,8 +338,8 @@ module _ (b : Broker) (c : Text) (names : Names) (p : Place) (r : Role)
       let left : IssuedLease → Issued = λ i.
       record { lease_id = i.lease_id; lease = i.lease; next = leases.issue b c i.lease_id i.lease } in
       let go : Result IssuedLease Refusal → Result Done Refusal = λ z.
-      z >>= (λ i. Ok (left i)) >>= (λ i. Ok (given names i)) in (
-        given names (left (lease r)),
+      z >>= (λ i. Ok (left i)) >>= (λ i. Ok (issued_reply names i)) in (
+        issued_reply names (left (lease r)),
         _,
         ap (λ (o : Option Role). go (some_or refusal.NotFound o
             >>= (λ q. unless (not (is_last_use b c)) (refusal.BadRequest reason.LastUseTakesLease)
@@ -510,8 +510,8 @@ module _ (decide : PoliciesDecide) (a : Asking) (is : a.outcome ≡ step a.broke
       → command_of (clocked a).mounts a.ask ≡ Ok (on_token (of_token.RevokeAccessor accessor))
       → (t : Text) → tokens.holder here accessor ≡ Ok t → a.outcome.response ≡ no_content
   revoke_found accessor means t held =
-      answer (on_token (of_token.RevokeAccessor accessor)) means refl refl (tokens.revoke here t)
-      (ap (λ (r : Result Text Refusal). r >>= (λ t. Ok (tokens.revoke here t))) held)
+      answer (on_token (of_token.RevokeAccessor accessor)) means refl refl (tokens.revoke_token here t)
+      (ap (λ (r : Result Text Refusal). r >>= (λ t. Ok (tokens.revoke_token here t))) held)
 
   -- the token that has an accessor is found after the use
   named_after_use : AccessorsNameTheirTokens → OnePlaceEach a.broker → (accessor : Text)

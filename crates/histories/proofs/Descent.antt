@@ -56,7 +56,7 @@ use Rattle.broker_model.specs.declared.commands.MountCommand.TheVariants as of_m
 use Rattle.broker_model.specs.declared.commands.TokenCommand.TheVariants as of_token
 use Rattle.broker_model.specs.parts.Tokens as tokens
 use Rattle.histories.specs.History.{Asking, clocked, spent_by}
-use Rattle.histories.specs.Own.{EditsCubbyhole, Edits, IsRevoked, LeaseBecomes, RenewalOf, RenewsToken, Stands}
+use Rattle.histories.specs.Own.{EditsCubbyhole, Edits, IsRevoked, LeaseBecomes, RenewalOf, RenewsToken, TokenStands}
 use Rattle.histories.specs.Own.{IsRenewedTo, increment_of, with_changed}
 use Rattle.histories.specs.Revocation.{IsClient, IsMade, IsOrphaned, orphaning_by, parent_asked, WasToken}
 use Rattle.histories.specs.Revocation.{IsGranted, RevokesAlone, left_by_caller, revoked_by}
@@ -378,7 +378,7 @@ module _ (a : Asking) where
 
     renewed : (t : Text) (increment : ℕ)
         → ((k : TokenCommand) × (command ≡ on_token k) × RenewalOf c t k × (increment ≡ increment_of k))
-        → tokens.renew start names t increment ≡ Ok d → Here
+        → tokens.renew_token start names t increment ≡ Ok d → Here
     renewed t increment k e =
         let x = ok_step (known start t) _ d e in
         let ending = ok_step (unless (is_some x.0.ends) (refusal.BadRequest reason.TokenNotRenewable)) _ d x.2 in
@@ -413,7 +413,7 @@ module _ (a : Asking) where
               ] refl
         ] refl)
 
-    revoked : (t : Text) → revoked_by start c command ≡ Some t → d ≡ tokens.revoke start t → Here
+    revoked : (t : Text) → revoked_by start c command ≡ Some t → d ≡ tokens.revoke_token start t → Here
     revoked t text is =
         subst (Fated q (get start.tokens q)) (sym (get-revoke start.tokens t q)
         ∙ ap (λ (z : Done). get z.next.tokens q) (sym is))
@@ -497,7 +497,7 @@ module _ (a : Asking) where
 module _ (a : Asking) where
   -- y is what became of the token q of the clock; a renewal gave it a new end
   pub record Stood (q : Text) (y : Token) : Type 0 where
-    pub stands : Stands a q y
+    pub stands : TokenStands a q y
     pub ends : (y.ends ≡ stands.was.earlier.ends)
         ⊎ ((increment : ℕ) × (y.ends ≡ Some (new_end (clocked a).clock (token_entry stands.was.earlier) increment)))
 

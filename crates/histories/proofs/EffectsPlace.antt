@@ -129,7 +129,7 @@ module _ (b : Broker) (who : Option Text) (names : Names) (d : Done) where
       (made_placed b names (new_token b.clock (new_parent c making asked) names.accessor policies asked) refl
       (λ id l is. no_entry id l is))
 
-  renewed_placed : (t : Text) (increment : ℕ) → tokens.renew b names t increment ≡ Ok d → Tells b d
+  renewed_placed : (t : Text) (increment : ℕ) → tokens.renew_token b names t increment ≡ Ok d → Tells b d
   renewed_placed t increment e =
       let x = ok_step (known b t) _ d e in
       let ending = ok_step (unless (is_some x.0.ends) (refusal.BadRequest reason.TokenNotRenewable)) _ d x.2 in

@@ -46,7 +46,7 @@ use Rattle.broker_model.specs.declared.commands.WrappingCommand.{WrappingCommand
 use Rattle.broker_model.specs.declared.commands.WrappingCommand.TheVariants as response
 use Rattle.broker_model.specs.parts.WrappingCommands.{wrapping_traits}
 use Rattle.broker_model.specs.parts.Wrappings.{FoundResponse, found, found_at}
-use Rattle.broker_model.specs.parts.Wrappings.{found_under, handed_out, rewrapped, shown}
+use Rattle.broker_model.specs.parts.Wrappings.{found_under, handed_out, rewrapped, shown_response}
 use Rattle.broker_model.specs.parts.Wrappings.{act_on_wrappings}
 use Rattle.histories.specs.History.{AreAsked, Asking, AskedAt, Beginning, History, begun, clocked, spent_by}
 use Rattle.histories.specs.KeptResponses.{EndsWrappingToken, HandedOutOnce, HandsOutKept}
@@ -424,7 +424,7 @@ module _ (told : OperationsDoAsTold) (b : Broker) (history : History) (h : AreAs
         (λ w. w.reply) (λ start. refl) (λ caller t w. refl);
     looks_up = λ i a meant at means.
         tells_or_refuses a (asked_at b history i a h at).outcome (response.LookUp meant) means refl meant
-        (λ start f. plainly (reply (shown (names_of a.words) f) None) start) (looked_up_text a) (λ start. refl)
+        (λ start f. plainly (reply (shown_response (names_of a.words) f) None) start) (looked_up_text a) (λ start. refl)
         (λ caller t w. refl);
     rewraps = λ i a meant at means.
         let names = names_of a.words in

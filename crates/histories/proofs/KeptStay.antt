@@ -112,7 +112,7 @@ module _ (b : Broker) (who : Option Text) (words : Words) (t : Text) (w : Waitin
             ∙ ap (λ (m : Map Waiting). get m t) is ∙ waits)
       ] refl
 
-  revoked : (c u : Text) (command : Command) (d : Done) → who ≡ Some c → d ≡ tokens.revoke b u
+  revoked : (c u : Text) (command : Command) (d : Done) → who ≡ Some c → d ≡ tokens.revoke_token b u
       → revoked_by b c command ≡ Some u → Stays command d
   revoked c u command d is_c is names = elim (dropped (broker.revoke b u) u refl) [
     | inl left ↦ inl (ap (λ (z : Done). get z.next.waiting t) is ∙ left)

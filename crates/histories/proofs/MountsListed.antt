@@ -19,7 +19,7 @@ use Rattle.mounts.specs.Types.{engine_type, type_of}
 use Rattle.mounts.specs.declared.mount_type.MountType.{MountType}
 use Rattle.mounts.specs.declared.mount_type.MountType.TheVariants as type
 use Rattle.api_json.specs.declared.mount_objects.MountObject.{MountObject}
-use Rattle.broker_model.specs.parts.Mounts.{shown}
+use Rattle.broker_model.specs.parts.Mounts.{shown_mount}
 use Rattle.histories.specs.Shown.{IsMountShown, mount_shown}
 
 -- ---- types put one after another
@@ -69,28 +69,29 @@ module _ (mounts : Map Mount) where
 
   -- the mounts by their printed names
   abbrev pub objects : Map MountObject
-  objects = map_values (λ q t. shown (q, t)) (listed_types mounts)
+  objects = map_values (λ q t. shown_mount (q, t)) (listed_types mounts)
 
   -- a mount of an engine as it is shown
-  of_engine : (name : Text) (engine : Engine) → shown (name, engine_type engine) ≡ mount_shown name engine
+  of_engine : (name : Text) (engine : Engine) → shown_mount (name, engine_type engine) ≡ mount_shown name engine
   of_engine name kv = refl
   of_engine name issued = refl
 
-  each_shown : (q : Text) (t : MountType) → get (listed_types mounts) q ≡ Some t → IsMountShown mounts (shown (q, t))
+  each_shown : (q : Text) (t : MountType) → get (listed_types mounts) q ≡ Some t
+      → IsMountShown mounts (shown_mount (q, t))
   each_shown q t e =
-      put_is with_cubbyhole (printed (codes "sys")) type.System q t (IsMountShown mounts (shown (q, t))) e
-      (λ here is. inl (λ i. shown (here i, is i)))
-      (λ e. put_is own (printed (codes "cubbyhole")) type.Cubbyhole q t (IsMountShown mounts (shown (q, t))) e
-      (λ here is. inr (inl (λ i. shown (here i, is i))))
-      (only_of (λ q t. IsMountShown mounts (shown (q, t))) (entries mounts) empty
+      put_is with_cubbyhole (printed (codes "sys")) type.System q t (IsMountShown mounts (shown_mount (q, t))) e
+      (λ here is. inl (λ i. shown_mount (here i, is i)))
+      (λ e. put_is own (printed (codes "cubbyhole")) type.Cubbyhole q t (IsMountShown mounts (shown_mount (q, t))) e
+      (λ here is. inr (inl (λ i. shown_mount (here i, is i))))
+      (only_of (λ q t. IsMountShown mounts (shown_mount (q, t))) (entries mounts) empty
       (λ q t e. absurd (none-some _ (sym (fin.get-empty text_cmp q) ∙ e)))
-      (each_entry (λ (m : Text × Mount). IsMountShown mounts (shown (printed m.0, type_of m.1))) mounts
+      (each_entry (λ (m : Text × Mount). IsMountShown mounts (shown_mount (printed m.0, type_of m.1))) mounts
       (λ name m there. inr (inr (name, m, there, of_engine (printed name) m.engine)))) q t))
 
   pub only_shown : (q : Text) (x : MountObject) → get objects q ≡ Some x → (q ≡ x.name) × IsMountShown mounts x
   only_shown q x e =
-      let t = mapped (λ t. shown (q, t)) (get (listed_types mounts) q) x
-      (sym (get-map_values (λ q t. shown (q, t)) (listed_types mounts) q) ∙ e) in (
+      let t = mapped (λ t. shown_mount (q, t)) (get (listed_types mounts) q) x
+      (sym (get-map_values (λ q t. shown_mount (q, t)) (listed_types mounts) q) ∙ e) in (
         ap (λ (z : MountObject). z.name) (sym t.2),
         subst (IsMountShown mounts) (sym t.2) (each_shown q t.0 t.1),
       )
@@ -101,8 +102,8 @@ module _ (mounts : Map Mount) where
     where
       by : (o : _) → get (listed_types mounts) q ≡ o → ⊥
       by None e = there e
-      by (Some t) e = none-some _ (sym none ∙ get-map_values (λ q t. shown (q, t)) (listed_types mounts) q
-          ∙ ap (option_map (λ t. shown (q, t))) e)
+      by (Some t) e = none-some _ (sym none ∙ get-map_values (λ q t. shown_mount (q, t)) (listed_types mounts) q
+          ∙ ap (option_map (λ t. shown_mount (q, t))) e)
 
   pub own_shown : (name : Text) → get mounts name ≢ None → get objects (printed name) ≢ None
   own_shown name there = has_object (printed name) (put_keeps with_cubbyhole (printed (codes "sys")) type.System _
@@ -120,12 +121,14 @@ module _ (mounts : Map Mount) where
       (put_keeps with_cubbyhole (printed (codes "sys")) type.System (codes "cubbyhole/")
       (put_there own (printed (codes "cubbyhole")) type.Cubbyhole))
 
-  flat : (ts : List (Text × MountType)) → map (λ (e : Text × MountObject). e.1) (with_values (λ q t. shown (q, t)) ts)
-      ≡ map shown ts
+  flat : (ts : List (Text × MountType))
+      → map (λ (e : Text × MountObject). e.1) (with_values (λ q t. shown_mount (q, t)) ts)
+      ≡ map shown_mount ts
   flat [] = refl
-  flat (t ∷ ts) = ap (λ xs. shown t ∷ xs) (flat ts)
+  flat (t ∷ ts) = ap (λ xs. shown_mount t ∷ xs) (flat ts)
 
   -- the objects are those of the list
-  pub in_order : map (λ (e : Text × MountObject). e.1) (entries objects) ≡ map shown (entries (listed_types mounts))
+  pub in_order : map (λ (e : Text × MountObject). e.1) (entries objects)
+      ≡ map shown_mount (entries (listed_types mounts))
   in_order = ap (map (λ (e : Text × MountObject). e.1))
-      (entries-map_values (λ q t. shown (q, t)) (listed_types mounts)) ∙ flat (entries (listed_types mounts))
+      (entries-map_values (λ q t. shown_mount (q, t)) (listed_types mounts)) ∙ flat (entries (listed_types mounts))

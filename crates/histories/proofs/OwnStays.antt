@@ -47,7 +47,7 @@ use Rattle.broker_model.specs.parts.Lists.{are_none}
 use Rattle.broker_model.specs.parts.TokenCreation.{is_privileged, making_path, new_policies}
 use Rattle.histories.specs.History.{Asking, clocked, spent_by}
 use Rattle.histories.specs.Laws.{AllOwnStays}
-use Rattle.histories.specs.Own.{AnswersOwn, EndsWithClient, Goes, IsListAt, IsObjectAt}
+use Rattle.histories.specs.Own.{AnswersOwn, EndsWithClient, TokenGoes, IsListAt, IsObjectAt}
 use Rattle.histories.specs.Revocation.{IsClient, has_no_use, left_by_caller}
 use Rattle.histories.proofs.Clients.{CarriesOut, Course, from_clock}
 use Rattle.histories.proofs.Created.{new_unspent}
@@ -192,7 +192,8 @@ module _ (a : Asking) where
         ]
 
   -- a token of the clock stays, unless it goes
-  stays_there : Sound forms None a.broker → Course a → (q : Text) → get (clocked a).tokens q ≢ None → (Goes a q → ⊥)
+  stays_there : Sound forms None a.broker → Course a → (q : Text) → get (clocked a).tokens q ≢ None
+      → (TokenGoes a q → ⊥)
       → get a.outcome.next.tokens q ≢ None
   stays_there sound went q there free none =
       let spent_too : (c : Text) → get (spent_by a c).tokens q ≢ None = λ c away.

@@ -34,7 +34,7 @@ use Rattle.broker_model.specs.Step.{step}
 use Rattle.broker_model.specs.declared.commands.LeaseCommand.TheVariants as of_lease
 use Rattle.broker_model.specs.declared.commands.TokenCommand.{TokenCommand}
 use Rattle.broker_model.specs.declared.commands.TokenCommand.TheVariants as of_token
-use Rattle.broker_model.specs.parts.Tokens.{act_on_tokens, known, new_end, renew}
+use Rattle.broker_model.specs.parts.Tokens.{act_on_tokens, known, new_end, renew_token}
 use Rattle.histories.specs.Creations.{told_of, with_token}
 use Rattle.histories.specs.History.{Asking, clocked, spent_by}
 use Rattle.histories.specs.Own.{IsRenewedLease, IsRenewedTo, RenewalOf, RenewsLease, RenewsToken, increment_of}
@@ -65,7 +65,7 @@ module _ (a : Asking) (is : a.outcome ≡ step a.broker a.moment a.words a.ask) 
 
   -- the token t, which is q, was renewed by what the command asks for
   by_text : (t : Text) (increment : ℕ) → t ≡ q → increment ≡ increment_of r.command
-      → renew start (names_of a.words) t increment ≡ Ok for.it.done → Renewed
+      → renew_token start (names_of a.words) t increment ≡ Ok for.it.done → Renewed
   by_text t increment is_q is_so e =
       let x = ok_step (known start t) _ for.it.done e in
       let ending = ok_step (unless (is_some x.0.ends) (refusal.BadRequest reason.TokenNotRenewable)) _ for.it.done x.2
@@ -120,7 +120,7 @@ module _ (told : OperationsDoAsTold) (a : Asking) (is : a.outcome ≡ step a.bro
   same_caller = same_Some _ _ (sym for_token.client.token ∙ r.client.token)
 
   abbrev Renews : Text → ℕ → Type 0
-  Renews t increment = renew (spent_by a r.caller) (names_of a.words) t increment ≡ Ok for_token.it.done
+  Renews t increment = renew_token (spent_by a r.caller) (names_of a.words) t increment ≡ Ok for_token.it.done
 
   tells_of : (t : Text) (increment : ℕ) → t ≡ q → increment ≡ increment_of r.command → Renews t increment
       → TellsRenewed a q r

@@ -22,7 +22,7 @@ use Rattle.broker_model.specs.declared.commands.WrappingCommand.{WrappingCommand
 use Rattle.broker_model.specs.declared.commands.WrappingCommand.TheVariants as command
 use Rattle.broker_model.specs.parts.WrappingCommands.{is_wrap}
 use Rattle.broker_model.specs.parts.Wrappings.{FoundResponse, act_on_wrappings, found, found_under, handed_out}
-use Rattle.broker_model.specs.parts.Wrappings.{rewrapped, shown}
+use Rattle.broker_model.specs.parts.Wrappings.{rewrapped, shown_response}
 use Rattle.histories.specs.Allowed.{AreNew}
 use Rattle.histories.specs.Callers.{IsAllowed}
 use Rattle.histories.specs.History.{Asking, clocked, spent_by}
@@ -93,7 +93,7 @@ module _ (decide : PoliciesDecide) (a : Asking) (is : a.outcome ≡ step a.broke
     pub look_up : Means (command.LookUp (Some t)) → a.outcome.response.status ≡ status.Success
     look_up means =
         let b = begins (command.LookUp (Some t)) means in
-        let go : FoundResponse → Done = λ f. plainly (reply (shown names f) None) b.start in
+        let go : FoundResponse → Done = λ f. plainly (reply (shown_response names f) None) b.start in
         ap (λ (r : Response). r.status)
         (answer (command.LookUp (Some t)) refl b refl (go (found_under t w)) (finds b.start b.waiting go))
 

@@ -54,7 +54,7 @@ use Rattle.broker_model.specs.declared.commands.TokenCommand.{TokenCommand}
 use Rattle.broker_model.specs.declared.commands.TokenCommand.TheVariants as token
 use Rattle.broker_model.specs.declared.commands.WrappingCommand.{WrappingCommand}
 use Rattle.broker_model.specs.declared.commands.WrappingCommand.TheVariants as response
-use Rattle.broker_model.specs.parts.Tokens.{act_on_tokens, holder, revoke, revoke_alone}
+use Rattle.broker_model.specs.parts.Tokens.{act_on_tokens, holder, revoke_token, revoke_alone}
 use Rattle.broker_model.specs.parts.Wrappings.{FoundResponse, found, found_under, rewrapped, act_on_wrappings}
 use Rattle.histories.specs.History.{AreAsked, Asking, AskedAt, History, clocked, spent_by}
 use Rattle.histories.specs.KeptResponses.{unwrapped_body}
@@ -150,16 +150,16 @@ module _ (a : Asking) (is : a.outcome ≡ step a.broker a.moment a.words a.ask) 
 
   -- what a command of tokens that revokes t does
   revokes : (command : TokenCommand) (d : Done) → revoked_of start c command ≡ Some t
-      → act_on_tokens start c (names_of a.words) command ≡ Ok d → d ≡ revoke start t
-  revokes (token.Revoke u) d names done = sym (ok_inj done) ∙ ap (revoke start) (same_Some _ _ names)
+      → act_on_tokens start c (names_of a.words) command ≡ Ok d → d ≡ revoke_token start t
+  revokes (token.Revoke u) d names done = sym (ok_inj done) ∙ ap (revoke_token start) (same_Some _ _ names)
   revokes (token.RevokeAccessor accessor) d names done =
-      sym (ok_inj (ap (λ o. some_or (refusal.BadRequest reason.InvalidAccessor) o >>= (λ u. Ok (revoke start u)))
+      sym (ok_inj (ap (λ o. some_or (refusal.BadRequest reason.InvalidAccessor) o >>= (λ u. Ok (revoke_token start u)))
       (sym names) ∙ done))
-  revokes token.RevokeSelf d names done = sym (ok_inj done) ∙ ap (revoke start) (same_Some _ _ names)
+  revokes token.RevokeSelf d names done = sym (ok_inj done) ∙ ap (revoke_token start) (same_Some _ _ names)
   revokes _ d names done = absurd (none-some _ names)
 
   revokes_by : (command : Command) (d : Done) → revoked_by start c command ≡ Some t
-      → act start (Some c) (names_of a.words) command ≡ Ok d → d ≡ revoke start t
+      → act start (Some c) (names_of a.words) command ≡ Ok d → d ≡ revoke_token start t
   revokes_by (on_token command) d names done = revokes command d names done
   revokes_by _ d names done = absurd (none-some _ names)
 
@@ -201,7 +201,7 @@ answers_204 b c names (token.Revoke u) d does done = ap (λ (z : Done). z.answer
 answers_204 b c names (token.RevokeOrphan u) d does done = ap (λ (z : Done). z.answered) (sym (ok_inj done))
 answers_204 b c names token.RevokeSelf d does done = ap (λ (z : Done). z.answered) (sym (ok_inj done))
 answers_204 b c names (token.RevokeAccessor accessor) d does done =
-    ap (λ (z : Done). z.answered) (sym (ok_inj (ok_step (holder b accessor) (λ u. Ok (revoke b u)) d done).2))
+    ap (λ (z : Done). z.answered) (sym (ok_inj (ok_step (holder b accessor) (λ u. Ok (revoke_token b u)) d done).2))
 answers_204 b c names _ d does done = absurd (false≢true does)
 
 -- by a caller, for none else is served
@@ -239,7 +239,7 @@ revoked_text : (b : Broker) (c : Text) (names : Names) (command : TokenCommand) 
     → act_on_tokens b c names command ≡ Ok d → (t : Text) × (revoked_of b c command ≡ Some t)
 revoked_text b c names (token.Revoke u) d does done = (u, refl)
 revoked_text b c names (token.RevokeAccessor accessor) d does done =
-    let t = ok_step (holder b accessor) (λ u. Ok (revoke b u)) d done in
+    let t = ok_step (holder b accessor) (λ u. Ok (revoke_token b u)) d done in
     (t.0, some_ok (refusal.BadRequest reason.InvalidAccessor) (named_by b accessor) t.1)
 revoked_text b c names token.RevokeSelf d does done = (c, refl)
 revoked_text b c names _ d does done = absurd (false≢true does)

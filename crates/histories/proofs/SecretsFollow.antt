@@ -55,9 +55,10 @@ use Rattle.broker_model.specs.declared.commands.WrappingCommand.TheVariants as o
 use Rattle.broker_model.specs.parts.Lists.{are_none}
 use Rattle.broker_model.specs.parts.Mounts.{act_on_mounts, without_kept}
 use Rattle.broker_model.specs.parts.Place.{Place}
-use Rattle.broker_model.specs.parts.Secrets.{act_on_secrets, given}
+use Rattle.broker_model.specs.parts.Secrets.{act_on_secrets, given_settings}
 use Rattle.histories.specs.History.{Asking, clocked}
-use Rattle.histories.specs.Versions.{AreKept, Commands, Comes, Deletes, Goes, IsWritten, Stands, StandsUnwritten}
+use Rattle.histories.specs.Versions.{AreKept, Commands, Comes, Deletes, SecretGoes, IsWritten, SecretStands}
+use Rattle.histories.specs.Versions.{StandsUnwritten}
 use Rattle.histories.specs.Versions.{VersionStands, Writes}
 use Rattle.histories.proofs.EventSecrets.{is_200, is_204, same_or_served, served_left, spent_same}
 use Rattle.histories.proofs.OrderCases.{spent}
@@ -68,8 +69,8 @@ use Rattle.histories.proofs.Served.{Served}
 
 -- what became of a secret, if it was there, or is
 abbrev pub Moves : Asking → Text → Option Key → Option Key → Type 0
-Moves a q (Some k) (Some m) = Stands a q k m
-Moves a q (Some k) None = Goes a q
+Moves a q (Some k) (Some m) = SecretStands a q k m
+Moves a q (Some k) None = SecretGoes a q
 Moves a q None (Some m) = Comes a q m
 Moves a q None None = ⊤
 
@@ -174,7 +175,7 @@ module _ (a : Asking) (ks : Map Key) where
       by (Some k) false at = inr (unwritten_self a q k)
 
   -- those that do not pass go
-  some_kept : (passes : Text → Bool) → ((q : Text) → passes q ≡ false → Goes a q) → AllMove (keep passes ks)
+  some_kept : (passes : Text → Bool) → ((q : Text) → passes q ≡ false → SecretGoes a q) → AllMove (keep passes ks)
   some_kept passes goes q =
       subst (Moves a q (get ks q)) (sym (get-keep passes ks q)) (by (get ks q) (passes q) refl)
     where
@@ -184,7 +185,7 @@ module _ (a : Asking) (ks : Map Key) where
       by (Some k) true at = inr (unwritten_self a q k)
       by (Some k) false at = goes q at
 
-  one_gone : (name : Text) → ((q : Text) → q ≡ name → Goes a q) → AllMove (without ks name)
+  one_gone : (name : Text) → ((q : Text) → q ≡ name → SecretGoes a q) → AllMove (without ks name)
   one_gone name goes q =
       subst (Moves a q (get ks q)) (sym (get-without ks name q)) (by (get ks q) (same q name) refl)
     where
@@ -432,16 +433,17 @@ module _ (a : Asking) (s : Served a) (means : command_of (clocked a).mounts a.as
       let answered = ap (λ (d : Done). d.answered) (sym (ok_inj e)) in
       let name = secret_name p.mount p.path in
       subst Moved (ok_inj e)
-      (one_put a now.secrets name (described now.clock (given asked) (key_or_new now.clock (get now.secrets name)))
+      (one_put a now.secrets name
+      (described now.clock (given_settings asked) (key_or_new now.clock (get now.secrets name)))
       (λ q at o there.
-      subst (λ z. Moves a q o (Some (described now.clock (given asked) (key_or_new now.clock z))))
+      subst (λ z. Moves a q o (Some (described now.clock (given_settings asked) (key_or_new now.clock z))))
       (sym there ∙ ap (get now.secrets) at)
       (by q o (commands p (secret.SetMetadata asked) q is answered at))))
     where
       by : (q : Text) (o : Option Key) → Commands a q (secret.SetMetadata asked)
-          → Moves a q o (Some (described now.clock (given asked) (key_or_new now.clock o)))
+          → Moves a q o (Some (described now.clock (given_settings asked) (key_or_new now.clock o)))
       by q None it = inr ((asked, it), refl, λ n. fin.get-empty nat_cmp n)
-      by q (Some k) it = inr (described_stands a q now.clock (given asked) k asked it)
+      by q (Some k) it = inr (described_stands a q now.clock (given_settings asked) k asked it)
   secrets_move c p secret.Remove is e =
       let answered = ap (λ (d : Done). d.answered) (sym (ok_inj e)) in
       subst Moved (ok_inj e)

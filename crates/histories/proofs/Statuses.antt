@@ -56,7 +56,7 @@ use Rattle.broker_model.specs.parts.Place.{Place}
 use Rattle.broker_model.specs.parts.SecretReplies.{object_left, version_reply}
 use Rattle.broker_model.specs.parts.Secrets.{act_on_secrets}
 use Rattle.broker_model.specs.parts.TokenCreation.{is_privileged, making_path, may_make, new_policies}
-use Rattle.broker_model.specs.parts.Tokens.{act_on_tokens, holder, known, named, revoke}
+use Rattle.broker_model.specs.parts.Tokens.{act_on_tokens, holder, known, named, revoke_token}
 use Rattle.broker_model.specs.parts.Wrappings.{act_on_wrappings, found}
 use Rattle.histories.specs.History.{Asking, clocked}
 use Rattle.histories.specs.Statuses.{AllStatusesFollow, IsNeverDone, ReadsEnded, cubbyhole_is_silent, is_silent}
@@ -91,7 +91,7 @@ module _ (b : Broker) (c : Text) (names : Names) (d : Done) where
   token_silent (of_token.Revoke t) is e = so _ d e refl
   token_silent (of_token.RevokeOrphan t) is e = so _ d e refl
   token_silent (of_token.RevokeAccessor accessor) is e =
-      so _ d (ok_step (holder b accessor) (λ u. Ok (revoke b u)) d e).2 refl
+      so _ d (ok_step (holder b accessor) (λ u. Ok (revoke_token b u)) d e).2 refl
   token_silent of_token.RevokeSelf is e = so _ d e refl
   token_silent _ is e = absurd (false≢true is)
 

@@ -50,10 +50,10 @@ use Rattle.broker_model.specs.parts.Mounts.{without_kept}
 use Rattle.broker_model.specs.parts.Place.{Place}
 use Rattle.broker_model.specs.parts.SecretReplies.{object_left, version_answered, version_made, version_reply}
 use Rattle.broker_model.specs.parts.SecretReplies.{version_shown, written_reply}
-use Rattle.broker_model.specs.parts.Secrets.{act_on_secrets, given}
+use Rattle.broker_model.specs.parts.Secrets.{act_on_secrets, given_settings}
 use Rattle.histories.specs.History.{AreAsked, Asking, IsAsked, AskedAt, History, clocked}
 use Rattle.histories.specs.Versions.{AllVersionsFollow, AreSet, Commands, Deletes, DidSet, DidWrite, DisablesAbove}
-use Rattle.histories.specs.Versions.{Goes, Holds, IsAsAsked, IsNewKey, ReadsVersion, StandsUnwritten}
+use Rattle.histories.specs.Versions.{SecretGoes, Holds, IsAsAsked, IsNewKey, ReadsVersion, StandsUnwritten}
 use Rattle.histories.specs.Versions.{WroteBefore, Writes, named}
 use Rattle.histories.proofs.EventSecrets.{is_404, served_left}
 use Rattle.histories.proofs.OrderCases.{some_ok, spent}
@@ -170,7 +170,7 @@ module _ (told : OperationsDoAsTold) (a : Asking) (is : a.outcome ≡ step a.bro
 -- ---- settings
 
 -- those that are given, and the others as they were
-are_set : (now : ℕ) (asked : KeySettings) (k : Key) → AreSet now asked k (described now (given asked) k)
+are_set : (now : ℕ) (asked : KeySettings) (k : Key) → AreSet now asked k (described now (given_settings asked) k)
 are_set now asked k = record {
   updated = refl;
   cas_required = λ v e. ap (λ (o : Option Bool). unwrap_or o k.cas_required) e;
@@ -191,7 +191,7 @@ module _ (a : Asking) (is : a.outcome ≡ step a.broker a.moment a.words a.ask) 
       let k = on_secret w.place (secret.SetMetadata asked) in
       let s = was_204 a is k w.means w.answered in
       let old = get (clocked a).secrets (named w.place) in
-      let after = described (clocked a).clock (given asked) (key_or_new (clocked a).clock old) in
+      let after = described (clocked a).clock (given_settings asked) (key_or_new (clocked a).clock old) in
       secret_caller (clocked a) (names_of a.words) w.place (secret.SetMetadata asked) s.caller s.done
       (acted a is k w.means s) (λ c e. record {
         before = key_or_new (clocked a).clock old;
@@ -240,7 +240,7 @@ module _ (a : Asking) (is : a.outcome ≡ step a.broker a.moment a.words a.ask) 
           ap (λ (z : Map Key). get z q) (served_left a s ∙ ap (λ (d : Done). d.next.secrets) (sym (ok_inj next.2)))
           ∙ bare next.0 c (get (clocked a).mounts w.name) w.there
 
-  pub goes_away : Goes a q → get a.outcome.next.secrets q ≡ None
+  pub goes_away : SecretGoes a q → get a.outcome.next.secrets q ≡ None
   goes_away (inl w) = removed w
   goes_away (inr w) = disabled_below w
 
@@ -562,11 +562,11 @@ versions_follow told b history h = record {
   gone = λ i a q at goes. goes_away a (asked_at b history i a h at).outcome q goes;
   read = λ i a p n at means success. reads_version told a (asked_at b history i a h at).outcome p n means success;
   read_404 = λ i a p n at means is_404. read_404 a (asked_at b history i a h at).outcome p n means is_404;
-  given = λ j x q n object at holds. given_at told b history j x q n object h at holds;
+  given_settings = λ j x q n object at holds. given_at told b history j x q n object h at holds;
 }
   where
     by_before : (a : Asking) (q : Text) (o : Option Key) → get (clocked a).secrets q ≡ o
         → get (clocked a).secrets q ≢ None
-        → Moves a q o None → Goes a q
+        → Moves a q o None → SecretGoes a q
     by_before a q None is was moves = absurd (was is)
     by_before a q (Some k) is was moves = moves

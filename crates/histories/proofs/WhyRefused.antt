@@ -50,7 +50,7 @@ use Rattle.broker_model.specs.declared.commands.LeaseCommand.TheVariants as of_l
 use Rattle.broker_model.specs.declared.commands.PolicyCommand.TheVariants as of_policy
 use Rattle.broker_model.specs.declared.commands.SecretCommand.TheVariants as of_secret
 use Rattle.broker_model.specs.declared.commands.TokenCommand.TheVariants as of_token
-use Rattle.broker_model.specs.parts.Leases.{shown}
+use Rattle.broker_model.specs.parts.Leases.{shown_lease}
 use Rattle.broker_model.specs.parts.Place.{Place}
 use Rattle.broker_model.specs.parts.SecretReplies.{metadata_reply, version_answered, written_reply}
 use Rattle.broker_model.specs.parts.TokenReplies.{auth_reply, token_reply}
@@ -304,7 +304,8 @@ tell_why decide b history h = record {
       let here_ = spent_by a (k.granted).caller in
       why decide a is c k refl refl _
       (ap (λ (o : Option Lease). some_or (refusal.BadRequest reason.InvalidLease) o >>= (λ l. Ok (plainly
-      (reply (plain_reply (names_of a.words).request (lease_object (shown here_.clock lease_id (leases.times_of l))))
+      (reply (plain_reply (names_of a.words).request
+      (lease_object (shown_lease here_.clock lease_id (leases.times_of l))))
       None) here_))) (no_lease decide a is c k lease_id lacks_));
   renewed_lease = λ i a prefix asked at k lacks_.
       let is = (asked_at b history i a h at).outcome in

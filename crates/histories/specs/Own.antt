@@ -46,8 +46,8 @@ pub record EndsWithClient (a : Asking) (q : Text) : Type 0 where
 
 -- The token q goes with the request: by its end, or that of a token that it is under; by a revocation; or with the last
 -- use of a token that it is under, which it may be itself.
-abbrev pub Goes : Asking → Text → Type 0
-Goes a q = IsDue a q ⊎ (IsRevoked a q ⊎ EndsWithClient a q)
+abbrev pub TokenGoes : Asking → Text → Type 0
+TokenGoes a q = IsDue a q ⊎ (IsRevoked a q ⊎ EndsWithClient a q)
 
 -- ---- what changes of one that stands
 
@@ -153,7 +153,7 @@ with_changed y x =
     record x { parent = y.parent; ends = y.ends; uses_left = y.uses_left; cubbyhole = y.cubbyhole; leases = y.leases }
 
 -- The token q was there at the request's clock, and y is what it became.
-pub record Stands (a : Asking) (q : Text) (y : Token) : Type 0 where
+pub record TokenStands (a : Asking) (q : Text) (y : Token) : Type 0 where
   -- its parent and its uses change as in the law of revocation: by `revoke-orphan` of its parent, by its own requests
   pub was : WasToken a q y
   -- its end changes by a renewal of it
@@ -200,11 +200,11 @@ IsListAt path cubbyhole text = text ≡ keys_object (children (folder path) (key
 
 pub record OwnStays (history : History) : Type 0 where
   -- a token that was there before an event, and does not go with it, is there after it
-  pub goes : (i : ℕ) (a : Asking) (q : Text) → AskedAt history i a → get a.broker.tokens q ≢ None → (Goes a q → ⊥)
+  pub goes : (i : ℕ) (a : Asking) (q : Text) → AskedAt history i a → get a.broker.tokens q ≢ None → (TokenGoes a q → ⊥)
       → get a.outcome.next.tokens q ≢ None
   -- each token after an event stood at its clock, or was made by it
   pub stands : (i : ℕ) (a : Asking) (q : Text) (y : Token) → AskedAt history i a
-      → get a.outcome.next.tokens q ≡ Some y → Stands a q y ⊎ Begins a q y
+      → get a.outcome.next.tokens q ≡ Some y → TokenStands a q y ⊎ Begins a q y
   -- after a 200 to a renewal of a token it has its new end, if it is still there
   pub renewed : (i : ℕ) (a : Asking) (q : Text) (y : Token) → AskedAt history i a → RenewsToken a q
       → get a.outcome.next.tokens q ≡ Some y

@@ -175,12 +175,12 @@ pub record StandsUnwritten (a : Asking) (q : Text) (k m : Key) : Type 0 where
       ⊎ ((asked : KeySettings) × Commands a q (command.SetMetadata asked))
 
 -- the secret stands, written or not
-abbrev pub Stands : Asking → Text → Key → Key → Type 0
-Stands a q k m = ((asked : SecretWrite) × Writes a q asked) ⊎ StandsUnwritten a q k m
+abbrev pub SecretStands : Asking → Text → Key → Key → Type 0
+SecretStands a q k m = ((asked : SecretWrite) × Writes a q asked) ⊎ StandsUnwritten a q k m
 
 -- it goes by its removal, or with its mount
-abbrev pub Goes : Asking → Text → Type 0
-Goes a q = Commands a q command.Remove ⊎ DisablesAbove a q
+abbrev pub SecretGoes : Asking → Text → Type 0
+SecretGoes a q = Commands a q command.Remove ⊎ DisablesAbove a q
 
 -- it comes by a write, or without versions by settings of its own
 abbrev pub Comes : Asking → Text → Key → Type 0
@@ -273,16 +273,17 @@ pub record VersionsFollow (b : Broker) (history : History) : Type 0 where
       → Commands a q (command.SetMetadata asked) → DidSet a q asked
   -- A secret that was there at the clock of an event and is after it, stands.
   pub stand : (i : ℕ) (a : Asking) (q : Text) (k m : Key) → AskedAt history i a → get (clocked a).secrets q ≡ Some k
-      → get a.outcome.next.secrets q ≡ Some m → Stands a q k m
+      → get a.outcome.next.secrets q ≡ Some m → SecretStands a q k m
   -- And each of its versions that a 204 named, is as that asked.
   pub as_asked : (i : ℕ) (a : Asking) (q : Text) (m : Key) (n : ℕ) (v : Version) → AskedAt history i a
       → get a.outcome.next.secrets q ≡ Some m → fin.get m.versions n ≡ Some v → IsAsAsked a q m.current n v
   pub go : (i : ℕ) (a : Asking) (q : Text) → AskedAt history i a → get (clocked a).secrets q ≢ None
-      → get a.outcome.next.secrets q ≡ None → Goes a q
+      → get a.outcome.next.secrets q ≡ None → SecretGoes a q
   pub come : (i : ℕ) (a : Asking) (q : Text) (m : Key) → AskedAt history i a → get (clocked a).secrets q ≡ None
       → get a.outcome.next.secrets q ≡ Some m → Comes a q m
   -- After a 204 to its removal, or to the disabling of its mount, a secret is gone.
-  pub gone : (i : ℕ) (a : Asking) (q : Text) → AskedAt history i a → Goes a q → get a.outcome.next.secrets q ≡ None
+  pub gone : (i : ℕ) (a : Asking) (q : Text) → AskedAt history i a → SecretGoes a q
+      → get a.outcome.next.secrets q ≡ None
   -- A 200 to a read has what the version holds.
   pub read : (i : ℕ) (a : Asking) (p : Place) (n : ℕ) → AskedAt history i a
       → command_of (clocked a).mounts a.ask ≡ Ok (on_secret p (command.Read n))

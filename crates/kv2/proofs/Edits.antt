@@ -15,7 +15,7 @@ use Rattle.records.specs.RowForms.{key_row, mount_row}
 use Rattle.records.specs.Rows.{version_at, version_row_of, version_of_digits}
 use Rattle.records.specs.Splits.{line_feed, lacks}
 use Rattle.records.specs.Table.{Table}
-use Rattle.kv2.specs.SecretRows.{without_key, without_names, versions_prefix, with_settings}
+use Rattle.kv2.specs.SecretRows.{without_key, without_names, versions_prefix, rows_with_settings}
 use Rattle.kv2.specs.Secrets as secrets
 use Rattle.kv2.proofs.Parts.{secrets_by, mounts_by}
 use Rattle.kv2.proofs.SecretsTold.{key_rows, version_rows, mount_rows}
@@ -116,10 +116,11 @@ module _ (t : Table) (b : Broker) (told : Tells of_mounts t b) (mount : Text) (c
   abbrev edit : Mount → Mount
   edit = secrets.with_settings cas_required max_versions
 
-  settings_at : (q : Text) → with_settings t mount (option_map edit (get b.mounts mount)) kind.Mount q
+  settings_at : (q : Text) → rows_with_settings t mount (option_map edit (get b.mounts mount)) kind.Mount q
       ≡ option_map mount_row (get (change b.mounts mount edit) q)
   settings_at q =
-      elim (get b.mounts mount) as (λ o. get b.mounts mount ≡ o → with_settings t mount (option_map edit o) kind.Mount q
+      elim (get b.mounts mount) as (λ o. get b.mounts mount ≡ o
+      → rows_with_settings t mount (option_map edit o) kind.Mount q
       ≡ option_map mount_row (option_map (λ m. if same q mount then edit m else m) (get b.mounts q))) [
         | None ↦ λ none. told kind.Mount q refl ∙ mount_rows b q
             ∙ elim (same q mount) as (λ v. same q mount ≡ v → option_map mount_row (get b.mounts q)
@@ -143,7 +144,7 @@ module _ (t : Table) (b : Broker) (told : Tells of_mounts t b) (mount : Text) (c
       still None = refl
       still (Some m) = refl
 
-  pub settings_told : Tells of_mounts (with_settings t mount (option_map edit (get b.mounts mount)))
+  pub settings_told : Tells of_mounts (rows_with_settings t mount (option_map edit (get b.mounts mount)))
       (secrets.set_config b mount cas_required max_versions)
-  settings_told = mounts_by (with_settings t mount (option_map edit (get b.mounts mount)))
+  settings_told = mounts_by (rows_with_settings t mount (option_map edit (get b.mounts mount)))
       (secrets.set_config b mount cas_required max_versions) settings_at

@@ -21,8 +21,9 @@ use Rattle.records.specs.Splits.{line_feed}
 use Rattle.records.specs.SplitLaws.{eqb_self}
 use Rattle.records.specs.Table.{Table, with_row, is_at}
 use Rattle.kv2.specs.SecretRows.{AreChanged, KeepsOtherNames, KeepsOtherMounts, is_key_of, versions_prefix}
-use Rattle.kv2.specs.SecretRows.{with_version, without_key, without_names}
-use Rattle.kv2.specs.SecretRows.{with_settings, without_upto, new_entry, next_entry, described_entry, with_description}
+use Rattle.kv2.specs.SecretRows.{rows_with_version, without_key, without_names}
+use Rattle.kv2.specs.SecretRows.{rows_with_settings, without_upto, new_entry, next_entry, described_entry}
+use Rattle.kv2.specs.SecretRows.{with_description}
 use Rattle.kv2.specs.Versions.{Settings, new_version}
 use Rattle.kv2.proofs.Changed.{key_is_among}
 
@@ -47,7 +48,7 @@ module _ (name : Text) (t : Table) where
 
   -- a write
   pub written_keeps : (e : KeyEntry) (limit now : ℕ) (object : Text)
-      → KeepsOtherNames name t (with_version t name e limit now object)
+      → KeepsOtherNames name t (rows_with_version t name e limit now object)
   written_keeps e limit now object k q not_key apart =
       pruned_apart (nat_lt limit (e.current + 1))
       ∙ ap (λ b. if b then Some (key_entry_row (next_entry now e)) else
@@ -94,6 +95,7 @@ dropped_keeps prefix t kind.KvVersion q p = absurd (false≢true (sym p))
 dropped_keeps prefix t _ q p = refl
 
 -- settings
-pub settings_keep : (mount : Text) (t : Table) (o : Option Mount) → KeepsOtherMounts mount t (with_settings t mount o)
+pub settings_keep : (mount : Text) (t : Table) (o : Option Mount)
+    → KeepsOtherMounts mount t (rows_with_settings t mount o)
 settings_keep mount t None k q apart = refl
 settings_keep mount t (Some m) k q apart = ap (λ b. if b then Some (mount_row m) else t k q) apart

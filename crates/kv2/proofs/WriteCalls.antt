@@ -18,7 +18,7 @@ use Rattle.records.specs.Parts.{of_secrets, Tells}
 use Rattle.records.specs.Table.{Table}
 use Rattle.records.specs.ValueLaws.{none_of}
 use Rattle.kv2.specs.SecretRows as rows
-use Rattle.kv2.specs.SecretRows.{WrittenRows, new_entry, next_entry, with_version}
+use Rattle.kv2.specs.SecretRows.{WrittenRows, new_entry, next_entry, rows_with_version}
 use Rattle.kv2.specs.Secrets.{Written, secret_name, write, write_over, written}
 use Rattle.kv2.specs.SoundLaws.{room, is_secret_name}
 use Rattle.kv2.specs.Versions.{WriteAnswer, version_of, key_or_new, checked, or_if_zero, versions_kept}
@@ -42,14 +42,15 @@ IsToldAs new v w = (v.number ≡ w.number) × (v.custom_metadata ≡ w.custom_me
 pub rows_written : (old new : Table) (m : Mount) (k : Option KeyEntry) (name object : Text) (now limit : ℕ)
     (cas : Option ℕ) (e : KeyEntry)
     → e ≡ unwrap_or k (new_entry now) → Ok tt ≡ checked (e.cas_required || m.cas_required) e.current cas
-    → limit ≡ or_if_zero e.max_versions (or_if_zero m.max_versions 10) → new ≡ with_version old name e limit now object
+    → limit ≡ or_if_zero e.max_versions (or_if_zero m.max_versions 10)
+    → new ≡ rows_with_version old name e limit now object
     → EndsOk (IsWritten new) (answer_of (next_entry now e)) (rows.write old (Some m) k name now cas object)
 rows_written old new m k name object now limit cas e is passed kept left =
     subst (λ (z : KeyEntry). EndsOk (IsWritten new) (answer_of (next_entry now e))
     (rows.write_over old m name now cas object z)) is
     (subst (λ r. EndsOk (IsWritten new) (answer_of (next_entry now e))
     (r >>= (λ _. Ok (rows.written old m name now object e)))) passed
-    (refl, refl, left ∙ ap (λ n. with_version old name e n now object) kept))
+    (refl, refl, left ∙ ap (λ n. rows_with_version old name e n now object) kept))
 
 -- ---- the broker, from the rows
 
@@ -112,7 +113,7 @@ module _ (forms : Forms) (b : Broker) (sound : SoundSecrets forms b.secrets) (mo
         → IsWritten new v (rows.written t m name b.clock object entry) → IsToldAs new v (written b m name object over)
     after_write passed v h =
         let is_name : IsSecretName name = is_secret_name mount path (mounts mount m some).mount_name is_path in
-        let left = h.2 ∙ (λ i. with_version t name (entry_is i) (same_limit i) b.clock object) in (
+        let left = h.2 ∙ (λ i. rows_with_version t name (entry_is i) (same_limit i) b.clock object) in (
           h.0 ∙ ap (λ (e : KeyEntry). e.current + 1) entry_is,
           h.1 ∙ ap (λ (e : KeyEntry). e.custom_metadata) entry_is,
           subst (λ (t : Table). Tells of_secrets t (written b m name object over).next) (sym left)

@@ -232,7 +232,7 @@ module _ (t : Table) (b : Broker) (m : Mount) (name object : Text) (told : Tells
   kept = versions_kept m over
 
   abbrev after : Table
-  after = rows.with_version t name (key_entry over) kept b.clock object
+  after = rows.rows_with_version t name (key_entry over) kept b.clock object
 
   -- what lies under the versions that go
   abbrev before : Table

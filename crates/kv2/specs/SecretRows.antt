@@ -80,9 +80,9 @@ KeepsOtherNames name old new =
 -- ---- settings
 
 -- the table with the row of a mount, if there is one
-abbrev pub with_settings : Table → Text → Option Mount → Table
-with_settings rows name None = rows
-with_settings rows name (Some m) = with_row rows kind.Mount name (mount_row m)
+abbrev pub rows_with_settings : Table → Text → Option Mount → Table
+rows_with_settings rows name None = rows
+rows_with_settings rows name (Some m) = with_row rows kind.Mount name (mount_row m)
 
 -- no row has changed but that of the mount
 abbrev pub KeepsOtherMounts : Text → Table → Table → Type 0
@@ -180,8 +180,8 @@ with_current rows name k limit object =
     name k.current limit
 
 -- the table with one more version of a name
-abbrev pub with_version : Table → Text → KeyEntry → ℕ → ℕ → Text → Table
-with_version rows name k limit now object = with_current rows name (next_entry now k) limit object
+abbrev pub rows_with_version : Table → Text → KeyEntry → ℕ → ℕ → Text → Table
+rows_with_version rows name k limit now object = with_current rows name (next_entry now k) limit object
 
 -- the number that a write gave, the custom metadata of the key, by name, and the next rows
 pub record WrittenRows : Type 0 where
@@ -194,7 +194,7 @@ abbrev pub written : Table → Mount → Text → ℕ → Text → KeyEntry → 
 written rows m name now object k = record {
   number = k.current + 1;
   custom_metadata = k.custom_metadata;
-  rows = with_version rows name k (or_if_zero k.max_versions (or_if_zero m.max_versions 10)) now object;
+  rows = rows_with_version rows name k (or_if_zero k.max_versions (or_if_zero m.max_versions 10)) now object;
 }
 
 -- a write over a key that is there or new

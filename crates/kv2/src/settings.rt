@@ -61,7 +61,7 @@ pub fn set_config<T: RecordsTx>(
 ) -> Result<(), Fault>
     ensures rows { IsHonest (T.seen tx.new) → (m : Option Mount)
         → HasMount (table (T.seen tx.old)) mount.now m → OnOk result (table (T.seen tx.new)
-        ≡ rows.with_settings (table (T.seen tx.old)) mount.now
+        ≡ rows.rows_with_settings (table (T.seen tx.old)) mount.now
         (option_map (secrets.with_settings cas_required max_versions) m)) }
     ensures told { IsHonest (T.seen tx.new) → (b : Broker) → SoundMounts b.mounts
         → Tells of_mounts (table (T.seen tx.old)) b → OnOk result

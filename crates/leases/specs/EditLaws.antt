@@ -48,9 +48,9 @@ revoke_leaves b id = leaves_by b (λ t m. without m id) (rows.is_named id)
     inner true o = none_left o
     inner false o = all_left o
 
-pub under_leaves : (b : Broker) (prefix : Text) → Leaves (rows.is_under prefix) b (revoke_under b prefix)
+pub under_leaves : (b : Broker) (prefix : Text) → Leaves (rows.ids_under prefix) b (revoke_under b prefix)
 under_leaves b prefix =
-    leaves_by b (λ t m. keep (λ id. not (is_under prefix id)) m) (rows.is_under prefix) (λ t q m.
+    leaves_by b (λ t m. keep (λ id. not (is_under prefix id)) m) (rows.ids_under prefix) (λ t q m.
     get-keep (λ id. not (is_under prefix id)) m q ∙ inner (is_under prefix q) (get m q))
   where
     inner : (v : Bool) (o : Option Lease) → cond (not v) o None ≡ unless v o

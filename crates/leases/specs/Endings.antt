@@ -23,8 +23,8 @@ abbrev pub is_named : Text → Ending
 is_named lease_id = λ q row. same q lease_id
 
 -- those whose ids begin with the prefix and a slash
-abbrev pub is_under : Text → Ending
-is_under prefix = λ q row. leases.is_under prefix q
+abbrev pub ids_under : Text → Ending
+ids_under prefix = λ q row. leases.is_under prefix q
 
 -- those of the token t
 abbrev pub is_owned : Text → Ending

@@ -5,7 +5,7 @@ ghost use Rattle.broker_types.specs.Fault.{IsMemoryOrStorage};
 ghost use Rattle.records.specs.Calls.{IsReading};
 ghost use Rattle.records.specs.Table.{table};
 ghost use Rattle.records.specs.Transaction.{IsHonest};
-ghost use Rattle.leases.specs.Endings.{is_under, is_owned};
+ghost use Rattle.leases.specs.Endings.{ids_under, is_owned};
 ghost use Rattle.leases.specs.Removed.{leases_among, AreThoseThatEnd};
 
 use crate::keys::folder;
@@ -20,7 +20,7 @@ pub(crate) fn leases_under<T: RecordsTx>(
     prefix: &str,
 ) -> Result<Vec<Entry>, Fault>
     ensures entries { IsHonest (T.seen tx.new) → IfOk result
-        (λ list. AreThoseThatEnd (is_under prefix.now) (table (T.seen tx.old)) (leases_among list.items)) }
+        (λ list. AreThoseThatEnd (ids_under prefix.now) (table (T.seen tx.old)) (leases_among list.items)) }
     ensures call { IsReading (T.seen tx.old) (T.seen tx.new) result IsMemoryOrStorage }
 {
     let key = folder(alloc, prefix)?;

@@ -6,7 +6,7 @@ ghost use Rattle.records.specs.Calls.{IsChange, IsReadFault, OfEachBroker};
 ghost use Rattle.records.specs.Parts.{of_leases, Tells, KeepsOthers};
 ghost use Rattle.records.specs.Table.{table};
 ghost use Rattle.records.specs.Transaction.{IsHonest};
-ghost use Rattle.leases.specs.Endings.{EndsLeases, AreReadable, is_named, is_under, is_owned, are_owned};
+ghost use Rattle.leases.specs.Endings.{EndsLeases, AreReadable, is_named, ids_under, is_owned, are_owned};
 ghost use Rattle.leases.specs.LeaseRows.{RepresentsLeases};
 ghost use Rattle.leases.specs.Leases as leases;
 
@@ -40,13 +40,13 @@ pub fn revoke<T: RecordsTx>(tx: &mut T, lease_id: &str) -> Result<(), Fault>
 /// "/sys/leases", revoke prefix).
 pub fn revoke_under<T: RecordsTx>(alloc: Global, tx: &mut T, prefix: &str) -> Result<(), Fault>
     ensures rows { IsHonest (T.seen tx.new)
-        → OnOk result (EndsLeases (is_under prefix.now) (table (T.seen tx.old)) (table (T.seen tx.new))) }
+        → OnOk result (EndsLeases (ids_under prefix.now) (table (T.seen tx.old)) (table (T.seen tx.new))) }
     ensures told { OfEachBroker (λ _. RepresentsLeases) (T.seen tx.old) (T.seen tx.new) (λ b.
         OnOk result (Tells of_leases (table (T.seen tx.new)) (leases.revoke_under b prefix.now))) }
     ensures wants { OfEachBroker (λ _. RepresentsLeases) (T.seen tx.old) (T.seen tx.new)
         (λ b. IfErr result IsMemoryOrStorage) }
     ensures call { IsChange (KeepsOthers of_leases) (T.seen tx.old) (T.seen tx.new) result
-        (IsReadFault (IsHonest (T.seen tx.new) → AreReadable (is_under prefix.now) (table (T.seen tx.old)) → ⊥)) }
+        (IsReadFault (IsHonest (T.seen tx.new) → AreReadable (ids_under prefix.now) (table (T.seen tx.old)) → ⊥)) }
 {
     let entries = leases_under(alloc, tx, prefix)?;
     remove_leases(tx, &entries)

@@ -136,8 +136,8 @@ version_converts = record {
 abbrev pub LeaseFields : Type 0
 LeaseFields = ℕ × ((((ℕ × ℕ) × ℕ) × Option ℕ) × Text)
 
-abbrev pub lease : LeaseFields → Lease
-lease x = record {
+abbrev pub lease_of_fields : LeaseFields → Lease
+lease_of_fields x = record {
   ends = x.0;
   issued = x.1.0.0.0.0;
   ttl = x.1.0.0.0.1;
@@ -149,8 +149,8 @@ lease x = record {
 pub lease_converts : (owner : Text)
     → IsConversion (λ x. IsEnd x.0
     × ((((IsMoment x.1.0.0.0.0 × (x.1.0.0.0.1 ≤ longest_ttl)) × (x.1.0.0.1 ≤ longest_ttl)) × IsSomeIn IsMoment x.1.0.1)
-    × IsShortText x.1.1)) (λ x. lease_row owner (lease x)) IsLeaseInRange (lease_row owner)
-    lease (λ l. (l.ends, ((((l.issued, l.ttl), l.max_ttl), l.renewed), l.credential)))
+    × IsShortText x.1.1)) (λ x. lease_row owner (lease_of_fields x)) IsLeaseInRange (lease_row owner)
+    lease_of_fields (λ l. (l.ends, ((((l.issued, l.ttl), l.max_ttl), l.renewed), l.credential)))
 lease_converts owner = record {
   there = λ l h. (h.ends, ((((h.issued, h.ttl), h.max_ttl), h.renewed), h.credential));
   back = λ x h. record {

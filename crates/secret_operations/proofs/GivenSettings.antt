@@ -7,7 +7,7 @@ use Rattle.api_json.specs.declared.secret_bodies.KeySettings.{KeySettings}
 use Rattle.records.specs.RowReaders.{IsSomeIn, IsWide}
 use Rattle.records.specs.TokenEntry.{IsMeta}
 use Rattle.kv2.specs.InRange.{AreWithinLimits}
-use Rattle.broker_model.specs.parts.Secrets.{given}
+use Rattle.broker_model.specs.parts.Secrets.{given_settings}
 
 -- custom metadata that can be kept are short enough for the lengths in a row
 short_metadata : (es : List (Text × Text)) → IsKeptCustom es → IsMeta es
@@ -23,11 +23,12 @@ short_metadata es kept = record {
   ascend = kept.ascend;
 }
 
-pub metadata_in_range : (asked : KeySettings) → IsKeptSettings asked → IsSomeIn IsMeta (given asked).custom_metadata
+pub metadata_in_range : (asked : KeySettings) → IsKeptSettings asked
+    → IsSomeIn IsMeta (given_settings asked).custom_metadata
 metadata_in_range asked kept es is = short_metadata es (kept.custom_metadata es is)
 
 pub within_limits : (asked : KeySettings) → IsKeptSettings asked → IsSomeIn IsWide asked.max_versions
-    → AreWithinLimits (given asked)
+    → AreWithinLimits (given_settings asked)
 within_limits asked kept wide = record {
   max_versions = wide;
   few_metadata = λ es is. (kept.custom_metadata es is).few;

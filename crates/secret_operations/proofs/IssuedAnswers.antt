@@ -29,7 +29,7 @@ use Rattle.leases.specs.StaysSoundLaws.{set_role_sound}
 use Rattle.leases.specs.Roles as roles
 use Rattle.leases.specs.Roles.{Issued, role_name, creds}
 use Rattle.broker_model.specs.Forms.{forms}
-use Rattle.broker_model.specs.parts.Issued.{set_role, issue, given}
+use Rattle.broker_model.specs.parts.Issued.{set_role, issue, issued_reply}
 use Rattle.broker_model.specs.parts.Place.{Place, at}
 use Rattle.broker_rows.specs.Representing.{Represents}
 use Rattle.broker_rows.specs.Done.{answered_of}
@@ -95,7 +95,7 @@ module _ (b : Broker) (c : Text) (new : Rows) (names : Names) (p : Place) where
   outcome = creds b c p.mount p.path names.lease names.credential
 
   abbrev shown : Result Issued Refusal → Result Done Refusal
-  shown m = m >>= (λ i. Ok (given names i))
+  shown m = m >>= (λ i. Ok (issued_reply names i))
 
   -- one that is refused leaves the broker as it was
   pub acts_not_issued : (e : RequestError) → EndsErr (Represents (Some c) new b) e outcome

@@ -50,7 +50,7 @@ with_refusal A P m (Fault f) h p = h
 -- what a look-up answers of a lease
 abbrev pub shown_of : Broker → Names → Text → Lease → Done
 shown_of b names lease_id l =
-    plainly (reply (plain_reply names.request (lease_object (part.shown b.clock lease_id (times_of l)))) None) b
+    plainly (reply (plain_reply names.request (lease_object (part.shown_lease b.clock lease_id (times_of l)))) None) b
 
 -- what a renewal answers, by the new end, and leaves
 abbrev pub renewed_of : Broker → Names → Text → Renewed → Done
@@ -77,7 +77,7 @@ module _ (b : Broker) (who : Option Text) (old new : Rows) (st : Represents who 
   pub acts_shown : (names : Names) (asked lease_id : Text) (now : ℕ) (times : Times) (a : Code.Answered)
       → asked ≡ lease_id → new ≡ old → b.clock ≡ now
       → EndsOk (λ times l. times ≡ times_of l) times (leases.lookup b asked)
-      → answered_of a ≡ reply (plain_reply names.request (lease_object (part.shown now lease_id times))) None
+      → answered_of a ≡ reply (plain_reply names.request (lease_object (part.shown_lease now lease_id times))) None
       → ActsAs who b new (Ok a) (part.look_up b names lease_id)
   acts_shown names asked lease_id now times a named same clock told is =
       by (leases.lookup b lease_id)
@@ -86,7 +86,8 @@ module _ (b : Broker) (who : Option Text) (old new : Rows) (st : Represents who 
       by : (m : Result Lease Refusal) → EndsOk (λ times l. times ≡ times_of l) times m
           → ActsAs who b new (Ok a) (m >>= (λ l. Ok (shown_of b names lease_id l)))
       by (Ok l) e = (
-        is ∙ (λ i. reply (plain_reply names.request (lease_object (part.shown (sym clock i) lease_id (e i)))) None),
+        is ∙ (λ i. reply (plain_reply names.request
+            (lease_object (part.shown_lease (sym clock i) lease_id (e i)))) None),
         still_represented b old new same st,
       )
       by (Err r) e = absurd e

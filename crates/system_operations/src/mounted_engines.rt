@@ -85,7 +85,7 @@ fn list<T: RecordsTx>(tx: &mut T, context: &Context<'_>) -> Result<Answered, Req
 
 /// Mounts as a reply prints them.
 fn all_shown(alloc: Global, mounts: &[NamedMount]) -> Result<Vec<MountObject>, AllocError>
-    ensures { IfOk result (λ shown. shown.items ≡ map part.shown mounts.now) }
+    ensures { IfOk result (λ shown. shown.items ≡ map part.shown_mount mounts.now) }
 {
     let mut shown = Vec::new(alloc);
     for mount in mounts {
@@ -97,7 +97,7 @@ fn all_shown(alloc: Global, mounts: &[NamedMount]) -> Result<Vec<MountObject>, A
 
 /// A mount as a reply prints it.
 fn mount_shown(alloc: Global, mount: &NamedMount) -> Result<MountObject, AllocError>
-    ensures { IfOk result (λ shown. shown ≡ part.shown mount.now) }
+    ensures { IfOk result (λ shown. shown ≡ part.shown_mount mount.now) }
 {
     let name = TextBuf::copied(alloc, mount.name.as_str())?;
     let type_name = TextBuf::copied(alloc, type_name(mount.mount_type))?;

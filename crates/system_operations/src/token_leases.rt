@@ -132,7 +132,7 @@ fn revoke_under<T: RecordsTx>(
 /// A lease of an id as a reply shows it, at a moment.
 fn shown(now: Moment, id: TextBuf, times: &LeaseTimes) -> LeaseObject
     requires { AreTimesInRange times.now }
-    ensures { result ≡ part.shown now id times.now }
+    ensures { result ≡ part.shown_lease now id times.now }
 {
     LeaseObject {
         ends: EndTime::new(times.ends.seconds()).unwrap(),

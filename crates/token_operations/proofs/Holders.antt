@@ -22,7 +22,7 @@ use Rattle.records.specs.Transaction.{Rows}
 use Rattle.token_tree.specs.Tokens as tree
 use Rattle.wrapping.specs.Laws.{NamedHaveTheirAccessors}
 use Rattle.wrapping.specs.Wrapping as wrapping
-use Rattle.broker_model.specs.parts.Tokens.{revoke, revoke_named}
+use Rattle.broker_model.specs.parts.Tokens.{revoke_token, revoke_named}
 use Rattle.broker_rows.specs.Operating.{ActsAs}
 use Rattle.broker_rows.specs.Representing.{Represents}
 use Rattle.broker_rows.specs.RepresentingLaws.{one_kind, represents_dropped}
@@ -40,11 +40,11 @@ module _ (who : Option Text) (b : Broker) (rows : Rows) (accessor : Text) where
   -- what is done with what has the accessor
   abbrev acts_on : Result Answered RequestError → Option Text → Type 0
   acts_on result o =
-      ActsAs who b rows result (some_or (refusal.BadRequest reason.InvalidAccessor) o >>= (λ t. Ok (revoke b t)))
+      ActsAs who b rows result (some_or (refusal.BadRequest reason.InvalidAccessor) o >>= (λ t. Ok (revoke_token b t)))
 
   -- the token that the accessor names is revoked
   pub acts_on_holder : (t : Text) (result : Result Answered RequestError) → tree.find_accessor b accessor ≡ Some t
-      → ActsAs who b rows result (Ok (revoke b t)) → ActsAs who b rows result (revoke_named b accessor)
+      → ActsAs who b rows result (Ok (revoke_token b t)) → ActsAs who b rows result (revoke_named b accessor)
   acts_on_holder t result is acts =
       subst (acts_on result) (sym (ap (λ o. option_map_or Some o (wrapping.find_accessor b accessor)) is)) acts
 

@@ -27,7 +27,7 @@ use Rattle.token_tree.specs.Tokens.{with_end}
 use Rattle.token_tree.specs.Tokens as tree
 use Rattle.broker_model.specs.parts.TokenCreation.{or_longest}
 use Rattle.broker_model.specs.parts.TokenReplies.{auth_reply}
-use Rattle.broker_model.specs.parts.Tokens.{renew, new_end, prolonged_end, periodic_end}
+use Rattle.broker_model.specs.parts.Tokens.{renew_token, new_end, prolonged_end, periodic_end}
 use Rattle.broker_rows.specs.Representing.{Represents}
 use Rattle.broker_rows.specs.declared.answered.Answered.TheVariants.{Given}
 use Rattle.broker_rows.specs.Operating.{ActsAs}
@@ -76,7 +76,7 @@ module _ (b : Broker) (rows : Rows) (who : Option Text) (t : Text) (names : Name
     (told : found ≡ option_map token_entry (get b.tokens t)) where
   -- an unknown token is refused
   pub acts_unknown : Represents who rows b → found ≡ None
-      → ActsAs who b rows (Err (Refused (refusal.Forbidden denial.BadToken))) (renew b names t increment)
+      → ActsAs who b rows (Err (Refused (refusal.Forbidden denial.BadToken))) (renew_token b names t increment)
   acts_unknown st none =
       subst (λ o. ActsAs who b rows (Err (Refused (refusal.Forbidden denial.BadToken)))
       (renewed_as b names t increment o))
@@ -84,7 +84,8 @@ module _ (b : Broker) (rows : Rows) (who : Option Text) (t : Text) (names : Name
 
   -- and so is one without an end
   pub acts_endless : (entry : TokenEntry) → Represents who rows b → found ≡ Some entry → is_some entry.ends ≡ false
-      → ActsAs who b rows (Err (Refused (refusal.BadRequest reason.TokenNotRenewable))) (renew b names t increment)
+      → ActsAs who b rows (Err (Refused (refusal.BadRequest reason.TokenNotRenewable)))
+      (renew_token b names t increment)
   acts_endless entry st some endless =
       let x = mapped token_entry (get b.tokens t) entry (sym told ∙ some) in
       subst (λ o. ActsAs who b rows (Err (Refused (refusal.BadRequest reason.TokenNotRenewable)))
@@ -98,7 +99,7 @@ module _ (b : Broker) (rows : Rows) (who : Option Text) (t : Text) (names : Name
       → b.clock ≡ now
       → found ≡ Some entry → is_some entry.ends ≡ true → ends ≡ new_end now entry increment
       → r ≡ auth_reply request now t (record entry { ends = Some ends }) → Represents who rows (tree.renew b t ends)
-      → ActsAs who b rows (Ok (Given r)) (renew b names t increment)
+      → ActsAs who b rows (Ok (Given r)) (renew_token b names t increment)
   acts_renewed request now ends entry r named clock some ending is replied st =
       let x = mapped token_entry (get b.tokens t) entry (sym told ∙ some) in
       let next : ends ≡ new_end b.clock (token_entry x.0) increment =

@@ -32,7 +32,7 @@ pub(crate) fn renew<T: RecordsTx>(
     increment: Seconds,
 ) -> Result<Answered, RequestError>
     ensures told { (who : Option Text) → Performs who context.now [] (T.seen tx.old) (T.seen tx.new)
-        (λ b. part.renew b (names_of context.now.words) token.now increment) result }
+        (λ b. part.renew_token b (names_of context.now.words) token.now increment) result }
     ensures call { IsRequestCall (T.seen tx.old) (T.seen tx.new) result IsNotBadStart }
 {
     let Some(found) = find(context.alloc, tx, token)? else {
@@ -53,7 +53,8 @@ fn renew_found<T: RecordsTx>(
     requires there { IsHonest (T.seen tx.old) → IsTokenAt (table (T.seen tx.old)) token.now (Some found) }
     ensures told { IsHonest (T.seen tx.new) → (who : Option Text) (b : Broker)
         → Begins who context.now (T.seen tx.old).rows b → Some found ≡ option_map token_entry (get b.tokens token.now)
-        → ActsAs who b (T.seen tx.new).rows result (part.renew b (names_of context.now.words) token.now increment) }
+        → ActsAs who b (T.seen tx.new).rows result
+        (part.renew_token b (names_of context.now.words) token.now increment) }
     ensures call { IsRequestCall (T.seen tx.old) (T.seen tx.new) result IsNotBadStart }
 {
     let alloc = context.alloc;

@@ -73,8 +73,8 @@ set_role b p asked = do
 -- ---- credentials
 
 -- what was issued, with its lease
-abbrev pub given : Names → Issued → Done
-given names i =
+abbrev pub issued_reply : Names → Issued → Done
+issued_reply names i =
     record {
       answered =
           reply (lease_reply names.request i.lease_id i.lease.ttl (Some (credential_object names.credential))) None;
@@ -87,7 +87,7 @@ given names i =
 abbrev pub issue : Broker → Text → Names → Place → Result Done Refusal
 issue b c names p = do
   i ← roles.creds b c p.mount p.path names.lease names.credential
-  Ok (given names i)
+  Ok (issued_reply names i)
 
 -- whether the lease of a credential of any mount still stands
 abbrev pub verify : Broker → Names → Text → Done

@@ -41,15 +41,15 @@ lease_traits command = record plain { changes = lease_changes command }
 -- ---- what they do
 
 -- a lease of an id as a reply prints it, at a clock
-abbrev pub shown : ℕ → Text → Times → LeaseObject
-shown now id l =
+abbrev pub shown_lease : ℕ → Text → Times → LeaseObject
+shown_lease now id l =
     record { ends = l.ends; id = id; issued = l.issued; renewed = l.renewed; ttl = l.ends - now }
 
 -- the lease of an id, without its credential
 abbrev pub look_up : Broker → Names → Text → Result Done Refusal
 look_up b names id = do
   l ← leases.lookup b id
-  Ok (plainly (reply (plain_reply names.request (lease_object (shown b.clock id (times_of l)))) None) b)
+  Ok (plainly (reply (plain_reply names.request (lease_object (shown_lease b.clock id (times_of l)))) None) b)
 
 -- a lease gets the end that the increment gives; the reply has the seconds to it
 abbrev pub renew : Broker → Names → Text → ℕ → Result Done Refusal

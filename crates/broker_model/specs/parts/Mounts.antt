@@ -72,13 +72,13 @@ type_version type.Kv = Some (codes "2")
 type_version type.Issued = None
 
 -- a mount of a type as a reply prints it
-abbrev pub shown : Text × MountType → MountObject
-shown m = record { name = m.0; type_name = type_name m.1; version = type_version m.1 }
+abbrev pub shown_mount : Text × MountType → MountObject
+shown_mount m = record { name = m.0; type_name = type_name m.1; version = type_version m.1 }
 
 -- all mounts, in the order of their printed names
 abbrev pub list : Broker → Names → Done
 list b names =
-    plainly (reply (plain_reply names.request (mounts_object (map shown (mounts.listed b.mounts)))) None) b
+    plainly (reply (plain_reply names.request (mounts_object (map shown_mount (mounts.listed b.mounts)))) None) b
 
 -- ---- mounts that come and go
 

@@ -95,8 +95,8 @@ metadata b names p = do
   Ok (plainly (reply (metadata_reply names.request m) None) b)
 
 -- the settings that a body gives for a secret
-abbrev pub given : KeySettings → Settings
-given asked = record {
+abbrev pub given_settings : KeySettings → Settings
+given_settings asked = record {
   cas_required = asked.cas_required;
   max_versions = asked.max_versions;
   custom_metadata = asked.custom_metadata;
@@ -104,7 +104,7 @@ given asked = record {
 
 -- the settings of the secret that the body gives; the others stay, and one that is not there is made
 abbrev pub set_metadata : Broker → Place → KeySettings → Done
-set_metadata b p asked = plainly nothing (secrets.set_metadata b p.mount p.path (given asked))
+set_metadata b p asked = plainly nothing (secrets.set_metadata b p.mount p.path (given_settings asked))
 
 -- the secrets and folders of the folder; none is 404
 abbrev pub list : Broker → Names → Place → Result Done Refusal

@@ -106,8 +106,8 @@ abbrev pub new_end : ℕ → TokenEntry → ℕ → ℕ
 new_end now x increment = if x.period == 0 then prolonged_end now x increment else periodic_end now x
 
 -- the token t is renewed; one without an end is 400 `lease is not renewable`
-abbrev pub renew : Broker → Names → Text → ℕ → Result Done Refusal
-renew b names t increment = do
+abbrev pub renew_token : Broker → Names → Text → ℕ → Result Done Refusal
+renew_token b names t increment = do
   x ← known b t
   ending ← unless (is_some x.ends) (refusal.BadRequest reason.TokenNotRenewable)
   let next = new_end b.clock (token_entry x) increment in
@@ -118,8 +118,8 @@ renew b names t increment = do
 
 -- The token t ends, with all under it, and the wrapping token t with the response that waits under it (Vault's
 -- documentation, "Response wrapping"). It is one of the two or neither, so an unknown text changes nothing.
-abbrev pub revoke : Broker → Text → Done
-revoke b t = plainly nothing (drop_waiting (broker.revoke b t) t)
+abbrev pub revoke_token : Broker → Text → Done
+revoke_token b t = plainly nothing (drop_waiting (broker.revoke b t) t)
 
 -- the same of a token alone: its children have no parent then
 abbrev pub revoke_alone : Broker → Text → Done
@@ -135,7 +135,7 @@ holder b accessor =
 abbrev pub revoke_named : Broker → Text → Result Done Refusal
 revoke_named b accessor = do
   t ← holder b accessor
-  Ok (revoke b t)
+  Ok (revoke_token b t)
 
 -- ---- the part
 
@@ -145,10 +145,10 @@ act_on_tokens b c names (command.Create making asked) = create b c names making 
 act_on_tokens b c names (command.LookUp t) = look_up b names t t
 act_on_tokens b c names (command.LookUpAccessor accessor) = look_up_accessor b names accessor
 act_on_tokens b c names command.LookUpSelf = look_up b names c c
-act_on_tokens b c names (command.Renew asked) = renew b names asked.token asked.increment
-act_on_tokens b c names (command.RenewSelf increment) = renew b names c increment
-act_on_tokens b c names (command.Revoke t) = Ok (revoke b t)
+act_on_tokens b c names (command.Renew asked) = renew_token b names asked.token asked.increment
+act_on_tokens b c names (command.RenewSelf increment) = renew_token b names c increment
+act_on_tokens b c names (command.Revoke t) = Ok (revoke_token b t)
 act_on_tokens b c names (command.RevokeOrphan t) = Ok (revoke_alone b t)
 act_on_tokens b c names (command.RevokeAccessor accessor) = revoke_named b accessor
-act_on_tokens b c names command.RevokeSelf = Ok (revoke b c)
+act_on_tokens b c names command.RevokeSelf = Ok (revoke_token b c)
 act_on_tokens b c names command.ListAccessors = Ok (all_accessors b names)

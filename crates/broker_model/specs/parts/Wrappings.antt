@@ -45,8 +45,8 @@ found b meant = some_or (refusal.BadRequest reason.InvalidWrappingToken) (found_
 -- ---- the part
 
 -- the reply that shows the response without its text
-abbrev pub shown : Names → FoundResponse → Reply
-shown names f = plain_reply names.request (waiting_object f.response.path f.response.created f.response.ttl)
+abbrev pub shown_response : Names → FoundResponse → Reply
+shown_response names f = plain_reply names.request (waiting_object f.response.path f.response.created f.response.ttl)
 
 -- the response moves to the wrapping token of the request's words, which is made at the clock
 abbrev pub rewrapped : Broker → Names → FoundResponse → Done
@@ -76,7 +76,7 @@ abbrev pub act_on_wrappings : Broker → Names → WrappingCommand → Result Do
 act_on_wrappings b names (command.Wrap text) = Ok (plainly (reply (plain_reply names.request text) None) b)
 act_on_wrappings b names (command.LookUp meant) = do
   f ← found b meant
-  Ok (plainly (reply (shown names f) None) b)
+  Ok (plainly (reply (shown_response names f) None) b)
 act_on_wrappings b names (command.Rewrap meant) = do
   f ← found b meant
   Ok (rewrapped b names f)

@@ -60,7 +60,7 @@ pub(super) fn set<T: RecordsTx>(
 
 /// The settings that a body gives.
 fn settings_given(asked: KeySettings) -> SecretSettings
-    ensures { result ≡ part.given asked }
+    ensures { result ≡ part.given_settings asked }
 {
     SecretSettings {
         cas_required: asked.cas_required,

@@ -28,7 +28,7 @@ returns-in_default-clause-told g c honest b sound told =
     sym (c.in_ok-found.ensures.found honest (get b.mounts mount) (has_mount b sound old told mount))
     ∙ none_of _ c.in_default.not-Some in
     subst (λ (t : Table). Tells of_mounts t next)
-    (ap (λ o. rows.with_settings old mount (option_map edit o)) none
+    (ap (λ o. rows.rows_with_settings old mount (option_map edit o)) none
     ∙ ap table_of (sym (c.in_ok-found.ensures.call.same honest)))
     (settings_told old b told mount c.args.cas_required c.args.max_versions)
 
@@ -49,7 +49,7 @@ returns-clause-rows g c honest m has =
     ((c.in_ok-row.ensures
     ∙ (λ j. mount_row (record { engine = (c.found.view_is j).engine; cas_required = cas j; max_versions = max j })))
     i))
-    ∙ ap (λ o. rows.with_settings old mount (option_map edit o)) some) (c.put.ensures.rows honest)
+    ∙ ap (λ o. rows.rows_with_settings old mount (option_map edit o)) some) (c.put.ensures.rows honest)
 
 pub returns-clause-call : goal.returns-clause-call
 returns-clause-call g c =

@@ -6,7 +6,7 @@ use Rattle.records.specs.Kind.{is_of_kind}
 use Rattle.records.specs.Splits.{slash}
 use Rattle.records.specs.Table.{table}
 use Rattle.records.specs.Transaction.{rows_under}
-use Rattle.leases.specs.Endings.{is_under}
+use Rattle.leases.specs.Endings.{ids_under}
 use Rattle.leases.specs.Removed.{leases_among, AreThoseThatEnd}
 use Rattle.leases.proofs.ListedLeases.{those_passing}
 use Rattle.leases.proofs.listing.leases_under.Goals as goal
@@ -17,8 +17,8 @@ returns-clause-entries g c honest =
     let prefix = c.args.prefix.now in
     let key = c.as_str.ensures.value ∙ c.in_ok-key.ensures in
     IfOk-weaker c.under.result _ _ (λ list is.
-    subst (λ es. AreThoseThatEnd (is_under prefix) (table old) (leases_among es))
+    subst (λ es. AreThoseThatEnd (ids_under prefix) (table old) (leases_among es))
     (sym (is ∙ ap (rows_under old.rows kind.Lease) key))
-    (those_passing old.rows (is_under prefix)
+    (those_passing old.rows (ids_under prefix)
     (λ e. is_of_kind kind.Lease e.0 && starts_with nat_eq e.0.1 (prefix ++ slash ∷ [])) (λ q row. refl)))
     (c.under.ensures.entries honest)

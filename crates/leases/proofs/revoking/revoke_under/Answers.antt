@@ -3,7 +3,7 @@ use Rattle.std.proofs.lemmas.Result.{on_ok_weaker}
 use Rattle.records.specs.CallLaws.{honest_before, goes_further, fault_then, not_damaged, each_fault}
 use Rattle.records.specs.Table.{table, table_of}
 use Rattle.records.specs.Transaction.{Rows, IsHonest}
-use Rattle.leases.specs.Endings.{is_under}
+use Rattle.leases.specs.Endings.{ids_under}
 use Rattle.leases.specs.Leases.{revoke_under}
 use Rattle.leases.specs.Removed.{RemovesEach, leases_among, AreThoseThatEnd}
 use Rattle.leases.proofs.Endings.{each_readable, leases_ended, left_told}
@@ -14,7 +14,7 @@ use Rattle.leases.proofs.revoking.revoke_under.Goals as goal
 pub returns-clause-rows : goal.returns-clause-rows
 returns-clause-rows g c honest =
     let seen = g.T.RecordsTx.seen in
-    let ends = is_under c.args.prefix.now in
+    let ends = ids_under c.args.prefix.now in
     let first : IsHonest (seen c.leases_under.new.tx) =
     honest_before _ _ _ c.remove_leases.ensures.call.goes_on honest in
     let old = (seen c.args.tx.now).rows in
@@ -30,7 +30,7 @@ returns-clause-rows g c honest =
 pub returns-clause-told : goal.returns-clause-told
 returns-clause-told g c honest forms b represents =
     let seen = g.T.RecordsTx.seen in
-    let ends = is_under c.args.prefix.now in
+    let ends = ids_under c.args.prefix.now in
     on_ok_weaker c.remove_leases.result (λ ended.
     left_told ends (table (seen c.args.tx.now)) (table (seen c.remove_leases.new.tx)) b
     (revoke_under b c.args.prefix.now) represents ended
@@ -41,7 +41,7 @@ pub returns-clause-call : goal.returns-clause-call
 unfolding returns-clause-rows
 returns-clause-call g c =
     let seen = g.T.RecordsTx.seen in
-    let ends = is_under c.args.prefix.now in
+    let ends = ids_under c.args.prefix.now in
     let old = (seen c.args.tx.now).rows in
     record {
       others = λ honest. on_ok_weaker c.remove_leases.result (λ ended. ended.others) (returns-clause-rows g c honest);
@@ -60,7 +60,7 @@ pub returns-clause-wants : goal.returns-clause-wants
 unfolding returns-clause-call
 returns-clause-wants g c honest forms b represents =
     let seen = g.T.RecordsTx.seen in
-    let ends = is_under c.args.prefix.now in
+    let ends = ids_under c.args.prefix.now in
     each_fault (λ f. not_damaged (λ damage. damage honest (all_readable ends (table (seen c.args.tx.now)) b represents))
     f)
     c.remove_leases.result (returns-clause-call g c).faults

@@ -1,7 +1,7 @@
 use Rattle.std.proofs.Common.{◌≡◌, map, take}
-use Rattle.broker_model.specs.parts.Mounts.{shown}
+use Rattle.broker_model.specs.parts.Mounts.{shown_mount}
 use Rattle.system_operations.proofs.mounted_engines.all_shown.Given as goal
 
 -- the mounts so far are shown
 abbrev pub invariant-loop-mount : goal.invariant-loop-mount
-invariant-loop-mount l = l.shown.items ≡ map shown (take l.mount-index l.mounts)
+invariant-loop-mount l = l.shown.items ≡ map shown_mount (take l.mount-index l.mounts)

@@ -4,7 +4,7 @@ use Rattle.api_json.specs.Objects.{mounts_object}
 use Rattle.api_json.specs.Reply.{plain_reply}
 use Rattle.broker_types.specs.Names.{names_of}
 use Rattle.broker_types.specs.Operation.{reply}
-use Rattle.broker_model.specs.parts.Mounts.{shown}
+use Rattle.broker_model.specs.parts.Mounts.{shown_mount}
 use Rattle.broker_rows.specs.RepresentingLaws.{mounts_there, still_represented}
 use Rattle.system_operations.proofs.mounted_engines.list.Goals as goal
 
@@ -25,6 +25,6 @@ returns-clause-told g c who honest b starts fresh =
       c.in_ok-shown.ensures
           ∙ ap (λ o. reply (plain_reply request o) None)
           (c.in_ok-object.ensures ∙ ap mounts_object (c.deref-2.ensures.value ∙ c.in_ok-objects.ensures
-          ∙ ap (map shown) (c.deref.ensures.value ∙ listed))),
+          ∙ ap (map shown_mount) (c.deref.ensures.value ∙ listed))),
       still_represented b old new (c.in_ok-mounts.ensures.call.same honest) st,
     )

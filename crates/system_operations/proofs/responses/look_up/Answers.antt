@@ -7,7 +7,7 @@ use Rattle.broker_types.specs.Broker.{Waiting}
 use Rattle.broker_types.specs.Names.{names_of}
 use Rattle.broker_types.specs.Operation.{reply, plainly}
 use Rattle.records.specs.ValueLaws.{none_of}
-use Rattle.broker_model.specs.parts.Wrappings.{FoundResponse, shown}
+use Rattle.broker_model.specs.parts.Wrappings.{FoundResponse, shown_response}
 use Rattle.broker_rows.specs.RepresentingLaws.{represents_waiting, still_represented}
 use Rattle.system_operations.proofs.ResponseAnswers.{acts_on_found, acts_on_none}
 use Rattle.system_operations.proofs.responses.look_up.Goals as goal
@@ -25,7 +25,7 @@ returns-in_default-clause-told g c who honest b starts fresh =
     let new = (seen c.look.new.tx).rows in
     let names = names_of c.args.context.now.words in
     let st = starts.represents in
-    acts_on_none b who new c.args.token.now (λ (f : FoundResponse). plainly (reply (shown names f) None) b)
+    acts_on_none b who new c.args.token.now (λ (f : FoundResponse). plainly (reply (shown_response names f) None) b)
     (sym (c.in_ok-response.ensures.told honest b (represents_waiting b old st)) ∙ none_of _ c.in_default.not-Some)
     (still_represented b old new (c.in_ok-response.ensures.call.same honest) st)
 
@@ -37,7 +37,7 @@ returns-clause-told g c who honest b starts fresh =
     let names = names_of c.args.context.now.words in
     let st = starts.represents in
     let w = c.in-Some.response in
-    acts_on_found b who new c.args.token.now (λ (f : FoundResponse). plainly (reply (shown names f) None) b) w
+    acts_on_found b who new c.args.token.now (λ (f : FoundResponse). plainly (reply (shown_response names f) None) b) w
     c.in_ok-shown.field-0
     (sym (c.in_ok-response.ensures.told honest b (represents_waiting b old st)) ∙ c.in-Some.is) (
       c.in_ok-shown.ensures ∙ ap (λ o. reply (plain_reply names.request o) None)

@@ -8,7 +8,7 @@ use Rattle.kv2.specs.Secrets as secrets
 use Rattle.kv2.specs.SoundLaws.{set_metadata_sound, is_secret_name}
 use Rattle.kv2.specs.Versions.{Settings}
 use Rattle.broker_model.specs.Forms.{forms}
-use Rattle.broker_model.specs.parts.Secrets.{given}
+use Rattle.broker_model.specs.parts.Secrets.{given_settings}
 use Rattle.broker_rows.specs.Context.{Context}
 use Rattle.broker_rows.specs.RepresentingLaws.{tells_part}
 use Rattle.secret_operations.proofs.GivenSettings.{metadata_in_range, within_limits}
@@ -32,8 +32,8 @@ returns-clause-told g c named good who honest b starts fresh =
     let asked = c.args.asked in
     let st = starts.represents in
     let is_name = is_secret_name mount path named (record { good = good; utf8 = c.utf8.path }) in
-    acts_changed b who old new (secrets.set_metadata b mount path (given asked)).secrets st
-    (set_metadata_sound forms who b st.sound mount path (given asked) is_name (within_limits asked c.requires
+    acts_changed b who old new (secrets.set_metadata b mount path (given_settings asked)).secrets st
+    (set_metadata_sound forms who b st.sound mount path (given_settings asked) is_name (within_limits asked c.requires
     (subst (λ (s : Settings). IsSomeIn IsWide s.max_versions) c.settings_given.ensures
     c.in_ok-set_metadata.ensures.wide)))
     (subst (λ (s : Settings). Tells of_secrets (table_of new) (secrets.set_metadata b mount path s))
