@@ -1,8 +1,7 @@
 -- Counting off years and months finds the date whose day number it is.
-use Rattle.std.proofs.Common.{◌≡◌, ℕ, zero, suc, ◌+◌, ◌-◌, ◌<◌, ◌≤◌, nat_lt, true, false, pos, ℤ, ◌-ℤ◌, refl, ap, ◌∙◌}
+use Rattle.std.proofs.Common.{◌≡◌, ℕ, zero, suc, ◌+◌, ◌-◌, ◌<◌, ◌≤◌, pos, ℤ, ◌-ℤ◌, refl, ap, ◌∙◌}
 use Rattle.std.proofs.Common.{arith, inl, inr}
-use Rattle.std.proofs.lemmas.Bool.{cases_lt}
-use Rattle.std.proofs.lemmas.Bool.Decides.{nat_tests}
+use Rattle.std.proofs.lemmas.Bool.{cases_lt, lt-ltb, le-ltb}
 use Rattle.jiff_core.specs.Calendar.{days_in_year, days_in_month, days_of_years, days_of_months}
 use Rattle.jiff_core.proofs.CalendarLemmas.{days_of_months_mono}
 use Rattle.jiff_core.proofs.SignedLemmas.{signed_arith}
@@ -29,20 +28,14 @@ before-mono (suc g) s =
     let below = before-mono g s in
     rw up (omega arith)
 
-is_true : (m n : ℕ) → m < n → nat_lt m n ≡ true
-is_true m n h = grind (arith, nat_tests)
-
-is_false : (m n : ℕ) → n ≤ m → nat_lt m n ≡ false
-is_false m n h = grind (arith, nat_tests)
-
 year_here : (k s n : ℕ) → n < days_in_year (pos s) → day_from_year (suc k) s n ≡ day_from_month 11 s 1 n
 unfolding day_from_year
-year_here k s n h = rw (day_from_year, is_true n (days_in_year (pos s)) h) refl
+year_here k s n h = rw (day_from_year, lt-ltb n (days_in_year (pos s)) h) refl
 
 year_later : (k s n : ℕ) → days_in_year (pos s) ≤ n
     → day_from_year (suc k) s n ≡ day_from_year k (suc s) (n - days_in_year (pos s))
 unfolding day_from_year
-year_later k s n h = rw (day_from_year, is_false n (days_in_year (pos s)) h) refl
+year_later k s n h = rw (day_from_year, le-ltb n (days_in_year (pos s)) h) refl
 
 year_last : (s : ℕ) (n : ℕ) → day_from_year zero s n ≡ day_from_month 11 s 1 n
 unfolding day_from_year
@@ -81,12 +74,12 @@ found y q r = record { year = y; month = suc q; day = r + 1 }
 
 month_here : (k y p n : ℕ) → n < days_in_month (pos y) (suc p) → day_from_month (suc k) y (suc p) n ≡ found y p n
 unfolding day_from_month
-month_here k y p n h = rw (day_from_month, is_true n (days_in_month (pos y) (suc p)) h) refl
+month_here k y p n h = rw (day_from_month, lt-ltb n (days_in_month (pos y) (suc p)) h) refl
 
 month_later : (k y p n : ℕ) → days_in_month (pos y) (suc p) ≤ n
     → day_from_month (suc k) y (suc p) n ≡ day_from_month k y (suc (suc p)) (n - days_in_month (pos y) (suc p))
 unfolding day_from_month
-month_later k y p n h = rw (day_from_month, is_false n (days_in_month (pos y) (suc p)) h) refl
+month_later k y p n h = rw (day_from_month, le-ltb n (days_in_month (pos y) (suc p)) h) refl
 
 month_last : (y p n : ℕ) → day_from_month zero y (suc p) n ≡ found y p n
 unfolding day_from_month

@@ -1,5 +1,5 @@
 -- The texts that have seconds are those of the grammar.
-use Rattle.std.specs.Prelude.{◌≡◌, ◌≢◌, ◌≤◌, ◌<◌, ◌⊎◌, ℕ, suc, ◌+◌, ◌-◌, ◌*◌, ◌==◌, ◌&&◌, nat_le, List, [], ◌∷◌, ◌++◌}
+use Rattle.std.specs.Prelude.{◌≡◌, ◌≢◌, ◌≤◌, ◌⊎◌, ℕ, suc, ◌+◌, ◌-◌, ◌*◌, ◌==◌, ◌&&◌, nat_le, List, [], ◌∷◌, ◌++◌}
 use Rattle.std.specs.Prelude.{length, Bool, true, false, not, cond}
 use Rattle.std.specs.Prelude.{if◌then◌else◌, Option, Some, None, option_and_then, unwrap_or, All, sum_by}
 use Rattle.std.specs.List.{list_all, flat_map}
@@ -11,8 +11,7 @@ use Rattle.std.proofs.lemmas.Bool.Decides.{nat_tests}
 use Rattle.std.proofs.lemmas.List.Sums.{sum_by-cons}
 use Rattle.std.proofs.lemmas.List.Elements.{All-nil, All-cons, All-head, All-tail}
 use Rattle.std.proofs.lemmas.Str.{digit_value_digit}
-use Rattle.std.proofs.lemmas.Str.Parse.{digit_from_value}
-use Rattle.std.proofs.lemmas.Bool.{false≢true}
+use Rattle.std.proofs.lemmas.Bool.{false≢true, eqb-true}
 use Rattle.std.proofs.lemmas.Option.{none-some, same_Some}
 use Rattle.std.proofs.Math.Bool.{and-false}
 use Rattle.broker_types.specs.Duration.{unit_of, group_end, groups, with_unit, at_most, longest_duration, duration_of}
@@ -20,33 +19,15 @@ use Rattle.broker_types.specs.Duration.{TimeUnit, hours, minutes, seconds}
 use Rattle.broker_types.specs.Duration.{unit_byte, unit_seconds, Group, IsGroup, group_text, group_seconds, IsCount}
 use Rattle.broker_types.specs.Duration.{IsSum, IsDuration}
 use Rattle.broker_types.proofs.Groups.{in_range}
+use Rattle.broker_types.specs.DecimalLaws.{is_digit, digit_small, all_digits, digits_all}
 
 -- ---- digits
 
 in_digits : (c : ℕ) → is_ascii_digit c ≡ true → IsInRange 48 57 c
 in_digits c h = grind (arith, nat_tests)
 
-is_digit : (c : ℕ) → digit_value c < 10 → is_ascii_digit c ≡ true
-is_digit c h = let r = digit_from_value c h in grind (arith, nat_tests)
-
 digit_is : (c : ℕ) → is_ascii_digit c ≡ true → c - 48 ≡ digit_value c
 digit_is c h = let e = digit_value_digit c (in_digits c h) in omega (arith, e)
-
-digit_small : (c : ℕ) → is_ascii_digit c ≡ true → digit_value c < 10
-digit_small c h = let r = in_digits c h in let e = digit_value_digit c r in omega (arith, e, r.0, r.1)
-
-all_digits : (s : List ℕ) → list_all is_ascii_digit s ≡ true → AllDigits 10 s
-all_digits [] h = tt
-all_digits (c ∷ cs) h =
-    elim (is_ascii_digit c) as (λ b. is_ascii_digit c ≡ b → (b && list_all is_ascii_digit cs) ≡ true
-    → (digit_value c < 10) × AllDigits 10 cs) [
-      | true ↦ λ e g. (digit_small c e, all_digits cs g)
-      | false ↦ λ _ g. absurd (false≢true g)
-    ] refl h
-
-digits_all : (s : List ℕ) → AllDigits 10 s → list_all is_ascii_digit s ≡ true
-digits_all [] h = refl
-digits_all (c ∷ cs) h = ap (λ b. b && list_all is_ascii_digit cs) (is_digit c h.0) ∙ digits_all cs h.1
 
 abbrev is_count : List ℕ → Bool
 is_count s = not (length s == 0) && list_all is_ascii_digit s
@@ -69,9 +50,6 @@ numeral_count (c ∷ cs) h = ap (λ b. b && list_all is_ascii_digit (c ∷ cs)) 
 
 -- ---- units
 
-named : (c d : ℕ) → (c == d) ≡ true → c ≡ d
-named c d h = grind (arith, nat_tests)
-
 abbrev IsUnitByte : ℕ → ℕ → Type 0
 IsUnitByte c u = (x : TimeUnit) × (c ≡ unit_byte x) × (u ≡ unit_seconds x)
 
@@ -79,12 +57,12 @@ unit_known : (c u : ℕ) → unit_of c ≡ Some u → IsUnitByte c u
 unit_known c u h =
     elim (c == 104) as (λ b. (c == 104) ≡ b
     → cond b (Some 3600) (cond (c == 109) (Some 60) (cond (c == 115) (Some 1) None)) ≡ Some u → IsUnitByte c u) [
-      | true ↦ λ e g. (hours, named c 104 e, sym (same_Some _ _ g))
+      | true ↦ λ e g. (hours, eqb-true c 104 e, sym (same_Some _ _ g))
       | false ↦ λ _ g. elim (c == 109) as (λ b. (c == 109) ≡ b
           → cond b (Some 60) (cond (c == 115) (Some 1) None) ≡ Some u → IsUnitByte c u) [
-            | true ↦ λ e f. (minutes, named c 109 e, sym (same_Some _ _ f))
+            | true ↦ λ e f. (minutes, eqb-true c 109 e, sym (same_Some _ _ f))
             | false ↦ λ _ f. elim (c == 115) as (λ b. (c == 115) ≡ b → cond b (Some 1) None ≡ Some u → IsUnitByte c u) [
-              | true ↦ λ e k. (seconds, named c 115 e, sym (same_Some _ _ k))
+              | true ↦ λ e k. (seconds, eqb-true c 115 e, sym (same_Some _ _ k))
               | false ↦ λ _ k. absurd (none-some _ k)
             ] refl f
           ] refl g

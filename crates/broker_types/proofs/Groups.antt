@@ -3,14 +3,14 @@ use Rattle.std.specs.List.{list_all}
 use Rattle.std.specs.Char.{is_ascii_digit}
 use Rattle.std.proofs.Common.{◌≡◌, ℕ, ◌+◌, ◌-◌, ◌*◌, ◌<◌, ◌≤◌, ◌==◌, ◌&&◌, nat_le, List, [], ◌∷◌, ◌++◌, length, get_or}
 use Rattle.std.proofs.Common.{drop, Bool, true, false, not, cond}
-use Rattle.std.proofs.Common.{Option, Some, None, option_and_then, unwrap_or, refl, sym, ap, ◌∙◌, arith, add-one}
+use Rattle.std.proofs.Common.{Option, Some, None, option_and_then, unwrap_or, refl, sym, ap, ◌∙◌, arith}
 use Rattle.std.proofs.Math.Nat.{mul-le-mul_left}
 use Rattle.std.proofs.Math.ListN.{drop_of_length-le}
-use Rattle.std.proofs.Math.Seq.{drop-cons}
 use Rattle.std.proofs.lemmas.List.{append-nil}
 use Rattle.std.proofs.lemmas.Bool.Decides.{nat_tests}
 use Rattle.broker_types.specs.Duration.{unit_of, group_end, group_step, groups, whole_groups, with_unit, at_most}
 use Rattle.broker_types.specs.Duration.{duration_of}
+use Rattle.broker_types.specs.SliceLaws.{drop_first}
 
 past : (n : ℕ) → 4294967295 < n → at_most (Some n) ≡ None
 past n h = let t : nat_le n 4294967295 ≡ false = grind (arith, nat_tests) in rw t refl
@@ -60,9 +60,6 @@ with_unit_is s = by (not (length s == 0) && list_all is_ascii_digit s)
     by true = (115 ∷ [], refl)
     by false = ([], sym (append-nil s))
 
-pub left : (s : List ℕ) (i : ℕ) → i < length s → drop i s ≡ get_or s i 0 ∷ drop (i + 1) s
-left s i within = rw add-one (drop-cons s i 0 within)
-
 -- what a loop over a text knows of its groups
 abbrev pub Rest : List ℕ → ℕ → Option ℕ → ℕ → Type 0
 Rest s sum begun i = (more : List ℕ) → groups 0 None (s ++ more) ≡ groups sum begun (drop i s ++ more)
@@ -71,7 +68,7 @@ pub refused : (s : List ℕ) (i sum : ℕ) (begun : Option ℕ) → i < length s
     → group_step sum begun (get_or s i 0) ≡ None → None ≡ duration_of s
 refused s i sum begun within rest e =
     let m = with_unit_is s in
-    rw (m.1, rest m.0, left s i within, e) refl
+    rw (m.1, rest m.0, drop_first s i within, e) refl
 
 pub over : (s : List ℕ) (i sum : ℕ) (begun : Option ℕ) (total : ℕ) (digits : Option ℕ) → i < length s
     → Rest s sum begun i
@@ -79,7 +76,7 @@ pub over : (s : List ℕ) (i sum : ℕ) (begun : Option ℕ) (total : ℕ) (digi
     → None ≡ duration_of s
 over s i sum begun total digits within rest e h =
     let m = with_unit_is s in
-    rw (m.1, rest m.0, left s i within, e) (sym (too_large (drop (i + 1) s ++ m.0) total digits h))
+    rw (m.1, rest m.0, drop_first s i within, e) (sym (too_large (drop (i + 1) s ++ m.0) total digits h))
 
 pub ended : (s : List ℕ) (i sum : ℕ) (begun : Option ℕ) → length s ≤ i → Rest s sum begun i
     → (not (length s == 0) && list_all is_ascii_digit s) ≡ false → at_most (whole_groups sum begun) ≡ duration_of s

@@ -14,16 +14,19 @@ byte_small : (k n : ℕ) → byte_at k n < 256
 byte_small zero n = mod_below n 256 (lit< tt)
 byte_small (suc k) n = mod_below (n / 256 ^ suc k) 256 (lit< tt)
 
-small_at : (k n i : ℕ) → get_or (bytes_high_first k n) i 0 < 256
+-- the bytes of a number are bytes
+pub small_at : (k n i : ℕ) → get_or (bytes_high_first k n) i 0 < 256
 small_at zero n i = lit< tt
 small_at (suc k) n zero = byte_small k n
 small_at (suc k) n (suc i) = small_at k n i
 
-long_at : (k n : ℕ) → length (bytes_high_first k n) ≡ k
+-- and as many as were asked for
+pub long_at : (k n : ℕ) → length (bytes_high_first k n) ≡ k
 long_at zero n = refl
 long_at (suc k) n = ap suc (long_at k n)
 
-reads_back : (w : ℕ) → Some (to_be_bytes w128 w) ≡ parsed (id w)
+-- an identifier is read back as the bytes of its word
+pub reads_back : (w : ℕ) → Some (to_be_bytes w128 w) ≡ parsed (id w)
 reads_back w =
     parses_hyphenated lower (to_be_bytes w128 w) (inl refl) (long_at 16 w)
     (All-from_get_or (λ b. b < 256) (to_be_bytes w128 w) 0 (λ i within. small_at 16 w i))

@@ -1,5 +1,6 @@
 pub mod Answer
 pub mod Broker
+pub mod DecimalLaws
 pub mod Duration
 pub mod EditLaws
 pub mod Evolves
@@ -26,6 +27,7 @@ pub mod NewPlaceLaws
 pub mod Operation
 pub mod OptionLaws
 pub mod Path
+pub mod PathLaws
 pub mod PutLaws
 pub mod Refusal
 pub mod Refuse
@@ -34,10 +36,12 @@ pub mod RemovalLaws
 pub mod RequestError
 pub mod SearchLaws
 pub mod Secret
+pub mod SliceLaws
 pub mod Sound
 pub mod Spending
 pub mod SpendingLaws
 pub mod Status
+pub mod TestLaws
 pub mod Text
 pub mod TextLaws
 pub mod Time

@@ -8,10 +8,6 @@ use Rattle.broker_types.specs.Text.{Text, same}
 use Rattle.broker_types.specs.Map.{get, len, keep, without, map_values}
 use Rattle.broker_types.specs.Token.{Token, Tokens, Lease}
 
--- the parent of a token, if it has one
-abbrev pub parent_of : Tokens → Text → Option Text
-parent_of ts t = option_and_then (λ (x : Token). x.parent) (get ts t)
-
 -- t, its parent, its parent's parent and so on, as far as they are tokens, and at most n of them
 abbrev pub climb : ℕ → Tokens → Text → List Text
 climb zero ts t = []

@@ -124,7 +124,8 @@ part_of (suc n) ts q a h u =
           ] h u
     ] refl
 
-all_apart : (q : Text) (xs : List Text) → list_any (same q) xs ≡ false → AllByRecursion (λ y. same q y ≡ false) xs
+-- a text that is not in a list is none of its texts
+pub all_apart : (q : Text) (xs : List Text) → list_any (same q) xs ≡ false → AllByRecursion (λ y. same q y ≡ false) xs
 all_apart q [] e = tt
 all_apart q (x ∷ xs) e =
     elim (same q x)

@@ -1,7 +1,7 @@
 -- Laws of options.
 use Rattle.std.specs.Prelude.{◌≡◌, ◌⊎◌, ◌||◌, Bool, true, false, if◌then◌else◌, Option, Some, None, option_map, is_none}
-use Rattle.std.specs.Prelude.{refl}
-use Rattle.std.proofs.Common.{inl, inr, sym, ap}
+use Rattle.std.specs.Prelude.{is_some, IfSome, IfNone, refl}
+use Rattle.std.proofs.Common.{inl, inr, sym, ap, subst}
 use Rattle.std.proofs.Math.Bool.{or-false}
 use Rattle.std.proofs.lemmas.Bool.{false≢true}
 use Rattle.std.proofs.lemmas.Option.{none-some, same_Some}
@@ -14,6 +14,27 @@ found_or_not (Some x) = inr (x, refl)
 pub is_nothing : {X : Type 0} (o : Option X) → is_none o ≡ true → o ≡ None
 is_nothing None h = refl
 is_nothing (Some x) h = absurd (false≢true h)
+
+-- the same of the other test
+pub not_there : {X : Type 0} (o : Option X) → is_some o ≡ false → o ≡ None
+not_there None h = refl
+not_there (Some x) h = absurd (false≢true (sym h))
+
+pub is_there : {X : Type 0} (o : Option X) → is_some o ≡ true → (x : X) × (o ≡ Some x)
+is_there None h = absurd (false≢true h)
+is_there (Some x) h = (x, refl)
+
+-- what is said of the value of an option, and what if it has none
+pub of_some : {X : Type 0} (P : X → Type 0) (o : Option X) (x : X) → o ≡ Some x → IfSome o P → P x
+of_some P o x is p = subst (λ q. IfSome q P) is p
+
+pub of_none : {X P : Type 0} (o : Option X) → o ≡ None → IfNone o P → P
+of_none None is p = p
+of_none (Some x) is p = absurd (none-some x (sym is))
+
+pub if_none_weaker : {X P Q : Type 0} (o : Option X) → (P → Q) → IfNone o P → IfNone o Q
+if_none_weaker None f p = f p
+if_none_weaker (Some x) f p = tt
 
 -- what one test takes out, and then another
 pub taken_out_twice : {X : Type 0} (a b : Bool) (o : Option X)

@@ -1,10 +1,7 @@
 -- Laws of searches among the entries of a map (this project's).
-use Rattle.std.specs.Prelude.{◌≡◌, List, [], ◌∷◌, Bool, true, false, cond, T, ◌&&◌, Option, Some, None, option_and_then}
+use Rattle.std.specs.Prelude.{◌≡◌, List, [], ◌∷◌, Bool, true, false, cond, T, Option, Some, None, option_and_then}
 use Rattle.std.specs.Prelude.{if◌then◌else◌, All}
 use Rattle.std.specs.List.{find as first}
-use Rattle.std.specs.declared.cmp.Ordering.{Ordering}
-use Rattle.std.specs.declared.cmp.Ordering.TheVariants.{Less, Equal, Greater}
-use Rattle.std.specs.Ordering.{is_lt, is_eq}
 use Rattle.std.specs.FinMap as fin
 use Rattle.std.specs.FinMap.{is_sorted}
 use Rattle.std.specs.Map.{lookup}
@@ -18,27 +15,16 @@ use Rattle.broker_types.specs.Map.{Map, get, entries, keep, first_where}
 use Rattle.broker_types.specs.TextLaws.{same-text_cmp, same_self, same_true}
 use Rattle.broker_types.specs.MapLaws.{get-keep, get-lookup}
 use Rattle.broker_types.specs.OptionLaws.{found_or_not}
-
-left : (a b : Bool) → T (a && b) → T a
-left true b h = tt
-left false b h = absurd h
-
-right : (a b : Bool) → T (a && b) → T b
-right true b h = h
-right false b h = absurd h
-
-less_apart : (o : Ordering) → T (is_lt o) → is_eq o ≡ false
-less_apart Less h = refl
-less_apart Equal h = absurd h
-less_apart Greater h = absurd h
+use Rattle.broker_types.specs.TestLaws.{T_left, T_right, less_apart}
 
 module _ {X : Type 0} where
   -- a key below all keys is not found
   below_none : (k : Text) (es : List (Text × X)) → T (below_all text_cmp k es) → lookup (same k) es ≡ None
   below_none k [] h = refl
   below_none k (e ∷ es) h =
-      ap (λ b. cond b (Some e.1) (lookup (same k) es)) (same-text_cmp k e.0 ∙ less_apart (text_cmp k e.0) (left _ _ h))
-      ∙ below_none k es (right _ _ h)
+      ap (λ b. cond b (Some e.1) (lookup (same k) es)) (same-text_cmp k e.0 ∙ less_apart (text_cmp k e.0)
+      (T_left _ _ h))
+      ∙ below_none k es (T_right _ _ h)
 
   found_is : (p : Text × X → Bool) (es : List (Text × X)) (e : Text × X) → T (is_sorted text_cmp es)
       → first p es ≡ Some e → (lookup (same e.0) es ≡ Some e.1) × (p e ≡ true)
@@ -51,12 +37,12 @@ module _ {X : Type 0} where
             subst (λ z. (lookup (same z.0) (f ∷ es) ≡ Some z.1) × (p z ≡ true)) one
             (ap (λ b. cond b (Some f.1) (lookup (same f.0) es)) (same_self f.0), passes)
         | false ↦ λ fails is.
-            let rest = found_is p es e (right _ _ s) is in (
+            let rest = found_is p es e (T_right _ _ s) is in (
               elim (same e.0 f.0) as (λ b. same e.0 f.0 ≡ b → cond b (Some f.1) (lookup (same e.0) es) ≡ Some e.1) [
                 | true ↦ λ at. absurd
                     (none-some _
                     (sym (subst (λ z. lookup (same z) es ≡ None) (sym (same_true e.0 f.0 at))
-                    (below_none f.0 es (left _ _ s))) ∙ rest.0))
+                    (below_none f.0 es (T_left _ _ s))) ∙ rest.0))
                 | false ↦ λ _. rest.0
               ] refl,
               rest.1,
@@ -81,7 +67,7 @@ module _ {X : Type 0} where
   each_found P [] s h = All-nil P
   each_found P (e ∷ es) s h =
       All-cons P e es (h e.0 e.1 (ap (λ b. cond b (Some e.1) (lookup (same e.0) es)) (same_self e.0)))
-      (each_found P es (right _ _ s) (λ t x is. h t x (still t x is)))
+      (each_found P es (T_right _ _ s) (λ t x is. h t x (still t x is)))
     where
       still : (t : Text) (x : X) → lookup (same t) es ≡ Some x
           → cond (same t e.0) (Some e.1) (lookup (same t) es) ≡ Some x
@@ -90,7 +76,7 @@ module _ {X : Type 0} where
             | true ↦ λ at. absurd
                 (none-some _
                 (sym (subst (λ z. lookup (same z) es ≡ None) (sym (same_true t e.0 at))
-                (below_none e.0 es (left _ _ s))) ∙ is))
+                (below_none e.0 es (T_left _ _ s))) ∙ is))
             | false ↦ λ _. is
           ] refl
 

@@ -19,8 +19,8 @@ use Rattle.broker_types.specs.Broker.{Broker, Waiting, revoke}
 use Rattle.broker_types.specs.IdentifierPlaces.{wrapping_token, token_identifier}
 use Rattle.broker_types.specs.Laws.{EndTokens}
 use Rattle.broker_types.specs.TextLaws.{same_self, same_true}
-use Rattle.broker_types.specs.MapLaws.{valued_is, without_is, get-without_self, get-change}
-use Rattle.broker_types.specs.OptionLaws.{mapped, mapped_none, found_or_not}
+use Rattle.broker_types.specs.MapLaws.{valued_is, without_is, get-without_self}
+use Rattle.broker_types.specs.OptionLaws.{mapped, found_or_not}
 use Rattle.broker_types.specs.TreeLaws.{under_self}
 use Rattle.broker_types.specs.EditLaws.{IsEdit, edit_evolves, edit_sound}
 use Rattle.broker_types.specs.FewerLaws.{WaitFewer, fewer_evolves, edited_sound, fewer_sound, tree_of}
@@ -36,10 +36,6 @@ spend_edits = record {
   same_parent = λ x. refl;
   less = λ x. record { same_accessor = refl; fewer_leases = λ _ _ e. e };
 }
-
--- who spends a use is still there
-pub spent_here : (b : Broker) (t : Text) → get b.tokens t ≢ None → get (spend b t).tokens t ≢ None
-spent_here b t here none = here (mapped_none _ (get b.tokens t) (sym (get-change b.tokens t one_less t) ∙ none))
 
 -- spending a use lets a broker evolve
 pub spend_evolves : (b : Broker) (c : Text) → Evolves b (spend b c)

@@ -1,9 +1,10 @@
 -- Laws of whether two texts are the same.
-use Rattle.std.specs.Prelude.{◌≡◌, true}
+use Rattle.std.specs.Prelude.{◌≡◌, ◌≢◌, true, false}
 use Rattle.std.specs.Cmp.{IsEquivalence, eq_by_cmp_equiv}
 use Rattle.std.specs.Cmp.Lexicographic.{nat_list_cmp_total}
 use Rattle.std.specs.Ordering.{eq_by_cmp}
 use Rattle.std.proofs.Common.{refl, sym, subst}
+use Rattle.std.proofs.lemmas.Bool.{false_from_ne_true}
 use Rattle.std.proofs.lemmas.Slice.Eq.{bytes_eq-Decides}
 use Rattle.std.proofs.lemmas.Map.Text.{is_eq-slice_cmp}
 use Rattle.broker_types.specs.Text.{Text, text_cmp, same}
@@ -22,6 +23,10 @@ same_self a = (bytes_eq-Decides a a).1 refl
 pub same_true : (a b : Text) → same a b ≡ true → a ≡ b
 unfolding same
 same_true a b e = (bytes_eq-Decides a b).0 e
+
+-- texts that differ are not the same
+pub same_false : (a b : Text) → a ≢ b → same a b ≡ false
+same_false a b differ = false_from_ne_true (same a b) (λ e. differ (same_true a b e))
 
 -- to be the same is an equivalence
 pub same_equiv : IsEquivalence same

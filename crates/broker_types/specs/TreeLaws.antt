@@ -1,11 +1,11 @@
 -- Laws of lineages, revocation and expiry: what they find and leave, and that a tree of tokens stays a tree.
-use Rattle.std.specs.Prelude.{◌≡◌, ◌≢◌, ◌<◌, ◌⊎◌, ℕ, zero, suc, List, [], ◌∷◌, Bool, true, false, not, cond, ◌||◌}
-use Rattle.std.specs.Prelude.{nat_lt, if◌then◌else◌, Option, Some, None, is_none, length, option_map, option_and_then}
+use Rattle.std.specs.Prelude.{◌≡◌, ◌≢◌, ◌⊎◌, ℕ, zero, suc, List, [], ◌∷◌, Bool, true, false, not, cond, ◌||◌}
+use Rattle.std.specs.Prelude.{if◌then◌else◌, Option, Some, None, is_none, length, option_map, option_and_then}
 use Rattle.std.specs.List.{list_any, list_all}
 use Rattle.std.specs.Map.{lookup}
 use Rattle.std.specs.FinMap.{len-entries}
 use Rattle.std.proofs.Common.{refl, sym, ◌∙◌, ap, subst, inl, inr}
-use Rattle.std.proofs.lemmas.Bool.{ltb-true, lt-ltb, and_parts, and_from, or_right, false_from_ne_true, false≢true}
+use Rattle.std.proofs.lemmas.Bool.{ltb-true, lt-ltb, and_parts, and_from, or_right, false≢true}
 use Rattle.std.proofs.lemmas.Option.{none-some, same_Some}
 use Rattle.broker_types.specs.Text.{Text, same}
 use Rattle.broker_types.specs.Map.{get, len, entries, map_values, without, keep}
@@ -14,16 +14,13 @@ use Rattle.broker_types.specs.Lineage.{climb, lineage, is_under, ends_within, Pa
 use Rattle.broker_types.specs.Lineage.{is_alive, with_live_leases, alive_at, without_descendants, orphaned_by}
 use Rattle.broker_types.specs.Lineage.{without_parent}
 use Rattle.broker_types.specs.Laws.{IsTree, OutlastsAbove}
-use Rattle.broker_types.specs.TextLaws.{same_self, same_true}
+use Rattle.broker_types.specs.TextLaws.{same_self, same_true, same_false}
 use Rattle.broker_types.specs.MapLaws.{without_is, valued_is, valued_none, get-lookup, get-keep, get-without}
 use Rattle.broker_types.specs.MapLaws.{get-map_values, same_map}
 use Rattle.broker_types.specs.LineageLaws.{ends_above, ends_at, climb_above, climb_at, climb_none, climb_enough}
 use Rattle.broker_types.specs.LineageLaws.{in_climb, ends_in_time, revoke_other}
 use Rattle.broker_types.specs.SearchLaws.{kept_get}
 use Rattle.broker_types.specs.OptionLaws.{found_or_not}
-
-same_false : (a b : Text) → a ≢ b → same a b ≡ false
-same_false a b ne = false_from_ne_true (same a b) (λ e. ne (same_true a b e))
 
 -- ---- lineages
 
@@ -278,12 +275,6 @@ all_from f (x ∷ xs) h =
 abbrev outlasts_end : ℕ → Tokens → Text → Bool
 outlasts_end now ts a = outlasts now (option_and_then (λ (x : Token). x.ends) (get ts a))
 
-later : (now m : ℕ) → nat_lt now m ≡ true → now < m
-later now m h = ltb-true now m h
-
-is_later : (now m : ℕ) → now < m → nat_lt now m ≡ true
-is_later now m h = lt-ltb now m h
-
 -- what is left outlasts now, as does all above it
 pub left_outlasts : (now : ℕ) (ts : Tokens) (t : Text) → get (alive_at now ts) t ≢ None → OutlastsAbove now ts t
 left_outlasts now ts t ne a y m u is ends = elim (found_or_not (get (alive_at now ts) t)) [
@@ -291,7 +282,8 @@ left_outlasts now ts t ne a y m u is ends = elim (found_or_not (get (alive_at no
   | inr z ↦
       let alive = (alive_is now ts t z.0 z.1).2 in
       let at : outlasts_end now ts a ≡ true = all_at (outlasts_end now ts) (lineage ts t) a alive u in
-      later now m (sym (ap (λ o. outlasts now (option_and_then (λ (x : Token). x.ends) o)) is ∙ ap (outlasts now) ends)
+      ltb-true now m (sym (ap (λ o. outlasts now (option_and_then (λ (x : Token). x.ends) o)) is
+      ∙ ap (outlasts now) ends)
       ∙ at)
 ]
 
@@ -305,7 +297,7 @@ outlasting_is_left now ts t x is above =
     by_end : (a : Text) (y : Token) → is_under ts t a ≡ true → get ts a ≡ Some y → (o : Option ℕ) → y.ends ≡ o
         → outlasts now o ≡ true
     by_end a y u at None e = refl
-    by_end a y u at (Some m) e = is_later now m (above a y m u at e)
+    by_end a y u at (Some m) e = lt-ltb now m (above a y m u at e)
 
     one : (a : Text) → is_under ts t a ≡ true → outlasts_end now ts a ≡ true
     one a u = elim (found_or_not (get ts a)) [

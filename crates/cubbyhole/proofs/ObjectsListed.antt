@@ -1,13 +1,10 @@
 -- The paths of a cubbyhole, and the keys of its rows.
-use Rattle.std.specs.Prelude.{◌≡◌, ◌||◌, List, [], ◌∷◌, ◌++◌, length, is_some, Option, Some, None, option_map}
+use Rattle.std.specs.Prelude.{◌≡◌, [], ◌∷◌, ◌++◌, length, is_some, Option, Some, None, option_map}
 use Rattle.std.specs.Prelude.{option_and_then}
-use Rattle.std.specs.List.{list_any}
 use Rattle.std.specs.Option.{option_map_or}
-use Rattle.std.specs.Ordering.{eq_by_cmp}
 use Rattle.std.specs.FinMap.{contains_key-keys}
 use Rattle.std.proofs.Common.{refl, sym, ◌∙◌, ap, append_assoc}
-use Rattle.broker_types.specs.Text.{Text, text_cmp}
-use Rattle.broker_types.specs.TextLaws.{same-text_cmp}
+use Rattle.broker_types.specs.Text.{Text}
 use Rattle.broker_types.specs.Map.{get, keys}
 use Rattle.broker_types.specs.Token.{Token}
 use Rattle.broker_types.specs.Broker.{Broker}
@@ -19,13 +16,10 @@ use Rattle.records.specs.Rows.{token_len}
 use Rattle.records.specs.Splits.{slash}
 use Rattle.records.specs.Table.{table_of}
 use Rattle.records.specs.Transaction.{Rows}
+use Rattle.records.specs.HasLaws.{has_by_order}
 use Rattle.cubbyhole.specs.Cubbyhole.{object_at, paths}
 use Rattle.cubbyhole.specs.Objects.{object_key}
 use Rattle.cubbyhole.proofs.ObjectRows.{row_at}
-
-by_order : (q : Text) (ts : List Text) → has ts q ≡ list_any (eq_by_cmp text_cmp q) ts
-by_order q [] = refl
-by_order q (t ∷ ts) = λ i. same-text_cmp q t i || by_order q ts i
 
 -- a path is among those of the cubbyhole where there is an object
 has-paths : (b : Broker) (t path : Text) → is_some (object_at b t path) ≡ has (paths b t) path
@@ -34,7 +28,7 @@ has-paths b t path = inner (get b.tokens t)
     inner : (o : Option Token) → is_some (option_and_then (λ (x : Token). get x.cubbyhole path) o)
         ≡ has (option_map_or (λ (x : Token). keys x.cubbyhole) o []) path
     inner None = refl
-    inner (Some x) = contains_key-keys x.cubbyhole path ∙ sym (by_order path (keys x.cubbyhole))
+    inner (Some x) = contains_key-keys x.cubbyhole path ∙ sym (has_by_order path (keys x.cubbyhole))
 
 -- a key of t's cubbyhole ends in the path
 pub key_joined : (t path : Text) → object_key t path ≡ object_key t [] ++ path

@@ -1,5 +1,5 @@
 -- Tables that have one cubbyhole of a token in common answer alike.
-use Rattle.std.specs.Prelude.{◌≡◌, List, [], ◌∷◌, ◌++◌, map, length, drop, nat_eq, Bool, true, false, cond, None, T}
+use Rattle.std.specs.Prelude.{◌≡◌, [], ◌∷◌, ◌++◌, map, length, drop, nat_eq, Bool, true, false, cond, None, T}
 use Rattle.std.specs.FinMap as fin
 use Rattle.std.specs.FinMap.{is_sorted, from_sorted}
 use Rattle.std.specs.List.{starts_with}
@@ -11,8 +11,7 @@ use Rattle.broker_types.specs.MapLaws.{entries_are}
 use Rattle.records.specs.declared.kind.Kind.TheVariants as kind
 use Rattle.records.specs.declared.row.Row.{Row}
 use Rattle.records.specs.Children.{folder, children, keys_under}
-use Rattle.records.specs.Kind.{RowKey}
-use Rattle.records.specs.ListedMapLaws.{named, listed-sorted, find-listed}
+use Rattle.records.specs.ListedMapLaws.{named, listed-sorted, find-listed, names_are}
 use Rattle.records.specs.Splits.{slash}
 use Rattle.records.specs.Table.{table_of}
 use Rattle.records.specs.Transaction.{Rows, rows_under}
@@ -30,11 +29,6 @@ within t folder q h =
     let is : q ≡ object_key t (folder ++ rest) = sym (take-append-drop (length prefix) q)
     ∙ ap (λ u. u ++ rest) (sym (same_true prefix _ h)) ∙ append_assoc t (slash ∷ folder) rest in
     ap (λ z. starts_with nat_eq z (object_key t [])) is ∙ begins t (folder ++ rest)
-
--- the keys of listed rows
-keys_are : (es : List (RowKey × Row)) → map (λ (e : RowKey × Row). e.0.1) es ≡ map (λ (e : Text × Row). e.0) (named es)
-keys_are [] = refl
-keys_are (e ∷ es) = ap (λ z. e.0.1 ∷ z) (keys_are es)
 
 module _ (rows others : Rows) (prefix : Text)
     (alike : (q : Text) → starts_with nat_eq q prefix ≡ true
@@ -58,8 +52,8 @@ module _ (rows others : Rows) (prefix : Text)
 
   pub same_keys : keys_under rows kind.Cubby prefix ≡ keys_under others kind.Cubby prefix
   same_keys =
-      keys_are (rows_under rows kind.Cubby prefix) ∙ ap (map (λ (e : Text × Row). e.0)) same_listed
-      ∙ sym (keys_are (rows_under others kind.Cubby prefix))
+      names_are (rows_under rows kind.Cubby prefix) ∙ ap (map (λ (e : Text × Row). e.0)) same_listed
+      ∙ sym (names_are (rows_under others kind.Cubby prefix))
 
 -- each folder has the same children
 pub listed_alike : (rows others : Rows) (t path : Text) → HaveOneCubbyhole t (table_of rows) (table_of others)

@@ -1,8 +1,9 @@
 -- What each cubbyhole has after an edit, object by object.
-use Rattle.std.specs.Prelude.{◌≡◌, ◌≢◌, ◌&&◌, Bool, true, false, cond, if◌then◌else◌, Option, Some, None, option_map}
+use Rattle.std.specs.Prelude.{◌≡◌, ◌≢◌, ◌&&◌, Bool, true, false, if◌then◌else◌, Option, Some, None, option_map}
 use Rattle.std.specs.Prelude.{option_and_then}
 use Rattle.std.specs.FinMap.{get-empty}
 use Rattle.std.proofs.Common.{refl, sym, ◌∙◌, ap}
+use Rattle.records.specs.TableLaws.{chosen}
 use Rattle.broker_types.specs.Text.{Text, text_cmp, same}
 use Rattle.broker_types.specs.Map.{Map, get, empty, put, without}
 use Rattle.broker_types.specs.Token.{Token}
@@ -10,10 +11,6 @@ use Rattle.broker_types.specs.Broker.{Broker}
 use Rattle.broker_types.specs.TextLaws.{same_true}
 use Rattle.broker_types.specs.MapLaws.{get-put, get-without, get-change}
 use Rattle.cubbyhole.specs.Cubbyhole.{object_at, with_cubbyhole, edited, write, delete, drop_owner}
-
-chosen : {X : Type 0} (v : Bool) (x y : X) → cond v x y ≡ (if v then x else y)
-chosen true x y = refl
-chosen false x y = refl
 
 module _ (b : Broker) (t : Text) where
   -- the objects of a token whose cubbyhole is edited are those of the edited map

@@ -1,21 +1,15 @@
 -- The fields with one name, one field after another.
 use Rattle.std.proofs.Common.{◌≡◌, ◌<◌, ℕ, Bool, true, false, cond, List, [], ◌∷◌, ◌++◌, length, map, get_or, refl, sym}
 use Rattle.std.proofs.Common.{ap, ◌∙◌}
-use Rattle.std.specs.Prelude.{filter, ◌||◌}
 use Rattle.std.specs.List.{list_any}
-use Rattle.std.proofs.lemmas.List.{map-append, append-nil}
-use Rattle.std.proofs.lemmas.List.Elements.{filter-append}
+use Rattle.std.proofs.lemmas.List.{append-nil}
 use Rattle.std.proofs.lemmas.List.Folds.{list_any_at}
+use Rattle.broker_types.specs.ListLaws.{any_mapped}
 use Rattle.http_layer.specs.HeadParts.{HeadField, is_named, values_named}
 use Rattle.http_layer.specs.Named.{AreNamed}
 use Rattle.http_layer.specs.declared.fields.Named.{Named}
 use Rattle.http_layer.specs.declared.fields.Named.TheVariants.{Absent, Once, Several}
-
-values_named-append : (name : List ℕ) (fields more : List HeadField)
-    → values_named name (fields ++ more) ≡ values_named name fields ++ values_named name more
-values_named-append name fields more =
-    ap (map (λ (f : HeadField). f.1)) (filter-append (is_named name) fields more)
-    ∙ map-append (λ (f : HeadField). f.1) (filter (is_named name) fields) (filter (is_named name) more)
+use Rattle.http_layer.specs.HeadPartsLaws.{values_named-append}
 
 pub values_named-hit : (name : List ℕ) (fields : List HeadField) (f : HeadField) → is_named name f ≡ true
     → values_named name (fields ++ f ∷ []) ≡ values_named name fields ++ f.1 ∷ []
@@ -39,13 +33,8 @@ AreNamed-several values (Once w) v are some = (w.now, v, [], ap (λ (l : List (L
 AreNamed-several values Several v (a, b, rest, is) some =
     (a, b, rest ++ v ∷ [], ap (λ (l : List (List ℕ)). l ++ v ∷ []) is)
 
-list_any-map : {X Y : Type 0} (p : Y → Bool) (f : X → Y) (xs : List X)
-    → list_any p (map f xs) ≡ list_any (λ x. p (f x)) xs
-list_any-map p f [] = refl
-list_any-map p f (x ∷ xs) = ap (λ (b : Bool). p (f x) || b) (list_any-map p f xs)
-
 -- one element settles the answer
 pub list_any-map_at : {X Y : Type 0} (p : Y → Bool) (f : X → Y) (xs : List X) (i : ℕ) (d : X) → i < length xs
     → p (f (get_or xs i d)) ≡ true
     → true ≡ list_any p (map f xs)
-list_any-map_at p f xs i d inside is = sym (list_any-map p f xs ∙ list_any_at (λ x. p (f x)) xs i d inside is)
+list_any-map_at p f xs i d inside is = sym (any_mapped p f xs ∙ list_any_at (λ x. p (f x)) xs i d inside is)

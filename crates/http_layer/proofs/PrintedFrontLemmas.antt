@@ -1,5 +1,5 @@
 -- A request that is printed is the front of its bytes.
-use Rattle.std.proofs.Common.{◌≡◌, refl, ℕ, ◌+◌, ◌-◌, ◌<◌, ◌≤◌, ◌&&◌, Bool, true, cond, List, [], ◌∷◌, ◌++◌, length}
+use Rattle.std.proofs.Common.{◌≡◌, refl, ℕ, ◌+◌, ◌-◌, ◌<◌, ◌≤◌, Bool, true, cond, List, [], ◌++◌, length}
 use Rattle.std.proofs.Common.{take, codes}
 use Rattle.std.proofs.Common.{decimal, slice_range, Ok, Err, Result, nat_le, nat_lt, sym, ap, ◌∙◌, subst, arith}
 use Rattle.std.proofs.Common.{append-nil, length-append, add-sub_of_le}
@@ -8,13 +8,12 @@ use Rattle.std.proofs.lemmas.List.{take_all}
 use Rattle.std.proofs.lemmas.Bool.{le-leb, and_from}
 use Rattle.std.proofs.lemmas.Bool.Decides.{nat_tests}
 use Rattle.std.proofs.lemmas.Fmt.{decimal_is_IsNumeral}
-use Rattle.std.specs.Char.{is_ascii_digit, digit_value}
-use Rattle.std.specs.List.{list_all}
-use Rattle.std.specs.Str.Parse.{AllDigits, digits_value}
+use Rattle.std.specs.Str.Parse.{digits_value}
 use Rattle.httparse.specs.Grammar.{print_request}
 use Rattle.broker_types.specs.Limits.{longest_body}
 use Rattle.broker_types.specs.declared.status.Status.{Status}
 use Rattle.broker_types.specs.declared.status.Status.TheVariants.{BadRequest, PayloadTooLarge, NotImplemented}
+use Rattle.broker_types.specs.DecimalLaws.{digits_all}
 use Rattle.http_layer.specs.HeadParts.{HeadParts, IsHead, parts_of, values_named}
 use Rattle.http_layer.specs.Front.{whole, need, read, HeadEnds, window, longest_head, IsFront, front_of_body}
 use Rattle.http_layer.specs.Front.{body_length, content_length}
@@ -26,13 +25,6 @@ use Rattle.http_layer.proofs.PrintedLemmas.{printed_ends}
 
 -- ---- the length of the body
 
-digit_is : (c : ℕ) → digit_value c < 10 → is_ascii_digit c ≡ true
-digit_is c small = grind (arith, nat_tests)
-
-digits_are : (s : List ℕ) → AllDigits 10 s → list_all is_ascii_digit s ≡ true
-digits_are [] h = refl
-digits_are (c ∷ cs) h = ap (λ (b : Bool). b && list_all is_ascii_digit cs) (digit_is c h.0) ∙ digits_are cs h.1
-
 -- the length that a number tells
 abbrev of_value : ℕ → Result ℕ Status
 of_value m = cond (nat_le m longest_body) (Ok m) (Err PayloadTooLarge)
@@ -42,7 +34,7 @@ pub printed_length : PrintedLengthIsRead
 printed_length n short =
     let is = decimal_is_IsNumeral n (omega (arith, short)) in
     let number : is_number (decimal n) ≡ true =
-    and_from _ _ (some (length (decimal n)) is.0.0) (digits_are (decimal n) is.0.1) in
+    and_from _ _ (some (length (decimal n)) is.0.0) (digits_all (decimal n) is.0.1) in
     ap (λ (b : Bool). cond b (of_value (digits_value 10 (decimal n))) (Err BadRequest)) number
     ∙ ap of_value is.1
     ∙ ap (λ (b : Bool). cond b (Ok n) (Err PayloadTooLarge)) (le-leb n longest_body short)

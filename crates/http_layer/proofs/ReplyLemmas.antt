@@ -1,8 +1,8 @@
 -- Replies: texts that are added one after another.
-use Rattle.std.proofs.Common.{◌≡◌, ℕ, ◌≤◌, List, [], ◌++◌, length, refl, ap, ◌∙◌, arith, append_assoc, decimal, codes}
+use Rattle.std.proofs.Common.{◌≡◌, ℕ, List, [], ◌++◌, refl, ap, ◌∙◌, append_assoc, decimal, codes}
 use Rattle.broker_types.specs.declared.status.Status.{Status}
 use Rattle.broker_types.specs.declared.status.Status.TheVariants as is
-use Rattle.http_layer.specs.Reply.{phrase_of, body_lines, crlf}
+use Rattle.http_layer.specs.Reply.{body_lines, crlf}
 
 -- ---- texts that are added one after another
 
@@ -22,18 +22,6 @@ appended_5 h a b c d e x1 x2 x3 x4 x5 p1 p2 p3 p4 p5 =
   where
     regroup : ((((h ++ a) ++ b) ++ c) ++ d) ++ e ≡ h ++ ((((a ++ b) ++ c) ++ d) ++ e)
     regroup = simp append_assoc
-
-pub phrase_length : (s : Status) → length (phrase_of s) ≤ 31
-phrase_length is.Success = omega arith
-phrase_length is.NoContent = omega arith
-phrase_length is.BadRequest = omega arith
-phrase_length is.Forbidden = omega arith
-phrase_length is.NotFound = omega arith
-phrase_length is.MethodNotAllowed = omega arith
-phrase_length is.PayloadTooLarge = omega arith
-phrase_length is.HeaderFieldsTooLarge = omega arith
-phrase_length is.InternalServerError = omega arith
-phrase_length is.NotImplemented = omega arith
 
 -- the fields on a body that has a type
 abbrev pub typed_lines : ℕ → List ℕ

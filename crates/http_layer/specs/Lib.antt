@@ -5,6 +5,7 @@ pub mod Front
 pub mod FrontLaws
 pub mod HeadEndLaws
 pub mod HeadParts
+pub mod HeadPartsLaws
 pub mod Laws
 pub mod ListedRefusalLaws
 pub mod ListedRefusals

@@ -8,7 +8,7 @@ use Rattle.broker_types.specs.Text.{Text, same}
 use Rattle.broker_types.specs.Map.{Map, get, put, without}
 use Rattle.broker_types.specs.MapLaws.{get-put, get-without}
 use Rattle.broker_types.specs.Broker.{Mount}
-use Rattle.broker_types.specs.Refuse.{◌>>=◌, unless}
+use Rattle.broker_types.specs.Refuse.{◌>>=◌}
 use Rattle.broker_types.specs.RequestError.{EndsOk}
 use Rattle.broker_types.specs.declared.refusal.Refusal.{Refusal}
 use Rattle.records.specs.declared.kind.Kind.{Kind}
@@ -21,11 +21,6 @@ use Rattle.records.specs.RowReaders.{IsSomeIn}
 use Rattle.records.specs.RowForms.{mount_row}
 use Rattle.records.specs.Table.{Table, with_row, without_row}
 use Rattle.mounts.specs.MountRows.{IsMountAt, AreMounts}
-
--- a test that passed, and then the value
-pub ends_unless : {X Y : Type 0} (b : Bool) (r : Refusal) (P : X → Y → Type 0) (x : X) (y : Y) → b ≡ true → P x y
-    → EndsOk P x (unless b r >>= (λ _. Ok y))
-ends_unless b r P x y passes p = subst (λ v. EndsOk P x (unless v r >>= (λ _. Ok y))) (sym passes) p
 
 -- ---- rows of other kinds
 

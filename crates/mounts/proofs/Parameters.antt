@@ -14,6 +14,7 @@ use Rattle.broker_types.specs.declared.ask.Verb.{Verb}
 use Rattle.broker_types.specs.declared.refusal.Refusal.TheVariants as refusal
 use Rattle.records.specs.Splits.{slash}
 use Rattle.records.specs.ValueLaws.{ok_inj}
+use Rattle.records.specs.PrefixLaws.{begun}
 use Rattle.mounts.specs.declared.operation.Operation.{Operation}
 use Rattle.mounts.specs.Forms.{Ending, nothing, segment, segments, form_of, is_ending, is_literal, ends_segment}
 use Rattle.mounts.specs.Forms.{has_parameter, parameter, are_bytes}
@@ -23,7 +24,6 @@ use Rattle.mounts.specs.Route.{Route, operation_for, methods_of, route_by}
 use Rattle.mounts.specs.RouteRow.{RouteRow}
 use Rattle.mounts.proofs.FormPatterns.{found_by_form}
 use Rattle.mounts.proofs.PathParts.{IsRest, rest_is_path}
-use Rattle.mounts.proofs.RouteSteps.{begun}
 
 -- ---- bytes
 

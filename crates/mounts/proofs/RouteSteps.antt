@@ -1,11 +1,7 @@
 -- The route of a path, step by step.
-use Rattle.std.specs.Prelude.{◌≡◌, ◌++◌, List, nat_eq, length, drop, take, true, Option, Some, None, Result, Ok, Err, ⊤}
-use Rattle.std.specs.List.{starts_with}
+use Rattle.std.specs.Prelude.{◌≡◌, List, Option, Some, None, Result, Ok, Err, ⊤}
 use Rattle.std.proofs.Common.{refl, sym, ◌∙◌, ap, subst}
-use Rattle.std.proofs.Math.Seq.{take-append_seam}
-use Rattle.std.proofs.lemmas.List.{take-append-drop}
-use Rattle.broker_types.specs.Text.{Text, same}
-use Rattle.broker_types.specs.TextLaws.{same_self, same_true}
+use Rattle.broker_types.specs.Text.{Text}
 use Rattle.broker_types.specs.Broker.{Mount}
 use Rattle.broker_types.specs.Refuse.{◌>>=◌, some_or}
 use Rattle.broker_types.specs.RequestError.{EndsOk, EndsRefused}
@@ -53,16 +49,3 @@ module _ (rows : List RouteRow) (v : Verb) (name rest : Text) where
   pub within_some : (pattern : Text) → pattern_found rows rest ≡ Some pattern
       → within rows v name rest ≡ route_by rows v name rest pattern
   within_some pattern h = ap (λ z. some_or refusal.NotFound z >>= route_by rows v name rest) h
-
--- ---- the parameter
-
-pub begins_with : (prefix q rest : Text) → q ≡ prefix ++ rest → starts_with nat_eq q prefix ≡ true
-unfolding same
-begins_with prefix q rest e = ap (λ z. same prefix (take (length prefix) z)) e
-    ∙ ap (same prefix) (take-append_seam prefix rest) ∙ same_self prefix
-
-pub begun : (prefix q : Text) → starts_with nat_eq q prefix ≡ true → q ≡ prefix ++ drop (length prefix) q
-unfolding same
-begun prefix q h =
-    sym (take-append-drop (length prefix) q) ∙ ap (λ u. u ++ drop (length prefix) q)
-    (sym (same_true prefix (take (length prefix) q) h))

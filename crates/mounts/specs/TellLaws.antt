@@ -1,31 +1,23 @@
 -- The rows of mounts that a broker has tell its mounts, and they alone do (this project's).
-use Rattle.std.specs.Prelude.{◌≡◌, option_map}
 use Rattle.std.proofs.Common.{refl, sym, ◌∙◌}
 use Rattle.std.proofs.lemmas.Bool.{false≢true}
-use Rattle.broker_types.specs.Text.{Text}
-use Rattle.broker_types.specs.Map.{get}
 use Rattle.broker_types.specs.Broker.{Broker}
 use Rattle.broker_types.specs.Sound.{SoundMounts}
 use Rattle.records.specs.declared.kind.Kind.TheVariants as kind
 use Rattle.records.specs.Parts.{of_mounts, Tells}
-use Rattle.records.specs.RowForms.{mount_row}
-use Rattle.records.specs.Rows.{rows_of}
 use Rattle.records.specs.Table.{Table}
+use Rattle.records.specs.PartLaws.{mount_rows}
 use Rattle.mounts.specs.MountRows.{AreMounts}
-
-mount_at : (b : Broker) (name : Text) → rows_of b kind.Mount name ≡ option_map mount_row (get b.mounts name)
-unfolding rows_of
-mount_at b name = refl
 
 module _ (rows : Table) (b : Broker) where
   -- the rows of a sound broker's mounts are those of its mounts
   pub mounts_told : SoundMounts b.mounts → Tells of_mounts rows b → AreMounts rows b.mounts
   mounts_told sound told name =
-      record { in_range = λ m is. (sound name m is).max_versions; row = told kind.Mount name refl ∙ mount_at b name }
+      record { in_range = λ m is. (sound name m is).max_versions; row = told kind.Mount name refl ∙ mount_rows b name }
 
   -- rows that are those of the broker's mounts are the broker's
   pub told_mounts : AreMounts rows b.mounts → Tells of_mounts rows b
-  told_mounts are kind.Mount name inside = (are name).row ∙ sym (mount_at b name)
+  told_mounts are kind.Mount name inside = (are name).row ∙ sym (mount_rows b name)
   told_mounts are kind.Clock name inside = absurd (false≢true inside)
   told_mounts are kind.Used name inside = absurd (false≢true inside)
   told_mounts are kind.Token name inside = absurd (false≢true inside)

@@ -4,11 +4,8 @@ use Rattle.std.specs.Prelude.{Bool, true, false, not}
 use Rattle.std.specs.Prelude.{cond, if◌then◌else◌}
 use Rattle.std.specs.List.{starts_with, position_or_len, prefix_len, before_first}
 use Rattle.std.proofs.Common.{refl, sym, ◌∙◌, ap, arith}
-use Rattle.std.proofs.Math.Seq.{take-append_seam}
 use Rattle.std.proofs.lemmas.Bool.{eqb-true}
-use Rattle.std.proofs.lemmas.List.{take-append-drop}
-use Rattle.broker_types.specs.Text.{Text, same}
-use Rattle.broker_types.specs.TextLaws.{same_self, same_true}
+use Rattle.broker_types.specs.Text.{Text}
 use Rattle.records.specs.Children.{child, past, below, push_once, push_each}
 use Rattle.records.specs.Splits.{slash}
 
@@ -107,17 +104,6 @@ push_more prefix q qs texts =
     ∙ push_each-append texts (map child (below prefix (q ∷ []))) (map child (below prefix qs))
 
 -- ---- a key that begins with the prefix, or not
-
-pub begins_with : (prefix q rest : Text) → q ≡ prefix ++ rest → starts_with nat_eq q prefix ≡ true
-unfolding same
-begins_with prefix q rest e = ap (λ z. same prefix (take (length prefix) z)) e
-    ∙ ap (same prefix) (take-append_seam prefix rest) ∙ same_self prefix
-
-pub begun : (prefix q : Text) → starts_with nat_eq q prefix ≡ true → q ≡ prefix ++ drop (length prefix) q
-unfolding same
-begun prefix q h =
-    sym (take-append-drop (length prefix) q) ∙ ap (λ u. u ++ drop (length prefix) q)
-    (sym (same_true prefix (take (length prefix) q) h))
 
 pub below_one : (prefix q : Text) → starts_with nat_eq q prefix ≡ true
     → below prefix (q ∷ []) ≡ drop (length prefix) q ∷ []

@@ -15,16 +15,18 @@ use Rattle.std.proofs.lemmas.Bool.{and_parts, false≢true, eqb-true}
 use Rattle.std.proofs.lemmas.List.{take-append-drop, take_all, length-map, length-take}
 use Rattle.broker_types.specs.Text.{Text, text_cmp, same}
 use Rattle.broker_types.specs.TextLaws.{same_self, same_true}
+use Rattle.broker_types.specs.TestLaws.{is_less, T_true}
 use Rattle.records.specs.declared.kind.Kind.{Kind}
 use Rattle.records.specs.declared.row.Row.{Row}
 use Rattle.records.specs.Kind.{RowKey, is_of_kind}
 use Rattle.records.specs.Children.{child, past, below, is_text, push_once, push_each}
-use Rattle.records.specs.ListedMapLaws.{named, listed-sorted}
+use Rattle.records.specs.ListedMapLaws.{named, listed-sorted, names_are}
 use Rattle.records.specs.Splits.{slash}
 use Rattle.records.specs.Transaction.{Rows, rows_under, rows_from}
-use Rattle.records.proofs.ChildLemmas.{begun, below_one, push_more}
-use Rattle.records.proofs.ListedKeys.{names_are}
-use Rattle.records.proofs.ChildrenInOrder.{after_prefix, last_is, less_true, T_true}
+use Rattle.records.proofs.ChildLemmas.{below_one, push_more}
+use Rattle.records.proofs.ChildrenInOrder.{last_is}
+use Rattle.records.specs.PageLaws.{not_below_none}
+use Rattle.records.specs.PrefixLaws.{begun, after_prefix}
 
 -- ---- paths, and what is past their first parts
 
@@ -38,13 +40,9 @@ past_above (c ∷ a) =
       | false ↦ λ _. ap (λ o. ordering_then o (text_cmp a (past a))) (tied_itself nat_cmp_total c) ∙ past_above a
     ] refl
 
-at_least_none : (b : Text) → is_ge (text_cmp b []) ≡ true
-at_least_none [] = refl
-at_least_none (e ∷ b) = refl
-
 not_under : (d : ℕ) (b : Text) (o : Ordering) → nat_cmp d 0 ≡ o → is_ge (ordering_then o (text_cmp b [])) ≡ false → ⊥
 not_under d b Less is h = let low : d < 0 = grind (arith, is) in omega (arith, low)
-not_under d b Equal is h = false≢true (sym h ∙ at_least_none b)
+not_under d b Equal is h = false≢true (sym h ∙ not_below_none b)
 not_under d b Greater is h = false≢true (sym h)
 
 -- a path above another that is not past its first part has the same one
@@ -77,7 +75,7 @@ same_child (c ∷ a) (d ∷ b) less low =
     under_it : (o : Ordering) → nat_cmp d (slash + 1) ≡ o → is_ge (ordering_then o (text_cmp b [])) ≡ false
         → d < slash + 1
     under_it Less is h = grind (arith, is)
-    under_it Equal is h = absurd (false≢true (sym h ∙ at_least_none b))
+    under_it Equal is h = absurd (false≢true (sym h ∙ not_below_none b))
     under_it Greater is h = absurd cc
 
     here : (c == slash) ≡ true → is_ge (text_cmp (d ∷ b) ((slash + 1) ∷ [])) ≡ false → child (d ∷ b) ≡ c ∷ []
@@ -153,7 +151,7 @@ climbs_after (k ∷ ks) more h = climbs_after ks more h.1
 below_climbs : {X : Type 0} (k : Text) (es : List (Text × X)) → below_all text_cmp k es ≡ true
     → AllByRecursion (λ q. text_cmp k q ≡ Less) (map (λ e. e.0) es)
 below_climbs k [] h = tt
-below_climbs k (e ∷ es) h = let parts = and_parts _ _ h in (less_true _ parts.0, below_climbs k es parts.1)
+below_climbs k (e ∷ es) h = let parts = and_parts _ _ h in (is_less _ parts.0, below_climbs k es parts.1)
 
 sorted_climbs : {X : Type 0} (es : List (Text × X)) → is_sorted text_cmp es ≡ true → Climbs (map (λ e. e.0) es)
 sorted_climbs [] h = tt

@@ -1,26 +1,26 @@
 -- The children of keys in order are the set of them.
 use Rattle.std.specs.Prelude.{◌≡◌, ◌-◌, ◌⊎◌, ◌==◌, List, [], ◌∷◌, ◌++◌, map, filter, drop, length, slice_get, nat_eq}
-use Rattle.std.specs.Prelude.{Bool, true, false, cond}
-use Rattle.std.specs.Prelude.{if◌then◌else◌, Some, T, ⊤}
-use Rattle.std.specs.declared.cmp.Ordering.{Ordering}
+use Rattle.std.specs.Prelude.{true, false, cond}
+use Rattle.std.specs.Prelude.{if◌then◌else◌, Some, ⊤}
 use Rattle.std.specs.declared.cmp.Ordering.TheVariants.{Less, Equal, Greater}
 use Rattle.std.specs.List.{starts_with}
-use Rattle.std.specs.Ordering.{nat_cmp, is_lt, is_eq, ordering_then}
-use Rattle.std.specs.Cmp.{nat_cmp_total, tied_itself}
+use Rattle.std.specs.Ordering.{nat_cmp, is_eq, ordering_then}
+use Rattle.std.specs.Cmp.{tied_itself}
 use Rattle.std.specs.Cmp.Lexicographic.{nat_list_cmp_total}
 use Rattle.std.specs.FinMap as fin
 use Rattle.std.specs.FinMap.{is_sorted, put}
 use Rattle.std.specs.FinMap.Entries.{below_all, by_order}
 use Rattle.std.proofs.Common.{refl, sym, ◌∙◌, ap, append_assoc, arith, inl, inr, length-append}
 use Rattle.std.proofs.Math.Seq.{get_or-append_seam}
-use Rattle.std.proofs.lemmas.Bool.{and_parts, false≢true}
+use Rattle.std.proofs.lemmas.Bool.{and_parts}
 use Rattle.std.proofs.lemmas.List.{nil_from_length}
 use Rattle.std.proofs.lemmas.Option.{slice_get-get_or}
 use Rattle.broker_types.specs.Text.{Text, text_cmp, same}
 use Rattle.broker_types.specs.TextLaws.{same-text_cmp, same_self}
+use Rattle.broker_types.specs.TestLaws.{is_less}
 use Rattle.records.specs.Children.{child, below, children, children_in_order, member, set_of, is_text, push_each}
 use Rattle.records.specs.Splits.{slash}
-use Rattle.records.proofs.ChildLemmas.{begun}
+use Rattle.records.specs.PrefixLaws.{after_prefix, begun}
 
 -- ---- texts one after another, each once where equal ones stand together
 
@@ -127,25 +127,11 @@ child_order (c ∷ x) (d ∷ y) h =
 
 -- ---- what follows a prefix is in the same order
 
-pub after_prefix : (prefix a b : Text) → text_cmp (prefix ++ a) (prefix ++ b) ≡ text_cmp a b
-after_prefix [] a b = refl
-after_prefix (c ∷ prefix) a b = ap (λ o. ordering_then o (text_cmp (prefix ++ a) (prefix ++ b)))
-    (tied_itself nat_cmp_total c) ∙ after_prefix prefix a b
-
 dropped_order : (prefix a b : Text) → starts_with nat_eq a prefix ≡ true → starts_with nat_eq b prefix ≡ true
     → text_cmp a b ≡ Less → text_cmp (drop (length prefix) a) (drop (length prefix) b) ≡ Less
 dropped_order prefix a b ha hb less =
     sym (after_prefix prefix (drop (length prefix) a) (drop (length prefix) b))
     ∙ sym (λ i. text_cmp (begun prefix a ha i) (begun prefix b hb i)) ∙ less
-
-pub less_true : (o : Ordering) → is_lt o ≡ true → o ≡ Less
-less_true Less h = refl
-less_true Equal h = absurd (false≢true h)
-less_true Greater h = absurd (false≢true h)
-
-pub T_true : (b : Bool) → T b → b ≡ true
-T_true true t = refl
-T_true false t = absurd t
 
 module _ {X : Type 0} (prefix : Text) where
   abbrev names_of : List (Text × X) → List Text
@@ -165,7 +151,7 @@ module _ {X : Type 0} (prefix : Text) where
       (filter (λ q. starts_with nat_eq q prefix) (names_of es)))))) [
         | true ↦ λ is. (
           child_order (drop (length prefix) last) (drop (length prefix) e.0)
-              (dropped_order prefix last e.0 begins is (less_true _ lows.0)),
+              (dropped_order prefix last e.0 begins is (is_less _ lows.0)),
           rises_below e.0 es is sorts.0 sorts.1,
         )
         | false ↦ λ _. rises_below last es begins lows.1 sorts.1

@@ -7,38 +7,19 @@ use Rattle.std.specs.Cmp.Lexicographic.{nat_list_cmp_total}
 use Rattle.std.specs.FinMap as fin
 use Rattle.std.specs.FinMap.Entries.{is_some-find}
 use Rattle.std.proofs.Common.{refl, sym, ◌∙◌, ap, append_assoc}
-use Rattle.std.proofs.lemmas.Bool.{and_parts, and_from, or_right, false≢true}
+use Rattle.std.proofs.lemmas.Bool.{and_parts, and_from, false≢true}
 use Rattle.std.proofs.Math.Seq.{drop-append_seam}
-use Rattle.broker_types.specs.Text.{Text, text_cmp, same}
-use Rattle.broker_types.specs.TextLaws.{same-text_cmp, same_self, same_true}
+use Rattle.std.specs.Cmp.{both_ways}
+use Rattle.broker_types.specs.Text.{Text, text_cmp}
+use Rattle.broker_types.specs.TextLaws.{same-text_cmp}
 use Rattle.broker_types.specs.MapLaws.{same_map}
 use Rattle.records.specs.declared.kind.Kind.{Kind}
 use Rattle.records.specs.declared.row.Row.{Row}
 use Rattle.records.specs.Children.{child, below, children, member, set_of, has, keys_under, AreNames}
 use Rattle.records.specs.Transaction.{Rows, rows_under}
-use Rattle.records.proofs.ChildLemmas.{begun, begins_with}
-use Rattle.records.specs.ListedMapLaws.{named, find-listed}
-use Rattle.records.proofs.ListedKeys.{names_are}
-
--- ---- a text of a list that passes
-
-any_found : (p : Text → Bool) (ts : List Text) → list_any p ts ≡ true → (t : Text) × (has ts t ≡ true) × (p t ≡ true)
-any_found p [] h = absurd (false≢true h)
-any_found p (t ∷ ts) h =
-    elim (p t) as (λ v. p t ≡ v → (v || list_any p ts) ≡ true → (u : Text) × (has (t ∷ ts) u ≡ true) × (p u ≡ true)) [
-      | true ↦ λ is _. (t, ap (λ v. v || list_any (same t) ts) (same_self t), is)
-      | false ↦ λ _ later.
-          let f = any_found p ts later in
-          (f.0, or_right (same f.0 t) (has ts f.0) f.1, f.2)
-    ] refl h
-
-any_from : (p : Text → Bool) (ts : List Text) (t : Text) → has ts t ≡ true → p t ≡ true → list_any p ts ≡ true
-any_from p [] t h is = absurd (false≢true h)
-any_from p (u ∷ ts) t h is =
-    elim (same t u) as (λ v. same t u ≡ v → (v || has ts t) ≡ true → (p u || list_any p ts) ≡ true) [
-      | true ↦ λ at _. ap (λ v. v || list_any p ts) (ap p (sym (same_true t u at)) ∙ is)
-      | false ↦ λ _ later. or_right (p u) (list_any p ts) (any_from p ts t later is)
-    ] refl h
+use Rattle.records.specs.ListedMapLaws.{named, find-listed, names_are}
+use Rattle.records.specs.HasLaws.{any_found, any_from}
+use Rattle.records.specs.PrefixLaws.{begins_with, begun}
 
 -- ---- whether a child is among the children
 
@@ -75,11 +56,6 @@ same_unit None (Some u) h = absurd (false≢true h)
 same_unit (Some u) None h = absurd (false≢true (sym h))
 same_unit (Some u) (Some v) h = refl
 
-implied_both : (a b : Bool) → (a ≡ true → b ≡ true) → (b ≡ true → a ≡ true) → a ≡ b
-implied_both true b f g = sym (f refl)
-implied_both false true f g = g refl
-implied_both false false f g = refl
-
 -- ---- texts with the same rests
 
 module _ (outer folder : Text) (keys paths : List Text)
@@ -101,7 +77,7 @@ module _ (outer folder : Text) (keys paths : List Text)
   same_children = ap fin.keys
       (same_map (set_of (map child (below (outer ++ folder) keys))) (set_of (map child (below folder paths))) (λ q.
       same_unit _ _ (some-get (outer ++ folder) q keys
-      ∙ implied_both _ _ (moved (outer ++ folder) folder keys paths q back)
+      ∙ both_ways _ _ (moved (outer ++ folder) folder keys paths q back)
       (moved folder (outer ++ folder) paths keys q there)
       ∙ sym (some-get folder q paths))))
 

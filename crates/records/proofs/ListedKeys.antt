@@ -1,23 +1,15 @@
 -- The children of what is listed.
-use Rattle.std.specs.Prelude.{◌≡◌, List, [], ◌∷◌, map, Bool, true, false, T}
-use Rattle.std.proofs.Common.{refl, sym, ◌∙◌, ap}
+use Rattle.std.specs.Prelude.{◌≡◌, map}
+use Rattle.std.proofs.Common.{sym, ◌∙◌, ap}
 use Rattle.broker_types.specs.Text.{Text}
+use Rattle.broker_types.specs.TestLaws.{T_true}
 use Rattle.records.specs.declared.kind.Kind.{Kind}
 use Rattle.records.specs.declared.row.Row.{Row}
 use Rattle.records.specs.Kind.{RowKey}
 use Rattle.records.specs.Transaction.{Rows, rows_under}
 use Rattle.records.specs.Children.{children, children_in_order}
-use Rattle.records.specs.ListedMapLaws.{named, listed-sorted}
+use Rattle.records.specs.ListedMapLaws.{named, listed-sorted, names_are}
 use Rattle.records.proofs.ChildrenInOrder.{children_ordered}
-
-pub names_are : (es : List (RowKey × Row))
-    → map (λ (e : RowKey × Row). e.0.1) es ≡ map (λ (e : Text × Row). e.0) (named es)
-names_are [] = refl
-names_are (e ∷ es) = ap (λ z. e.0.1 ∷ z) (names_are es)
-
-T_true : (b : Bool) → T b → b ≡ true
-T_true true t = refl
-T_true false t = absurd t
 
 -- the children of what is listed are the set of them
 pub listed_children : (rows : Rows) (kind : Kind) (under prefix : Text)

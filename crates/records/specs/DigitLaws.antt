@@ -1,13 +1,14 @@
 -- Numbers in twenty digits, and what they tell.
 use Rattle.std.specs.Prelude.{◌≡◌, ◌<◌, ◌≤◌, ◌+◌, ◌-◌, ◌^◌, ◌&&◌, ℕ, suc, zero, ◌++◌, length, replicate, true, false}
-use Rattle.std.specs.Prelude.{nat_le, if◌then◌else◌, Some, None, decimal}
+use Rattle.std.specs.Prelude.{nat_le, if◌then◌else◌, Some, None, decimal, Result, Ok, ◌∷◌, []}
 use Rattle.std.specs.Str.{all_ascii_digits}
-use Rattle.std.proofs.Common.{refl, sym, ◌∙◌, ap, arith, length-append}
+use Rattle.std.specs.Str.Parse.{ParsesUnsigned}
+use Rattle.std.proofs.Common.{refl, sym, ◌∙◌, ap, subst, arith, length-append, append_assoc}
 use Rattle.std.proofs.lemmas.Bool.{and_parts, le-leb, leb-true}
 use Rattle.std.proofs.lemmas.List.{length-replicate}
 use Rattle.std.proofs.lemmas.Fmt.{length-decimal-le, digits_decimal, digits_value-decimal}
 use Rattle.std.proofs.lemmas.Option.{same_Some, none-some}
-use Rattle.std.proofs.lemmas.Str.Parse.{IsNumeralModel, numerals_by_fold, tells_all_ascii_digits}
+use Rattle.std.proofs.lemmas.Str.Parse.{IsNumeralModel, numerals_by_fold, tells_all_ascii_digits, parse_gives}
 use Rattle.broker_types.specs.Text.{Text}
 use Rattle.broker_types.specs.TextLaws.{same_self, same_true}
 use Rattle.broker_types.specs.Limits.{greatest_version}
@@ -67,3 +68,22 @@ digits_are d n h =
           )
       | false ↦ λ _ e. absurd (none-some _ e)
     ] refl h
+
+-- twenty digits are read as their number
+pub padded_read : {E : Type 0} (digits : Text) (n : ℕ) → n < 2 ^ 64 → digits ≡ padded n → (r : Result ℕ E)
+    → ParsesUnsigned 64 10 digits r → r ≡ Ok n
+padded_read digits n small is r parses =
+    let value = digits_after-padded n small in
+    let long = length-padded n small in
+    let some : 0 < length (padded n) = omega (arith, long) in
+    parse_gives digits_model 64 (padded n) r (subst (λ d. ParsesUnsigned 64 10 d r) is parses) (padded_digits n small)
+    some
+    (subst (λ m. m < 2 ^ 64) (sym value) small)
+    ∙ ap Ok value
+
+-- one zero more in front of them
+pub zeros_more : (s : Text) (p : ℕ) → p < 20 → (s ++ 48 ∷ []) ++ replicate (20 - (p + 1)) 48
+    ≡ s ++ replicate (20 - p) 48
+zeros_more s p h =
+    let e : suc (20 - (p + 1)) ≡ 20 - p = omega (arith, h) in
+    append_assoc s (48 ∷ []) (replicate (20 - (p + 1)) 48) ∙ ap (λ n. s ++ replicate n 48) e

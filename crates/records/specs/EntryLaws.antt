@@ -1,9 +1,8 @@
 -- Entries of rows, as elements of their list (this project's).
-use Rattle.std.specs.Prelude.{◌≡◌, ◌⊎◌, ◌&&◌, List, [], ◌∷◌, Bool, true, false, cond, T, map, filter, Some, All}
+use Rattle.std.specs.Prelude.{◌≡◌, ◌⊎◌, List, [], ◌∷◌, Bool, true, false, cond, T, map, filter, Some, All}
 use Rattle.std.specs.Prelude.{Contains}
 use Rattle.std.specs.declared.cmp.Ordering.{Ordering}
-use Rattle.std.specs.declared.cmp.Ordering.TheVariants.{Less, Equal, Greater}
-use Rattle.std.specs.Ordering.{eq_by_cmp, is_eq, is_lt, ordering_then}
+use Rattle.std.specs.Ordering.{eq_by_cmp, is_eq, ordering_then}
 use Rattle.std.specs.Cmp.{IsTotalOrder, eq_by_cmp_equiv, nat_cmp_total, tied_itself}
 use Rattle.std.specs.FinMap.{IsAntisymmetric, get, entries, find, is_sorted, entries_sorted, get-entries}
 use Rattle.std.specs.FinMap.Entries.{below_all}
@@ -18,6 +17,7 @@ use Rattle.std.proofs.lemmas.Map.Views.{lookup-from_Contains}
 use Rattle.std.proofs.lemmas.Option.{none-some, same_Some}
 use Rattle.broker_types.specs.Text.{Text, text_cmp, same}
 use Rattle.broker_types.specs.TextLaws.{same-text_cmp}
+use Rattle.broker_types.specs.TestLaws.{is_equal, less_apart, T_left, T_right}
 use Rattle.records.specs.declared.kind.Kind.{Kind}
 use Rattle.records.specs.declared.row.Row.{Row}
 use Rattle.records.specs.Kind.{RowKey, key_cmp, kind_number}
@@ -53,24 +53,6 @@ module _ {X : Type 0} where
   kept_cases p xs k d below =
       (All-filter p (Contains xs) xs (All-contains_itself xs) k d below, filter_passes p xs k d below)
 
-tied : (r : Ordering) → is_eq r ≡ true → r ≡ Equal
-tied Less h = absurd cc
-tied Equal h = refl
-tied Greater h = absurd cc
-
-apart : (r : Ordering) → T (is_lt r) → is_eq r ≡ false
-apart Less h = refl
-apart Equal h = absurd h
-apart Greater h = absurd h
-
-left : (a b : Bool) → T (a && b) → T a
-left true b h = tt
-left false b h = absurd h
-
-right : (a b : Bool) → T (a && b) → T b
-right true b h = h
-right false b h = absurd h
-
 -- ---- entries in the order of their keys
 
 module _ {K X : Type 0} (R : K → K → Ordering) where
@@ -82,7 +64,7 @@ module _ {K X : Type 0} (R : K → K → Ordering) where
       elim (eq_by_cmp R key e.0) as (λ b. eq_by_cmp R key e.0 ≡ b → cond b (Some e.1) (find R key es) ≡ Some x
       → Contains (e ∷ es) (key, x)) [
         | true ↦ λ at found.
-            let keys : key ≡ e.0 = exact key e.0 (tied (R key e.0) at) in
+            let keys : key ≡ e.0 = exact key e.0 (is_equal (R key e.0) at) in
             subst (λ z. Contains (e ∷ es) z) (λ i. (sym keys i, same_Some _ _ found i))
             (Contains-append_left (e ∷ []) es e (All-contains_itself (e ∷ []) 0 e (omega arith)))
         | false ↦ λ _ found. Contains-append_right (e ∷ []) es (key, x) (found_in exact key x es found)
@@ -91,13 +73,13 @@ module _ {K X : Type 0} (R : K → K → Ordering) where
   all_apart : (key : K) (es : List (K × X)) → T (below_all R key es)
       → AllByRecursion (λ y. eq_by_cmp R key y ≡ false) (map (λ e. e.0) es)
   all_apart key [] h = tt
-  all_apart key (e ∷ es) h = (apart (R key e.0) (left _ _ h), all_apart key es (right _ _ h))
+  all_apart key (e ∷ es) h = (less_apart (R key e.0) (T_left _ _ h), all_apart key es (T_right _ _ h))
 
   -- each key is that of one
   pub sorted_once : (es : List (K × X)) → T (is_sorted R es) → IsDistinct (eq_by_cmp R) (map (λ e. e.0) es)
   unfolding IsDistinct
   sorted_once [] h = tt
-  sorted_once (e ∷ es) h = (all_apart e.0 es (left _ _ h), sorted_once es (right _ _ h))
+  sorted_once (e ∷ es) h = (all_apart e.0 es (T_left _ _ h), sorted_once es (T_right _ _ h))
 
   found_as : (key : K) (es : List (K × X)) → find R key es ≡ lookup (eq_by_cmp R key) es
   found_as key [] = refl

@@ -1,39 +1,30 @@
 -- Laws of maps that are made of lists of entries: metadata, and sets of texts, as code has them.
-use Rattle.std.specs.Prelude.{◌≡◌, ◌≤◌, ◌+◌, ◌&&◌, ℕ, suc, List, [], ◌∷◌, length, map, Bool, true, false, cond, T, Some}
+use Rattle.std.specs.Prelude.{◌≡◌, ◌≤◌, ◌+◌, ◌&&◌, ℕ, suc, List, [], ◌∷◌, length, map, Bool, true, false, cond, Some}
 use Rattle.std.specs.Prelude.{All}
 use Rattle.std.specs.Cmp.Lexicographic.{nat_list_cmp_total}
 use Rattle.std.specs.FinMap.{find, from_entries, get-from_entries, is_sorted, len-insert, len-empty, contains_key}
 use Rattle.std.specs.FinMap.Entries.{below_all}
 use Rattle.std.specs.Ordering.{is_lt}
-use Rattle.std.specs.declared.cmp.Ordering.{Ordering}
-use Rattle.std.specs.declared.cmp.Ordering.TheVariants.{Less, Equal, Greater}
 use Rattle.std.proofs.Common.{refl, sym, ◌∙◌, ap, subst, arith}
-use Rattle.std.proofs.lemmas.Bool.{false≢true, and_parts}
+use Rattle.std.proofs.lemmas.Bool.{and_parts}
 use Rattle.std.proofs.lemmas.List.Elements.{All-head, All-tail}
 use Rattle.std.proofs.lemmas.Option.{same_Some}
+use Rattle.std.proofs.lemmas.Float.{T_from_true}
 use Rattle.broker_types.specs.Text.{Text, text_cmp, same}
 use Rattle.broker_types.specs.Map.{Map, get, len, entries}
 use Rattle.broker_types.specs.MapLaws.{get-put, no_entry, entries_are}
 use Rattle.broker_types.specs.Sound.{is_ascending}
 use Rattle.broker_types.specs.TextLaws.{same_true}
+use Rattle.broker_types.specs.TestLaws.{is_less}
 
 -- ---- a list whose names ascend
 
-less : (o : Ordering) → is_lt o ≡ true → o ≡ Less
-less Less h = refl
-less Equal h = absurd (false≢true h)
-less Greater h = absurd (false≢true h)
-
 below_next : (k t u : Text) → is_lt (text_cmp k t) ≡ true → is_lt (text_cmp t u) ≡ true → is_lt (text_cmp k u) ≡ true
-below_next k t u h g = ap is_lt (nat_list_cmp_total.trans k t u (less (text_cmp k t) h) (less (text_cmp t u) g))
+below_next k t u h g = ap is_lt (nat_list_cmp_total.trans k t u (is_less (text_cmp k t) h) (is_less (text_cmp t u) g))
 
 tail_ascends : (k : Text) (ts : List Text) → is_ascending (k ∷ ts) ≡ true → is_ascending ts ≡ true
 tail_ascends k [] h = refl
 tail_ascends k (t ∷ ts) h = (and_parts _ _ h).1
-
-holds : (v : Bool) → v ≡ true → T v
-holds true h = tt
-holds false h = absurd (false≢true h)
 
 module _ {X : Type 0} where
   below_each : (k : Text) (es : List (Text × X)) → is_ascending (k ∷ map (λ e. e.0) es) ≡ true
@@ -59,7 +50,7 @@ module _ {X : Type 0} where
   -- a sorted list that finds what the map has is its list of entries
   pub ascending_entries : (m : Map X) (es : List (Text × X)) → is_ascending (map (λ e. e.0) es) ≡ true
       → ((q : Text) → find text_cmp q es ≡ get m q) → entries m ≡ es
-  ascending_entries m es h finds = entries_are m es (holds _ (sorted_from es h)) finds
+  ascending_entries m es h finds = entries_are m es (T_from_true _ (sorted_from es h)) finds
 
   -- the map of a list whose names ascend has these entries
   pub listed_entries : (es : List (Text × X)) → is_ascending (map (λ e. e.0) es) ≡ true

@@ -90,3 +90,9 @@ module _ (kind : Kind) where
         ∙ ap (λ b. cond (b && starts_with nat_eq q prefix) (find key_cmp (kind, q) (entries rows)) None)
         (eqb_self (kind_number kind))
         ∙ ap (λ o. cond (starts_with nat_eq q prefix) o None) (sym (get-entries rows (kind, q)))
+
+-- the keys of what is listed are its names
+pub names_are : (es : List (RowKey × Row))
+    → map (λ (e : RowKey × Row). e.0.1) es ≡ map (λ (e : Text × Row). e.0) (named es)
+names_are [] = refl
+names_are (e ∷ es) = ap (λ z. e.0.1 ∷ z) (names_are es)

@@ -8,8 +8,9 @@ use Rattle.std.specs.Cmp.{IsTotalOrder}
 use Rattle.std.specs.FinMap.{find, is_sorted}
 use Rattle.std.specs.FinMap.Entries.{below_all}
 use Rattle.std.proofs.Common.{refl, sym, ◌∙◌, ap, arith, suc}
-use Rattle.std.proofs.lemmas.Bool.{and_parts, false≢true}
+use Rattle.std.proofs.lemmas.Bool.{and_parts}
 use Rattle.broker_types.specs.Text.{Text, text_cmp}
+use Rattle.broker_types.specs.TestLaws.{is_less}
 
 -- ---- the least text above another
 
@@ -40,11 +41,6 @@ just_above (c ∷ q) (d ∷ k) = elim (nat_cmp c d) as
 
 -- ---- entries in the order of their keys
 
-lower : (o : Ordering) → is_lt o ≡ true → o ≡ Less
-lower Less h = refl
-lower Equal h = absurd (false≢true h)
-lower Greater h = absurd (false≢true h)
-
 module _ {K X : Type 0} (R : K → K → Ordering) (total : IsTotalOrder R) where
   -- the last of entries
   abbrev pub last_of : K × X → List (K × X) → K × X
@@ -63,17 +59,17 @@ module _ {K X : Type 0} (R : K → K → Ordering) (total : IsTotalOrder R) wher
   none_low q [] h = refl
   none_low q (e ∷ es) h =
       let parts = and_parts _ _ h in
-      ap (λ o. cond (is_eq o) (Some e.1) (find R q es)) (lower _ parts.0) ∙ none_low q es parts.1
+      ap (λ o. cond (is_eq o) (Some e.1) (find R q es)) (is_less _ parts.0) ∙ none_low q es parts.1
 
   below_too : (q k : K) (es : List (K × X)) → R q k ≡ Less → below_all R k es ≡ true → below_all R q es ≡ true
   below_too q k [] low h = refl
   below_too q k (e ∷ es) low h =
       let parts = and_parts _ _ h in
-      (λ i. is_lt (total.trans q k e.0 low (lower _ parts.0) i) && below_too q k es low parts.1 i)
+      (λ i. is_lt (total.trans q k e.0 low (is_less _ parts.0) i) && below_too q k es low parts.1 i)
 
   below_last : (k : K) (e : K × X) (es more : List (K × X)) → below_all R k (e ∷ es ++ more) ≡ true
       → R k (last_of e es).0 ≡ Less
-  below_last k e [] more h = lower _ (and_parts _ _ h).0
+  below_last k e [] more h = is_less _ (and_parts _ _ h).0
   below_last k e (f ∷ fs) more h = below_last k f fs more (and_parts _ _ h).1
 
   -- of entries in order the first have those whose keys are not above the last of them

@@ -1,16 +1,17 @@
 -- Which rows a part of a broker has: another value of the part leaves the rows of all other kinds (this project's).
-use Rattle.std.specs.Prelude.{◌≡◌, ℕ, true, false, ⊤, refl}
+use Rattle.std.specs.Prelude.{◌≡◌, ℕ, true, false, option_map, ⊤, refl}
 use Rattle.std.proofs.Common.{sym, ◌∙◌, ap}
-use Rattle.std.proofs.lemmas.Bool.{true≢false}
+use Rattle.std.proofs.lemmas.Bool.{true≢false, false≢true}
 use Rattle.broker_types.specs.Text.{Text}
-use Rattle.broker_types.specs.Map.{Map}
+use Rattle.broker_types.specs.Map.{Map, get}
 use Rattle.broker_types.specs.Token.{Tokens}
 use Rattle.broker_types.specs.Secret.{Key}
 use Rattle.broker_types.specs.Broker.{Broker, Waiting, Mount, Role}
 use Rattle.records.specs.declared.kind.Kind.{Kind}
 use Rattle.records.specs.declared.kind.Kind.TheVariants as kind
-use Rattle.records.specs.Parts.{Part, Tells, KeepsOthers, of_tokens_and_theirs, of_secrets, of_waiting}
+use Rattle.records.specs.Parts.{Part, Tells, KeepsOthers, of_tokens, of_tokens_and_theirs, of_secrets, of_waiting}
 use Rattle.records.specs.Parts.{of_mounts, of_policies, of_roles, of_used, of_clock}
+use Rattle.records.specs.RowForms.{mount_row}
 use Rattle.records.specs.Rows.{rows_of}
 use Rattle.records.specs.Table.{Table}
 
@@ -83,3 +84,14 @@ pub rows_of-other_clock : (b : Broker) (x : ℕ) → AgreeOutside of_clock b (re
 unfolding rows_of
 rows_of-other_clock b x kind.Clock q h = absurd (true≢false h)
 rows_of-other_clock b x _ q h = refl
+
+-- what holds of both kinds of the tokens holds of each
+pub by_token_kind : (P : Kind → Type 0) → P kind.Token → P kind.Accessor → (k : Kind) → of_tokens k ≡ true → P k
+by_token_kind P t a kind.Token h = t
+by_token_kind P t a kind.Accessor h = a
+by_token_kind P t a _ h = absurd (false≢true h)
+
+-- the rows of mounts
+pub mount_rows : (b : Broker) (q : Text) → rows_of b kind.Mount q ≡ option_map mount_row (get b.mounts q)
+unfolding rows_of
+mount_rows b q = refl

@@ -1,6 +1,6 @@
 -- What sound brokers have is in the range of rows (this project's).
 use Rattle.std.specs.Prelude.{◌≡◌, ◌≢◌, ◌<◌, ◌≤◌, ◌^◌, ◌&&◌, ◌||◌, ◌==◌, nat_le, nat_lt, ℕ, List, [], ◌∷◌, length, map}
-use Rattle.std.specs.Prelude.{All, Bool, true, false, T, Some, None}
+use Rattle.std.specs.Prelude.{All, Bool, true, Some, None}
 use Rattle.std.specs.FinMap as fin
 use Rattle.std.specs.FinMap.{is_sorted}
 use Rattle.std.specs.Int.{to_be_bytes, w128}
@@ -25,6 +25,7 @@ use Rattle.broker_types.specs.Broker.{Role, Waiting}
 use Rattle.broker_types.specs.Sound.{Forms, SoundTokens, IsShortText, IsIdentifier, IsTokenText, IsPathText}
 use Rattle.broker_types.specs.Sound.{is_ascending, IsSoundLease, IsSoundKey, IsSoundVersion, IsSoundWaiting}
 use Rattle.broker_types.specs.Sound.{IsSoundRole}
+use Rattle.broker_types.specs.TestLaws.{T_true}
 use Rattle.records.specs.CubbyKeyLaws.{length-token}
 use Rattle.records.specs.KeyEntry.{key_entry}
 use Rattle.records.specs.TokenEntry.{token_entry, IsShortPair, IsMeta}
@@ -92,10 +93,6 @@ path_short p h =
 
 -- ---- tokens
 
-is_true : (b : Bool) → T b → b ≡ true
-is_true true h = refl
-is_true false h = absurd h
-
 -- the keys of a map ascend
 sorted_ascend : (es : List (Text × Text)) → is_sorted text_cmp es ≡ true → is_ascending (map (λ e. e.0) es) ≡ true
 sorted_ascend [] h = refl
@@ -114,7 +111,7 @@ meta_in_range m few each =
         each = each_entry IsShortPair m each;
         few = subst (λ n. n < 2 ^ 32) (fin.len-entries m) few;
       };
-      ascend = sorted_ascend (entries m) (is_true _ (fin.entries_sorted m));
+      ascend = sorted_ascend (entries m) (T_true _ (fin.entries_sorted m));
     }
 
 no_token : IsTokenText [] → ⊥

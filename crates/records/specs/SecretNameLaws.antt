@@ -1,4 +1,4 @@
--- Names of secrets have no line feed.
+-- Names of secrets have no line feed, and names of mounts and roles no slash.
 use Rattle.std.specs.Prelude.{◌≡◌, ℕ, List, [], ◌∷◌, ◌++◌, ◌&&◌, ◌==◌, not, Bool, true}
 use Rattle.std.specs.List.{list_all}
 use Rattle.std.proofs.Common.{refl, ◌∙◌, ap, arith, append_assoc}
@@ -6,12 +6,13 @@ use Rattle.std.proofs.lemmas.Bool.{and_parts}
 use Rattle.std.proofs.lemmas.Bool.Decides.{nat_tests}
 use Rattle.std.proofs.lemmas.List.Folds.{list_all-append}
 use Rattle.broker_types.specs.Text.{Text}
-use Rattle.broker_types.specs.Name.{is_name_byte, is_mount_name}
+use Rattle.broker_types.specs.Name.{is_name, is_name_byte, is_mount_name}
 use Rattle.broker_types.specs.Path.{is_path, is_path_byte}
 use Rattle.broker_types.specs.Sound.{IsSecretName}
 use Rattle.records.specs.Splits.{slash, line_feed, lacks}
 
-weaker : (p q : ℕ → Bool) → ((x : ℕ) → p x ≡ true → q x ≡ true) → (xs : List ℕ) → list_all p xs ≡ true
+-- bytes that pass one test pass each that follows from it
+pub weaker : (p q : ℕ → Bool) → ((x : ℕ) → p x ≡ true → q x ≡ true) → (xs : List ℕ) → list_all p xs ≡ true
     → list_all q xs ≡ true
 weaker p q h [] e = refl
 weaker p q h (x ∷ xs) e = λ i. h x (and_parts _ _ e).0 i && weaker p q h xs (and_parts _ _ e).1 i
@@ -41,3 +42,14 @@ parts_lack mount path h k = list_all-append (λ x. not (x == line_feed)) mount (
 pub name_lacks : (q : Text) → IsSecretName q → lacks line_feed q ≡ true
 name_lacks q n = ap (lacks line_feed) (n.parts ∙ append_assoc n.mount (slash ∷ []) n.path)
     ∙ parts_lack n.mount n.path n.mount_name n.is_path_text.good
+
+-- ---- no slash
+
+no_slash : (x : ℕ) → is_name_byte x ≡ true → not (x == slash) ≡ true
+no_slash x h = grind (arith, nat_tests)
+
+pub name_no_slash : (name : Text) → is_name name ≡ true → lacks slash name ≡ true
+name_no_slash name h = weaker is_name_byte (λ x. not (x == slash)) no_slash name (and_parts _ _ (and_parts _ _ h).1).1
+
+pub mount_no_slash : (mount : Text) → is_mount_name mount ≡ true → lacks slash mount ≡ true
+mount_no_slash mount h = name_no_slash mount (and_parts _ _ h).0

@@ -4,7 +4,7 @@ use Rattle.std.specs.Prelude.{get_or, Some, Contains}
 use Rattle.std.specs.FinMap.{get}
 use Rattle.std.specs.List.{AllByRecursion, IsDistinct}
 use Rattle.std.proofs.Common.{refl, sym, ◌∙◌, ap, subst, arith}
-use Rattle.std.proofs.lemmas.Bool.{false≢true, or_left, or_right}
+use Rattle.std.proofs.lemmas.Bool.{false≢true, or_left, or_right, or_parts}
 use Rattle.std.proofs.lemmas.List.Elements.{All-contains, All-from_recursion, All-contains_itself, Contains-append_left}
 use Rattle.std.proofs.lemmas.List.Elements.{Contains-append_right}
 use Rattle.broker_types.specs.Text.{Text, same}
@@ -22,10 +22,6 @@ Entry = RowKey × Row
 or_cases : (a b : Bool) (P : Type 0) → (a ≡ true → P) → (b ≡ true → P) → (a || b) ≡ true → P
 or_cases true b P f g h = f refl
 or_cases false b P f g h = g h
-
-either_false : (a b : Bool) → (a || b) ≡ false → (a ≡ false) × (b ≡ false)
-either_false true b h = absurd (false≢true (sym h))
-either_false false b h = (refl, h)
 
 -- ---- texts
 
@@ -69,7 +65,7 @@ all_append P (x ∷ xs) ys a b = (a.0, all_append P xs ys a.1 b)
 
 unlike : (x : Text) (ys : List Text) → has ys x ≡ false → AllByRecursion (λ y. same x y ≡ false) ys
 unlike x [] h = tt
-unlike x (y ∷ ys) h = let both = either_false (same x y) (has ys x) h in (both.0, unlike x ys both.1)
+unlike x (y ∷ ys) h = let both = or_parts (same x y) (has ys x) h in (both.0, unlike x ys both.1)
 
 once_append : (xs ys : List Text) → IsDistinct same xs → IsDistinct same ys
     → ((t : Text) → has xs t ≡ true → has ys t ≡ true → ⊥) → IsDistinct same (xs ++ ys)

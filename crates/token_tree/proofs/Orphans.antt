@@ -33,13 +33,14 @@ use Rattle.records.specs.Rows.{rows_of, or_else}
 use Rattle.records.specs.Table.{Table, table_of}
 use Rattle.records.specs.Transaction.{Rows, rows_under}
 use Rattle.records.specs.TableLaws.{table_of-insert}
+use Rattle.records.specs.PartLaws.{by_token_kind}
 use Rattle.token_tree.specs.Orphaned.{is_child, orphaned, without_parent}
 use Rattle.token_tree.proofs.Taken.{without_ended}
 use Rattle.token_tree.proofs.ListedTokens.{node, listing, lists_tokens}
 use Rattle.token_tree.specs.Tokens.{has_accessor, has_ended, RepresentsTokens, AreEnded}
 use Rattle.token_tree.specs.EndedLaws.{ended_by_revocation_alone}
 use Rattle.token_tree.proofs.Removals.{tells_kept}
-use Rattle.token_tree.proofs.Singles.{joined, waits, by_kind, put_keeps, token_row_at}
+use Rattle.token_tree.proofs.Singles.{joined, waits, put_keeps, token_row_at}
 
 -- other kinds stay
 pub parents_keep : (t : Text) (es : List (RowKey × Row)) (rows : Rows)
@@ -210,7 +211,7 @@ pub tells_orphaned : (b : Broker) (t : Text) (rows : Rows)
     → Tells of_tokens (table_of (without_parent t (listing b.tokens) rows)) (revoke_orphan b t)
 unfolding rows_of
 tells_orphaned b t rows tells k q h =
-    by_kind (λ k. table_of (without_parent t (listing b.tokens) rows) k q
+    by_token_kind (λ k. table_of (without_parent t (listing b.tokens) rows) k q
     ≡ rows_of (record b { tokens = map_values (λ q. orphaned_by t) (keep (λ q. not (same q t)) b.tokens) }) k q)
     (edited b.tokens t (entries b.tokens) (each_entry (λ e. get b.tokens e.0 ≡ Some e.1) b.tokens (λ u x is. is)) rows q
     ∙ (λ i. if edited-first b.tokens t q i then option_map (λ x. record (token_row x) { owner = [] })

@@ -24,6 +24,7 @@ use Rattle.records.specs.RowForms.{token_row, accessor_row}
 use Rattle.records.specs.Rows.{rows_of, or_else}
 use Rattle.records.specs.Table.{Table, table_of, with_row}
 use Rattle.records.specs.Transaction.{Rows}
+use Rattle.records.specs.PartLaws.{by_token_kind}
 use Rattle.token_tree.specs.Tokens.{has_accessor, with_token}
 use Rattle.token_tree.proofs.Removals.{one_accessor}
 
@@ -43,12 +44,6 @@ row_told b table tells t = tells kind.Token t refl
 pub token_row_at : (b : Broker) (rows : Rows) → Tells of_tokens (table_of rows) b → (t : Text)
     → fin.get rows (kind.Token, t) ≡ option_map token_row (get b.tokens t)
 token_row_at b rows tells t = row_told b (table_of rows) tells t
-
--- a part of two kinds
-pub by_kind : (P : Kind → Type 0) → P kind.Token → P kind.Accessor → (k : Kind) → of_tokens k ≡ true → P k
-by_kind P t a kind.Token h = t
-by_kind P t a kind.Accessor h = a
-by_kind P t a _ h = absurd (false≢true h)
 
 -- rows of tokens and accessors put in leave the others
 pub put_keeps : (table : Table) (t : Text) (r : Row) → KeepsOthers of_tokens table (with_row table kind.Token t r)
@@ -136,7 +131,7 @@ module _ (b : Broker) (one_place : OnePlaceEach b) (all_used : AllUsed b) (t : T
       (with_token b t x)
   unfolding rows_of
   tells_created table tells k q h =
-      by_kind (λ k. with_row (with_row table kind.Token t (token_row x)) kind.Accessor x.accessor
+      by_token_kind (λ k. with_row (with_row table kind.Token t (token_row x)) kind.Accessor x.accessor
       (accessor_row t holder.Token) k q
       ≡ rows_of (with_token b t x) k q)
       (ap (λ o. if same q t then Some (token_row x) else o) (tells kind.Token q refl)
@@ -165,7 +160,7 @@ pub tells_changed_at : (b : Broker) (t : Text) (x : Token) (f : Token → Token)
     → Tells of_tokens (with_row table kind.Token t (token_row (f x))) (record b { tokens = change b.tokens t f })
 unfolding rows_of
 tells_changed_at b t x f here keeps table tells k q h =
-    by_kind (λ k. with_row table kind.Token t (token_row (f x)) k q
+    by_token_kind (λ k. with_row table kind.Token t (token_row (f x)) k q
     ≡ rows_of (record b { tokens = change b.tokens t f }) k q)
     (ap (λ o. if same q t then Some (token_row (f x)) else o) (tells kind.Token q refl) ∙ at_token
     ∙ ap (option_map token_row) (sym (get-change b.tokens t f q)))

@@ -7,7 +7,7 @@ use Rattle.std.specs.List.{AllByRecursion, list_any}
 use Rattle.std.specs.Option.{option_map_or}
 use Rattle.std.proofs.Common.{refl, sym, ◌∙◌, ap, subst, inl, inr}
 use Rattle.std.proofs.Math.Bool.{or-false}
-use Rattle.std.proofs.lemmas.Bool.{false≢true, and_parts, or_right}
+use Rattle.std.proofs.lemmas.Bool.{false≢true, and_parts, or_right, and_from}
 use Rattle.std.proofs.lemmas.Option.{none-some, same_Some}
 use Rattle.broker_types.specs.OptionLaws.{found_or_not}
 use Rattle.broker_types.specs.Text.{Text, same}
@@ -22,6 +22,7 @@ use Rattle.records.specs.Parts.{of_tokens}
 use Rattle.records.specs.Table.{Table, table_of}
 use Rattle.records.specs.TableLaws.{table_of-insert}
 use Rattle.records.specs.Transaction.{Rows, rows_under}
+use Rattle.records.specs.HasLaws.{any_from, any_found}
 use Rattle.token_tree.specs.Ended.{IsClosed, IsDescent, Start, Starts, of_owner, AllStay}
 use Rattle.token_tree.specs.Endings.{AreTokenRows, EndsAlone, without_tokens, orphan_row, without_children_of}
 use Rattle.token_tree.specs.Orphaned.{is_child, orphaned, without_parent}
@@ -29,15 +30,11 @@ use Rattle.token_tree.specs.TokenRows.{IsDamagedToken}
 use Rattle.token_tree.proofs.Taken.{without_ended, AreReadableEnded}
 use Rattle.token_tree.proofs.Removals.{takes, table_of-without_ended, others_stay}
 use Rattle.token_tree.proofs.Orphans.{parents_keep, parents_accessors, turned}
-use Rattle.token_tree.proofs.TokenMap.{row_node, any_of, some_of, each_token, token_each, no_token_passes, token_passes}
+use Rattle.token_tree.proofs.TokenMap.{row_node, each_token, token_each, no_token_passes, token_passes}
 
 nothing : {X : Type 0} (v : Bool) → ◌≡◌ {A = Option X} (if v then None else None) None
 nothing true = refl
 nothing false = refl
-
-and_both : (a b : Bool) → a ≡ true → b ≡ true → (a && b) ≡ true
-and_both true b f g = g
-and_both false b f g = absurd (false≢true f)
 
 -- ---- what is taken out
 
@@ -98,7 +95,7 @@ module _ (rows : Rows) (ended : List Text) where
               elim (has ended t && same q (accessor_in r)) as
               (λ v. (has ended t && same q (accessor_in r)) ≡ v → v ≡ false) [
                 | true ↦ λ goes. let two = and_parts (has ended t) (same q (accessor_in r)) goes in
-                    absurd (false≢true (sym none ∙ any_of (tells q) ended t two.0
+                    absurd (false≢true (sym none ∙ any_from (tells q) ended t two.0
                     (ap (λ o. option_map_or (λ row. same q (accessor_in row)) o false) is ∙ two.1)))
                 | false ↦ λ _. refl
               ] refl
@@ -106,12 +103,12 @@ module _ (rows : Rows) (ended : List Text) where
       from : is_told kind.Token ended old q ≡ true
           → list_any (takes ended kind.Accessor q) (rows_under rows kind.Token []) ≡ true
       from h =
-          let t = some_of (tells q) ended h in
+          let t = any_found (tells q) ended h in
           elim (found_or_not (old kind.Token t.0)) [
             | inl none ↦ absurd (false≢true
                 (sym (ap (λ o. option_map_or (λ row. same q (accessor_in row)) o false) none) ∙ t.2))
             | inr r ↦ token_passes rows (takes ended kind.Accessor q) t.0 r.0 r.1
-                (and_both (has ended t.0) (same q (accessor_in r.0)) t.1
+                (and_from (has ended t.0) (same q (accessor_in r.0)) t.1
                 (sym (ap (λ o. option_map_or (λ row. same q (accessor_in row)) o false) r.1) ∙ t.2))
           ]
 

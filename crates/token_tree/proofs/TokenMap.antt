@@ -10,15 +10,14 @@ use Rattle.std.proofs.Common.{refl, sym, ◌∙◌, ap, subst}
 use Rattle.std.specs.Map.{lookup}
 use Rattle.std.proofs.lemmas.List.Elements.{All-head, All-tail}
 use Rattle.std.proofs.lemmas.Option.{none-some, same_Some}
-use Rattle.std.proofs.lemmas.Bool.{false≢true, and_parts, or_left, or_right}
+use Rattle.std.proofs.lemmas.Bool.{false≢true, and_parts}
 use Rattle.broker_types.specs.Text.{Text, text_cmp, same}
-use Rattle.broker_types.specs.TextLaws.{same_self, same_true}
+use Rattle.broker_types.specs.TextLaws.{same_true}
 use Rattle.broker_types.specs.Map.{Map, get, entries}
 use Rattle.broker_types.specs.MapLaws.{get-lookup}
 use Rattle.broker_types.specs.SearchLaws.{each_entry}
 use Rattle.records.specs.declared.kind.Kind.TheVariants as kind
 use Rattle.records.specs.declared.row.Row.{Row}
-use Rattle.records.specs.Children.{has}
 use Rattle.records.specs.Kind.{RowKey, key_cmp, is_of_kind}
 use Rattle.records.specs.KeyLaws.{key_cmp_exact, same_kind}
 use Rattle.records.specs.ListingLaws.{rows_under-listing}
@@ -26,25 +25,6 @@ use Rattle.records.specs.Table.{table_of}
 use Rattle.records.specs.Transaction.{Rows, rows_under}
 
 -- ---- lists of texts
-
--- what one of the texts passes
-pub any_of : (p : Text → Bool) (list : List Text) (t : Text) → has list t ≡ true → p t ≡ true → list_any p list ≡ true
-any_of p [] t h g = absurd (false≢true h)
-any_of p (u ∷ us) t h g =
-    elim (same t u) as (λ v. same t u ≡ v → (v || has us t) ≡ true → (p u || list_any p us) ≡ true) [
-      | true ↦ λ s _. or_left (p u) _ (ap p (sym (same_true t u s)) ∙ g)
-      | false ↦ λ _ r. or_right (p u) _ (any_of p us t r g)
-    ] refl h
-
--- and a text that passes, if there is one
-pub some_of : (p : Text → Bool) (list : List Text) → list_any p list ≡ true → (t : Text) × (has list t ≡ true)
-    × (p t ≡ true)
-some_of p [] h = absurd (false≢true h)
-some_of p (u ∷ us) h =
-    elim (p u) as (λ v. p u ≡ v → (v || list_any p us) ≡ true → (t : Text) × (has (u ∷ us) t ≡ true) × (p t ≡ true)) [
-      | true ↦ λ is _. (u, or_left (same u u) _ (same_self u), is)
-      | false ↦ λ _ g. let r = some_of p us g in (r.0, or_right (same r.0 u) _ r.1, r.2)
-    ] refl h
 
 -- ---- the map
 

@@ -12,20 +12,8 @@ use Rattle.broker_types.specs.Token.{Token}
 use Rattle.records.specs.declared.kind.Kind.TheVariants as kind
 use Rattle.records.specs.RowForms.{entry_row}
 use Rattle.records.specs.Table.{Table}
-use Rattle.records.specs.TokenEntry.{TokenEntry, token_entry}
-use Rattle.token_tree.specs.TokenRows.{IsTokenAt, SpendsUse, spent_entry, with_entry}
-
--- the row is that of what is left
-pub spent_row : (t : Text) (old new : Table) (left : Option TokenEntry) → SpendsUse t old new left
-    → IsTokenAt new t left
-spent_row t old new left s =
-    ap (λ (rows : Table). rows kind.Token t) s.changes.is ∙ after s.changes.entry s.changes.was
-    ∙ ap (option_map entry_row) (sym s.told)
-  where
-    after : (o : Option TokenEntry) → IsTokenAt old t o
-        → IsTokenAt (with_entry old t (option_map spent_entry o)) t (option_map spent_entry o)
-    after None was = was
-    after (Some x) was = ap (λ v. if v then Some (entry_row (spent_entry x)) else old kind.Token t) (same_self t)
+use Rattle.records.specs.TokenEntry.{token_entry}
+use Rattle.token_tree.specs.TokenRows.{SpendsUse, spent_entry, with_entry}
 
 -- where nothing is left, there was no row, and no other has changed
 pub nothing_spent : (t : Text) (old new : Table) → SpendsUse t old new None → (old kind.Token t ≡ None) × (new ≡ old)

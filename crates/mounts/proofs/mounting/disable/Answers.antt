@@ -4,6 +4,7 @@ use Rattle.broker_types.specs.Map.{get, without}
 use Rattle.broker_types.specs.Text.{same}
 use Rattle.broker_types.specs.declared.refusal.Refusal.TheVariants as refusal
 use Rattle.broker_types.specs.declared.refusal.Reason.TheVariants as reason
+use Rattle.broker_types.specs.RefuseLaws.{ends_unless}
 use Rattle.records.specs.declared.kind.Kind.TheVariants as kind
 use Rattle.records.specs.CallLaws.{honest_before}
 use Rattle.records.specs.RowForms.{mount_row}
@@ -11,7 +12,7 @@ use Rattle.records.specs.Table.{table_of, without_row}
 use Rattle.records.specs.TableLaws.{table_of-remove}
 use Rattle.mounts.specs.MountRows.{AreMounts}
 use Rattle.mounts.specs.Mounts.{fixed_names}
-use Rattle.mounts.proofs.MountEdits.{ends_unless, others_gone, mounts_gone, some_mapped}
+use Rattle.mounts.proofs.MountEdits.{others_gone, mounts_gone, some_mapped}
 use Rattle.mounts.proofs.mounting.disable.Goals as goal
 
 pub returns-clause-rows : goal.returns-clause-rows

@@ -2,8 +2,8 @@ use Rattle.std.proofs.Common.{sym, ap, ◌∙◌, drop, length, [], if◌then◌
 use Rattle.std.specs.Prelude.{nat_eq}
 use Rattle.std.specs.List.{starts_with}
 use Rattle.std.proofs.lemmas.Bool.{false_from_ne_true}
+use Rattle.records.specs.PrefixLaws.{begins_with, begun}
 use Rattle.broker_types.specs.Text.{Text}
-use Rattle.mounts.proofs.RouteSteps.{begins_with, begun}
 use Rattle.mounts.proofs.routing.parameter.Goals as goal
 
 -- what follows a text in a path, by whether the path begins with it
