@@ -1,7 +1,7 @@
 -- Paths as they are sent in a target.
-use Rattle.std.proofs.Common.{◌≡◌, ◌≢◌, ℕ, suc, ◌+◌, ◌-◌, ◌*◌, ◌<◌, ◌≤◌, ◌==◌, ◌&&◌, Bool, true, false, not, cond, List}
-use Rattle.std.proofs.Common.{[], ◌∷◌, ◌++◌, length, take, drop, All, refl, sym, ap, ◌∙◌, subst, arith, length-append}
-use Rattle.std.proofs.Common.{nat_lt, nat_le, slice_index}
+use Rattle.std.proofs.Common.{◌≡◌, ◌≢◌, ℕ, suc, ◌+◌, ◌-◌, ◌*◌, ◌<◌, ◌≤◌, ◌&&◌, Bool, true, false, not, cond, List}
+use Rattle.std.proofs.Common.{[], ◌∷◌, ◌++◌, length, take, drop, All, refl, ap, ◌∙◌, subst, arith, length-append}
+use Rattle.std.proofs.Common.{nat_lt, nat_le}
 use Rattle.std.specs.List.{list_all, position_or_len}
 use Rattle.std.proofs.Math.ListN.{drop_of_length-le}
 use Rattle.std.proofs.lemmas.Bool.{and_parts, leb-true, ltb-true, false≢true}
@@ -12,48 +12,13 @@ use Rattle.percent_encoding.specs.Percent.{percent_decode, percent_encode_byte}
 use Rattle.percent_encoding.proofs.PercentLemmas.{All-percent_encode_byte, IsEscapeByte, percent_decode-nil}
 use Rattle.percent_encoding.proofs.PercentLemmas.{percent_decode_not_percent, percent_decode-percent_encode_byte}
 use Rattle.broker_types.specs.Path.{is_path, is_path_byte, is_segment, segments, without_slash}
+use Rattle.broker_types.specs.PathLaws.{slash_not_last}
 use Rattle.http_layer.specs.Query.{is_query_mark, target_path, target_query}
 use Rattle.api_client.specs.Commands.{is_visible}
 use Rattle.api_client.specs.Escaping.{escaped, escaped_byte, is_plain}
 use Rattle.api_client.proofs.TextLemmas.{AreVisible}
 
 -- ---- a path has no slash at its end
-
-list_all-cons : (t : List ℕ) (ts : List (List ℕ)) → list_all is_segment (t ∷ ts) ≡ true → list_all is_segment ts ≡ true
-list_all-cons t ts h = (and_parts (is_segment t) (list_all is_segment ts) h).1
-
--- no part after the last slash
-ends_empty : (c : ℕ) (begun : List ℕ) → (c == 47) ≡ true → list_all is_segment (segments begun (c ∷ [])) ≡ false
-ends_empty c begun slash =
-    ap (λ (b : Bool). list_all is_segment (cond b (begun ∷ [] ∷ []) ((begun ++ c ∷ []) ∷ []))) slash
-    ∙ no (is_segment begun)
-  where
-    no : (b : Bool) → (b && false) ≡ false
-    no true = refl
-    no false = refl
-
-last_of : (s : List ℕ) (begun : List ℕ) → 0 < length s → list_all is_segment (segments begun s) ≡ true
-    → (slice_index s (length s - 1) == 47) ≡ false
-last_of [] begun some h = absurd (omega arith)
-last_of (c ∷ []) begun some h = by (c == 47) refl
-  where
-    by : (b : Bool) → (c == 47) ≡ b → (c == 47) ≡ false
-    by false e = e
-    by true e = absurd (false≢true (sym (ends_empty c begun e) ∙ h))
-last_of (c ∷ d ∷ ds) begun some h =
-    let here : length (c ∷ d ∷ ds) - 1 ≡ suc (length ds) = omega arith in
-    let next : length (d ∷ ds) - 1 ≡ length ds = omega arith in
-    ap (λ (k : ℕ). slice_index (c ∷ d ∷ ds) k == 47) here ∙ ap (λ (k : ℕ). slice_index (d ∷ ds) k == 47) (sym next)
-    ∙ by (c == 47) (last_of (d ∷ ds) [] (omega arith)) (last_of (d ∷ ds) (begun ++ c ∷ []) (omega arith)) h
-  where
-    by : (b : Bool) → (list_all is_segment (segments [] (d ∷ ds)) ≡ true
-        → (slice_index (d ∷ ds) (length (d ∷ ds) - 1) == 47) ≡ false)
-        → (list_all is_segment (segments (begun ++ c ∷ []) (d ∷ ds)) ≡ true
-        → (slice_index (d ∷ ds) (length (d ∷ ds) - 1) == 47) ≡ false)
-        → list_all is_segment (cond b (begun ∷ segments [] (d ∷ ds)) (segments (begun ++ c ∷ []) (d ∷ ds))) ≡ true
-        → (slice_index (d ∷ ds) (length (d ∷ ds) - 1) == 47) ≡ false
-    by true at_slash at_other h = at_slash (list_all-cons begun (segments [] (d ∷ ds)) h)
-    by false at_slash at_other h = at_other h
 
 -- what a path is
 pub path_parts : (p : List ℕ) → is_path p ≡ true → (0 < length p) × (length p ≤ 512)
@@ -68,7 +33,7 @@ path_parts p good =
 pub without_slash-path : (p : List ℕ) → is_path p ≡ true → without_slash p ≡ p
 without_slash-path p good =
     let parts = path_parts p good in
-    ap (λ (b : Bool). cond b (take (length p - 1) p) p) (last_of p [] parts.0 parts.2)
+    ap (λ (b : Bool). cond b (take (length p - 1) p) p) (slash_not_last p [] parts.0 parts.2)
 
 -- ---- an escaped path
 

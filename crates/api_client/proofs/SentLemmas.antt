@@ -351,7 +351,7 @@ line_short : (r : Request) → length (path_of r) ≤ 512 → length (request_li
 line_short r short =
     omega (arith, line_length (method_of r) (escaped (path_of r)), method_short r, length-escaped (path_of r))
 
-lines_length : (a b d e f g : List ℕ) → length (a ++ b ++ d ++ e ++ f ++ g ++ (13 ∷ 10 ∷ [])) ≡ length a + length b
+pub lines_length : (a b d e f g : List ℕ) → length (a ++ b ++ d ++ e ++ f ++ g ++ (13 ∷ 10 ∷ [])) ≡ length a + length b
     + length d + length e + length f + length g + 2
 lines_length a b d e f g = simp length-append
 

@@ -4,8 +4,8 @@ use Rattle.std.proofs.Common.{Bool, true, false, cond, List, [], ◌∷◌, ◌+
 use Rattle.std.proofs.Common.{decimal, refl, sym, ap, ap₂, ◌∙◌, subst, arith, lit<, append_assoc, append-nil}
 use Rattle.std.proofs.Common.{length-append}
 use Rattle.std.specs.List.{flat_map, list_all, slice_index_or}
-use Rattle.std.specs.Char.{digit_value, is_ascii_digit}
-use Rattle.std.specs.Str.Parse.{AllDigits, digits_value}
+use Rattle.std.specs.Char.{is_ascii_digit}
+use Rattle.std.specs.Str.Parse.{digits_value}
 use Rattle.std.proofs.lemmas.Bool.{and_from, and_parts, le-leb, leb-true}
 use Rattle.std.proofs.lemmas.Option.{same_Some}
 use Rattle.std.proofs.Math.Seq.{take-append_seam}
@@ -30,13 +30,14 @@ use Rattle.broker_types.specs.Status.{status_code}
 use Rattle.broker_types.specs.declared.status.Methods.{Methods}
 use Rattle.broker_types.specs.declared.status.Status.{Status}
 use Rattle.broker_types.specs.declared.status.Status.TheVariants as status
+use Rattle.broker_types.specs.DecimalLaws.{digits_all}
 use Rattle.http_layer.specs.Reply.{allow_line, body_lines, cache_line, comma_joined, connection_line, date_line}
 use Rattle.http_layer.specs.Reply.{method_names, phrase_of, reply_body, reply_head, status_line}
 use Rattle.api_client.specs.Laws.{ReplyIsUnique, WrittenReplyIsRead}
 use Rattle.api_client.specs.Replies.{first_length, length_told, longest_reply_body, longest_reply_head, most_fields}
 use Rattle.api_client.specs.Replies.{reply_length}
 use Rattle.api_client.specs.declared.reply.Reply.{Reply}
-use Rattle.api_client.proofs.SentLemmas.{field, values_in, values_in-append}
+use Rattle.api_client.proofs.SentLemmas.{field, values_in, values_in-append, lines_length}
 use Rattle.api_client.proofs.TextLemmas.{AreVisible, decimal_visible, field_raw, trim_visible}
 
 -- ---- the date
@@ -187,10 +188,6 @@ print_allow status.NotImplemented m = refl
 print_connection : (close : Bool) → flat_map print_field (connection_fields close) ≡ connection_line close
 print_connection true = refl
 print_connection false = refl
-
-print_length_alone : (len : List ℕ) → print_field (field (codes "Content-Length") len) ++ [] ≡ codes "Content-Length: "
-    ++ len ++ (13 ∷ 10 ∷ [])
-print_length_alone len = append-nil (print_field (field (codes "Content-Length") len))
 
 print_typed : (len : List ℕ)
     → print_field (field (codes "Content-Type") (codes "application/json"))
@@ -430,10 +427,6 @@ status_short d p = simp length-append (omega arith)
 date_line_short : (t : List ℕ) → length (date_line t) ≡ length t + 8
 date_line_short t = simp length-append (omega arith)
 
-lines_length : (a b d e f g : List ℕ) → length (a ++ b ++ d ++ e ++ f ++ g ++ (13 ∷ 10 ∷ [])) ≡ length a + length b
-    + length d + length e + length f + length g + 2
-lines_length a b d e f g = simp length-append
-
 head_short : (r : Response) (d : HttpDate) (close : Bool) → length r.text ≤ longest_reply_body
     → length (reply_head r (date_text d) close) ≤ longest_reply_head
 head_short r d close small =
@@ -498,19 +491,12 @@ few r date close =
 
 -- ---- the length that is told
 
-digit_is : (c : ℕ) → digit_value c < 10 → is_ascii_digit c ≡ true
-digit_is c small = grind (arith, nat_tests)
-
-digits_are : (s : List ℕ) → AllDigits 10 s → list_all is_ascii_digit s ≡ true
-digits_are [] h = refl
-digits_are (c ∷ cs) h = ap (λ (b : Bool). b && list_all is_ascii_digit cs) (digit_is c h.0) ∙ digits_are cs h.1
-
 -- a length in decimal digits is read again
 length_told-decimal : (n : ℕ) → n ≤ longest_reply_body → length_told (decimal n) ≡ Some n
 length_told-decimal n small =
     let is = decimal_is_IsNumeral n (omega arith) in
     let number : is_number (decimal n) ≡ true = and_from (nat_lt 0 (length (decimal n)))
-    (list_all is_ascii_digit (decimal n)) (some (length (decimal n)) is.0.0) (digits_are (decimal n) is.0.1) in
+    (list_all is_ascii_digit (decimal n)) (some (length (decimal n)) is.0.0) (digits_all (decimal n) is.0.1) in
     ap (λ (b : Bool). cond (b && nat_le (digits_value 10 (decimal n)) longest_reply_body)
     (Some (digits_value 10 (decimal n))) None) number
     ∙ ap (λ (k : ℕ). cond (nat_le k longest_reply_body) (Some k) None) is.1

@@ -34,8 +34,9 @@ use Rattle.api_json.specs.Members.{optional, required, of_kind, given, invalid, 
 use Rattle.api_json.specs.Canonical.{IsAfter, with_last, Ascends, IsCanonical}
 use Rattle.api_json.proofs.KeptObjects.{body_stays}
 use Rattle.api_json.proofs.Lengths.{length-body, short_object}
-use Rattle.api_json.proofs.LengthsPrinted.{length-member, via_map, via_then}
+use Rattle.api_json.proofs.LengthsPrinted.{length-member}
 use Rattle.api_json.proofs.Nested.{member_canonical, member_length}
+use Rattle.api_json.proofs.ReadCanonical.{via_map, via_then}
 
 -- ---- a member that may be absent
 

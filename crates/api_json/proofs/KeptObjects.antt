@@ -21,9 +21,8 @@ use Rattle.api_json.specs.Laws.{BodiesReadBack, BodiesAreKept, PayloadsAreKept}
 use Rattle.api_json.proofs.Bodies.{tree_read}
 use Rattle.api_json.specs.Canonical.{IsCanonical}
 use Rattle.api_json.proofs.TextsReadBack.{read-compact_text}
-use Rattle.api_json.proofs.ReadCanonical.{read-canonical}
+use Rattle.api_json.proofs.ReadCanonical.{read-canonical, via_then}
 use Rattle.api_json.proofs.Lengths.{short_object}
-use Rattle.api_json.proofs.LengthsPrinted.{via_then}
 use Rattle.api_json.proofs.Nested.{member_canonical, member_depth, member_length}
 use Rattle.api_json.proofs.Whole.{member_whole}
 

@@ -14,7 +14,8 @@ use Rattle.api_json.specs.Json.{tree, members_in, read_body}
 use Rattle.api_json.specs.Laws.{CompactIsNoLonger}
 use Rattle.api_json.proofs.Bodies.{tree_read}
 use Rattle.api_json.proofs.LengthsTokens.{printed_length, length-tokens}
-use Rattle.api_json.proofs.LengthsPrinted.{via_then, value_below, length-value}
+use Rattle.api_json.proofs.LengthsPrinted.{value_below, length-value}
+use Rattle.api_json.proofs.ReadCanonical.{via_then}
 
 whole : (j k : json.Json) (ts : List Token) → json.if_last j ts ≡ Some k → j ≡ k
 whole j k [] e = same_Some _ _ e

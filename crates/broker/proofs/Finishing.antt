@@ -1,5 +1,5 @@
 -- The end of a request: from what was served or refused to the outcome.
-use Rattle.std.specs.Prelude.{◌≡◌, Option, Some, None, Result, Ok, Err, IfOk}
+use Rattle.std.specs.Prelude.{◌≡◌, Option, Some, None, Result, Ok, Err}
 use Rattle.std.proofs.Common.{◌∙◌, ap}
 use Rattle.broker_types.specs.Text.{Text}
 use Rattle.broker_types.specs.Answer.{response_of, refused}
@@ -14,15 +14,6 @@ use Rattle.broker_rows.specs.Done.{answered_of, counted}
 use Rattle.broker_rows.specs.declared.answered.Answered.{Answered}
 use Rattle.broker.specs.Stages.{HasServed}
 
--- whether the caller was served or refused, the rows represent a broker
-pub represents_some : (who : Option Text) (rows : Rows) (b : Broker) (served : Result Answered Refusal)
-    (m : Result Wrapped Refusal) → HasServed who rows b served m
-    → (next : Broker) × Represents who rows next
-represents_some who rows b (Ok x) (Ok w) h = (counted w.done, h.1)
-represents_some who rows b (Ok x) (Err e) h = absurd h
-represents_some who rows b (Err r) (Ok w) h = absurd h
-represents_some who rows b (Err r) (Err e) h = (b, h.1)
-
 module _ (c : Text) (who : Option Text) (old new : Rows) (b : Broker)
     (ends : (next : Broker) → Represents who old next → Represents None new (end_spent next (Some c))) where
   -- a caller that was served
@@ -36,11 +27,6 @@ module _ (c : Text) (who : Option Text) (old new : Rows) (b : Broker)
       → response_of a ≡ refused r → Gives a new (finish b (Some c) m)
   finish_refused r (Ok w) a h is = absurd h
   finish_refused r (Err e) a h is = record { response = is ∙ ap refused h.0; represents = ends b h.1 }
-
--- a fact that no answer changes
-pub if_ok : {T E P : Type 0} (r : Result T E) → P → IfOk r (λ _. P)
-if_ok (Ok x) p = p
-if_ok (Err e) p = tt
 
 module _ (rows : Rows) (b : Broker) where
   -- an open ask that was served

@@ -1,28 +1,21 @@
 -- The identifiers that a command needs: its own, and those of a wrapping.
-use Rattle.std.specs.Prelude.{◌≡◌, not, if◌then◌else◌, List, ◌∷◌, drop, All, true}
-use Rattle.std.specs.Prelude.{is_none}
+use Rattle.std.specs.Prelude.{◌≡◌, if◌then◌else◌, List, ◌∷◌, drop, All, true}
 use Rattle.std.specs.Prelude.{⊤}
-use Rattle.std.specs.List.{list_any}
 use Rattle.std.proofs.Common.{sym, ◌∙◌, ap, subst}
-use Rattle.std.proofs.lemmas.Bool.{and_parts}
 use Rattle.std.proofs.lemmas.List.Elements.{All-cons, All-head, All-tail}
-use Rattle.broker_types.specs.Map.{Map, get}
+use Rattle.broker_types.specs.Map.{Map}
 use Rattle.broker_types.specs.Names.{Names}
 use Rattle.broker_types.specs.Sound.{IsIdentifier}
-use Rattle.broker_types.specs.Text.{Text, same}
+use Rattle.broker_types.specs.Text.{Text}
 use Rattle.broker_types.specs.Used.{are_new}
 use Rattle.broker_types.specs.declared.ask.Ask.{Ask}
+use Rattle.broker_types.specs.UsedLaws.{rest_new}
 use Rattle.broker_model.specs.Command.{Command}
 use Rattle.broker_model.specs.ServedAsks.{is_wrapped, needed_by}
 use Rattle.broker_model.specs.Step.{traits}
 use Rattle.broker_rows.specs.Operating.{ArePrinted}
 
 -- ---- what is wrapped
-
--- identifiers are new without the first of them
-rest_new : (used : Map ⊤) (i : Text) (rest : List Text) → are_new used (i ∷ rest) ≡ true → are_new used rest ≡ true
-rest_new used i rest new =
-    (and_parts (not (list_any (same i) rest)) (are_new used rest) (and_parts (is_none (get used i)) _ new).1).1
 
 -- and so without those of the wrapping token and of its accessor
 pub own_new : (used : Map ⊤) (i j : Text) (own : List Text) → are_new used (i ∷ j ∷ own) ≡ true

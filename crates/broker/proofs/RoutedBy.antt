@@ -1,5 +1,5 @@
 -- By which row of which table a path has its route.
-use Rattle.std.specs.Prelude.{◌≡◌, List, [], ◌∷◌, cond, Bool, true, false, Option, Some, None, Ok}
+use Rattle.std.specs.Prelude.{◌≡◌, List, [], ◌∷◌, cond, Bool, true, false, Option, Some, Ok}
 use Rattle.std.specs.List.{find, list_all}
 use Rattle.std.proofs.Common.{sym, ◌∙◌, ap}
 use Rattle.std.proofs.lemmas.Bool.{and_parts}
@@ -7,10 +7,9 @@ use Rattle.std.proofs.lemmas.Option.{none-some, same_Some}
 use Rattle.broker_types.specs.Broker.{Mount}
 use Rattle.broker_types.specs.OptionLaws.{mapped}
 use Rattle.broker_types.specs.Refuse.{some_or}
-use Rattle.broker_types.specs.RefuseLaws.{ok_step}
+use Rattle.broker_types.specs.RefuseLaws.{ok_step, some_ok}
 use Rattle.broker_types.specs.Text.{Text}
 use Rattle.broker_types.specs.declared.ask.Verb.{Verb}
-use Rattle.broker_types.specs.declared.refusal.Refusal.{Refusal}
 use Rattle.broker_types.specs.declared.refusal.Refusal.TheVariants as refusal
 use Rattle.records.specs.ValueLaws.{ok_inj}
 use Rattle.mounts.specs.Patterns.{pattern_found, is_row}
@@ -32,11 +31,6 @@ found_passes p q (s ∷ rows) r all e =
       | false ↦ λ is. found_passes p q rows r parts.1 is
     ] e
 
--- a value that is not refused is there
-some_there : {X : Type 0} (e : Refusal) (o : Option X) (x : X) → some_or e o ≡ Ok x → o ≡ Some x
-some_there e None x h = absurd (cc)
-some_there e (Some y) x h = ap Some (ok_inj h)
-
 -- a route has the type of what is at its first segment, one of whose rows has its operation
 pub record IsRoutedBy (o : Option Mount) (path : Text) (r : Route) : Type 0 where
   pub type : MountType
@@ -54,11 +48,11 @@ routed_by o v path r h =
     let operation = ok_step (some_or (refusal.MethodNotAllowed (methods_of rows pattern.0))
     (operation_for rows pattern.0 v)) _ r pattern.2 in
     let row = mapped (λ (x : RouteRow). x.operation) (find (is_row pattern.0 v) rows) operation.0
-    (some_there _ _ operation.0 operation.1) in
+    (some_ok _ _ operation.0 operation.1) in
     let is = ok_inj operation.2 in
     record {
       type = type.0;
-      there = some_there _ _ type.0 type.1;
+      there = some_ok _ _ type.0 type.1;
       mount = ap (λ (x : Route). x.mount) (sym is);
       passes = λ q all.
           ap (λ (x : Route). q x.operation) (sym is) ∙ ap q row.2

@@ -2,7 +2,7 @@
 use Rattle.std.specs.Prelude.{◌≡◌, ◌&&◌, List, true, false, is_some, is_none, if◌then◌else◌}
 use Rattle.std.specs.Prelude.{Option, Some, None, option_and_then}
 use Rattle.std.proofs.Common.{refl, sym, ◌∙◌, ap, subst, inl, inr}
-use Rattle.std.proofs.lemmas.Bool.{false≢true}
+use Rattle.std.proofs.lemmas.Bool.{false≢true, or_parts}
 use Rattle.broker_types.specs.Text.{Text}
 use Rattle.broker_types.specs.Map.{get}
 use Rattle.broker_types.specs.Token.{Token, Tokens}
@@ -21,7 +21,7 @@ use Rattle.leases.specs.LeaseRows.{RepresentsLeases}
 use Rattle.leases.specs.Laws.{EndedAreTold}
 use Rattle.leases.specs.LeftLaws.{all_readable, ends_added, readable_after}
 use Rattle.broker_rows.specs.Ending.{of_belongings, AreTokenLong, LeavesNothing, LosesObjects}
-use Rattle.broker_rows.specs.EndingLaws.{leaves_others, neither, no_token, is_object, is_lease, is_elsewhere}
+use Rattle.broker_rows.specs.EndingLaws.{leaves_others, no_token, is_object, is_lease, is_elsewhere}
 use Rattle.broker_rows.specs.EndingLaws.{other_tokens, others_kept}
 use Rattle.broker_rows.specs.Left.{HaveEnded}
 use Rattle.broker_rows.specs.Representing.{Represents}
@@ -34,7 +34,7 @@ no_belonging kind.Accessor h = refl
 no_belonging _ h = absurd (false≢true h)
 
 no_lease : (k : Kind) → of_tokens k ≡ true → of_leases k ≡ false
-no_lease k h = (neither (of_cubbyholes k) (of_leases k) (no_belonging k h)).1
+no_lease k h = (or_parts (of_cubbyholes k) (of_leases k) (no_belonging k h)).1
 
 module _ {who after : Option Text} (b : Broker) (us : Tokens) (ended : List Text) (rest : Rows)
     (e : HaveEnded who after b us ended rest) where
@@ -111,7 +111,7 @@ module _ {who after : Option Text} (b : Broker) (us : Tokens) (ended : List Text
           (objects_told objects) (leases_told leases)
           (λ k q h. let apart = is_elsewhere k h in
           leaves_others ended rest new leaves k q apart.1
-          ∙ e.ends.others k q (neither (of_cubbyholes k) (of_leases k) apart.1).1
+          ∙ e.ends.others k q (or_parts (of_cubbyholes k) (of_leases k) apart.1).1
           ∙ e.others k q apart.0);
       sound = e.sound;
     }

@@ -1,7 +1,7 @@
 -- The rows that are left when tokens have ended and what belonged to them was dropped.
-use Rattle.std.specs.Prelude.{◌≡◌, ◌||◌, List, [], ◌∷◌, Bool, true, false}
+use Rattle.std.specs.Prelude.{◌≡◌, List, [], ◌∷◌, true, false}
 use Rattle.std.proofs.Common.{refl, ◌∙◌, ap}
-use Rattle.std.proofs.lemmas.Bool.{false≢true, true≢false}
+use Rattle.std.proofs.lemmas.Bool.{false≢true, true≢false, or_parts}
 use Rattle.broker_types.specs.Text.{Text}
 use Rattle.broker_types.specs.Token.{Tokens}
 use Rattle.broker_types.specs.Broker.{Broker}
@@ -27,15 +27,11 @@ others_kept (t ∷ ended) rows k q h = others_kept ended (without_under rows kin
     one kind.Cubby h = absurd (true≢false h)
     one _ h = refl
 
-pub neither : (a b : Bool) → (a || b) ≡ false → (a ≡ false) × (b ≡ false)
-neither true b h = absurd (true≢false h)
-neither false b h = (refl, h)
-
 -- no other row goes with tokens that ended
 pub leaves_others : (ended : List Text) (old new : Rows) → LeavesNothing ended old new
     → KeepsOthers of_belongings (table_of old) (table_of new)
 leaves_others ended old new leaves k q h =
-    let apart = neither (of_cubbyholes k) (of_leases k) h in
+    let apart = or_parts (of_cubbyholes k) (of_leases k) h in
     ap (λ (z : Table). z k q) leaves.cubbyholes ∙ others_kept ended (table_of leaves.mid) k q apart.0
     ∙ leaves.leases.others k q apart.1
 

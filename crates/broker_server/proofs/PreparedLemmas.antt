@@ -1,7 +1,6 @@
 -- What follows from how a store was made ready.
 use Rattle.std.proofs.Common.{◌≡◌, ◌≢◌, ◌⊎◌, inl, inr, ℕ, ◌≤◌, Option, Some, None, sym, subst, arith}
 use Rattle.std.specs.FinMap.{empty, get-empty}
-use Rattle.std.specs.Prelude.{IfNone, IfSome}
 use Rattle.sqlite_trees.specs.declared.store.Store as store
 use Rattle.broker_types.specs.Broker.{Broker}
 use Rattle.broker_types.specs.Text.{Text}
@@ -34,14 +33,6 @@ pub new_broker : (moment : ℕ) (words : Words) (before after : Rows) (root : Op
     → IsPrepared moment words before after root → before ≡ empty → (b : Broker) × Represents None after b
 new_broker moment words before after None it none = absurd (it.started (subst HasNoClock (sym none) no_clock))
 new_broker moment words before after (Some token) it none = (_, it.broker)
-
--- what holds if nothing was found
-pub if_none : {X : Type 0} {P : Type 0} (o : Option X) → o ≡ None → IfNone o P → P
-if_none {X = X} {P = P} o is p = subst (λ (q : Option X). IfNone q P) is p
-
--- and of what was found
-pub if_some : {X : Type 0} (P : X → Type 0) (o : Option X) (x : X) → o ≡ Some x → IfSome o P → P x
-if_some {X = X} P o x is p = subst (λ (q : Option X). IfSome q P) is p
 
 -- a store was started, or those of the records open as a broker's: its rows are those of a broker
 pub sound_broker : (moment : ℕ) (words : Words) (before after : Rows) (root : Option Text)

@@ -1,5 +1,5 @@
 -- Rows that are looked for kind by kind.
-use Rattle.std.proofs.Common.{◌≡◌, ◌∙◌, ℕ, ◌+◌, ◌-◌, ◌≤◌, ◌==◌, List, [], ◌∷◌, false, true, refl, sym, ap, subst, arith}
+use Rattle.std.proofs.Common.{◌≡◌, ◌∙◌, ℕ, ◌+◌, ◌-◌, ◌≤◌, List, [], ◌∷◌, false, true, refl, sym, ap, subst, arith}
 use Rattle.std.specs.Prelude.{cond, ◌&&◌, nat_eq, slice_index_or, filter, nat_le}
 use Rattle.std.specs.List.{starts_with}
 use Rattle.std.specs.FinMap.{entries, entries_sorted, empty, get-empty, get-entries, same_entries_map}
@@ -12,6 +12,7 @@ use Rattle.records.specs.CallLaws.{goes_further, honest_before}
 use Rattle.records.specs.KeyLaws.{key_cmp_total, key_cmp_exact}
 use Rattle.records.specs.Kind.{RowKey, key_cmp, kind_number, is_of_kind}
 use Rattle.records.specs.Transaction.{Rows, Seen, GoesOn, IsHonest, rows_under}
+use Rattle.records.specs.SplitLaws.{eqb_self}
 
 -- the kinds in their order
 abbrev pub kinds : List Kind
@@ -80,9 +81,6 @@ looked_further old now new i so_far same on next =
     before : IsHonest new → IsHonest now
     before = honest_before now new false on
 
-itself : (n : ℕ) → (n == n) ≡ true
-itself n = grind (arith, nat_tests)
-
 -- an entry is among the rows of its kind
 none_first : (es : List (RowKey × Row))
     → ((kind : Kind) → filter (λ e. is_of_kind kind e.0 && starts_with nat_eq e.0.1 []) es ≡ []) → es ≡ []
@@ -90,7 +88,7 @@ none_first [] none = refl
 none_first (e ∷ es) none =
     let rest = filter (λ d. is_of_kind e.0.0 d.0 && starts_with nat_eq d.0.1 []) es in
     let no : (e ∷ rest) ≡ [] = subst (λ b. cond (b && starts_with nat_eq e.0.1 []) (e ∷ rest) rest ≡ [])
-    (itself (kind_number e.0.0)) (none e.0.0) in
+    (eqb_self (kind_number e.0.0)) (none e.0.0) in
     absurd cc
 
 entries-empty : entries (empty {K = RowKey} {X = Row} {R = key_cmp}) ≡ []

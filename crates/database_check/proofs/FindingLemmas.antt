@@ -1,6 +1,6 @@
 -- What holds of what a check finds.
-use Rattle.std.proofs.Common.{◌≡◌, ◌≤◌, ◌∙◌, Option, Some, None, Result, Ok, Err, subst, arith}
-use Rattle.std.specs.Prelude.{IfNone, IfSome, IfOk}
+use Rattle.std.proofs.Common.{◌≤◌, ◌∙◌, Result, Ok, Err, arith}
+use Rattle.std.specs.Prelude.{IfOk}
 use Rattle.records.specs.Kept.{Kept, IsHonestStore}
 use Rattle.records.specs.Table.{table_of}
 use Rattle.records.specs.Transaction.{Rows}
@@ -13,23 +13,10 @@ use Rattle.database_check.specs.declared.checking.Finding.TheVariants.{Sound, Un
 use Rattle.database_check.specs.declared.counts.Counts.{Counts}
 use Rattle.database_check.specs.declared.defect.Defect.{Defect}
 
--- of no row
-pub none_found : {X : Type 0} {P : Type 0} (o : Option X) → o ≡ None → IfNone o P → P
-none_found {X = X} {P = P} o is p = subst (λ (q : Option X). IfNone q P) is p
-
--- what follows from a fact holds as it does
-pub if_none : {X : Type 0} {P Q : Type 0} (o : Option X) → (P → Q) → IfNone o P → IfNone o Q
-if_none None f p = f p
-if_none (Some x) f p = tt
-
 pub if_sound : {P Q : Counts → Type 0} (finding : Finding) → ((counts : Counts) → P counts → Q counts)
     → IfSound finding P → IfSound finding Q
 if_sound (Sound counts) f p = f counts p
 if_sound (Unsound defect) f p = tt
-
--- of the row
-pub some_found : {X : Type 0} (P : X → Type 0) (o : Option X) (x : X) → o ≡ Some x → IfSome o P → P x
-some_found {X = X} P o x is p = subst (λ (q : Option X). IfSome q P) is p
 
 pub if_unsound : {P Q : Defect → Type 0} (finding : Finding) → ((defect : Defect) → P defect → Q defect)
     → IfUnsound finding P → IfUnsound finding Q

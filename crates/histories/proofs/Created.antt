@@ -11,7 +11,7 @@ use Rattle.broker_types.specs.TextLaws.{same_self, same_true}
 use Rattle.broker_types.specs.Token.{Token}
 use Rattle.records.specs.Children.{has, set_of}
 use Rattle.api_json.specs.declared.token_bodies.TokenCreation.{TokenCreation}
-use Rattle.broker_model.specs.CreationLaws.{has_set}
+use Rattle.broker_model.specs.CreationLaws.{has_set, kept}
 use Rattle.broker_model.specs.parts.TokenCreation.{asked_time, asked_ttl, has_no_end, have_root, new_policies}
 use Rattle.broker_model.specs.parts.TokenCreation.{or_longest, policies_given, without_default}
 use Rattle.histories.specs.Creations.{AsksNoEnd, HasPolicies, HasRoot, IsMadeFor}
@@ -41,18 +41,6 @@ failing_go f (t ∷ ts) q fails = by (f t) refl (failing_go f ts q fails) (same 
     by true is rest true here = absurd (false≢true (sym fails ∙ ap f (same_true q t here) ∙ is))
     by true is rest false apart = ap (λ w. w || has (filter f ts) q) apart ∙ rest
     by false is rest w at = rest
-
-only_those : (f : Text → Bool) (ts : List Text) (q : Text) → has (filter f ts) q ≡ true → has ts q ≡ true
-only_those f [] q there = there
-only_those f (t ∷ ts) q there = by (f t) (only_those f ts q) there
-  where
-    by : (v : Bool) → (has (filter f ts) q ≡ true → has ts q ≡ true)
-        → has (if v then t ∷ filter f ts else filter f ts) q ≡ true → (same q t || has ts q) ≡ true
-    by true rest h = elim (or_cases (same q t) (has (filter f ts) q) h) [
-      | inl here ↦ ap (λ w. w || has ts q) here
-      | inr later ↦ or_right (same q t) (has ts q) (rest later)
-    ]
-    by false rest h = or_right (same q t) (has ts q) (rest h)
 
 -- ---- policies
 
@@ -117,7 +105,7 @@ module _ (privileged : Bool) (x : Token) (asked : TokenCreation) where
   rest_given p = by asked.no_default_policy
     where
       by : (v : Bool) → has (if v then without_default given else given) p ≡ true → has given p ≡ true
-      by true h = only_those (λ q. not (same q (codes "default"))) given p h
+      by true h = kept (λ q. not (same q (codes "default"))) given p h
       by false h = h
 
   given_rest : (p : Text) → has given p ≡ true → (p ≢ codes "default") ⊎ (asked.no_default_policy ≡ false)

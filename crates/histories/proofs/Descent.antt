@@ -13,7 +13,7 @@ use Rattle.broker_types.specs.Names.{names_of, Names}
 use Rattle.broker_types.specs.Answer.{Response}
 use Rattle.broker_types.specs.Operation.{nothing, Done}
 use Rattle.broker_types.specs.Refuse.{some_or, unless}
-use Rattle.broker_types.specs.RefuseLaws.{ok_step}
+use Rattle.broker_types.specs.RefuseLaws.{ok_step, unless_ok}
 use Rattle.broker_types.specs.Token.{Token, Tokens, Lease}
 use Rattle.broker_types.specs.Lineage.{is_under, orphaned_by}
 use Rattle.broker_types.specs.LineageLaws.{get-revoke}
@@ -21,6 +21,7 @@ use Rattle.broker_types.specs.TokenText.{token_text}
 use Rattle.broker_types.specs.Sound.{Sound}
 use Rattle.broker_types.specs.declared.refusal.Refusal.TheVariants as refusal
 use Rattle.broker_types.specs.declared.refusal.Reason.TheVariants as reason
+use Rattle.broker_types.specs.OptionLaws.{is_there}
 use Rattle.records.specs.ValueLaws.{ok_inj}
 use Rattle.records.specs.TokenEntry.{token_entry}
 use Rattle.records.specs.declared.kind.Kind.TheVariants as kind
@@ -64,7 +65,7 @@ use Rattle.histories.proofs.Clients.{CarriesOut, from_clock, Course, FromClock, 
 use Rattle.histories.proofs.Clients.{left_unspent}
 use Rattle.histories.proofs.LeaseChanges.{edited_is, leases_left, policies_neither, responses_neither}
 use Rattle.histories.proofs.LeaseChanges.{secrets_neither, tokens_neither}
-use Rattle.histories.proofs.OrderCases.{unless_ok, some_ok}
+use Rattle.histories.proofs.OrderCases.{some_ok}
 use Rattle.histories.proofs.RenewedEnds.{is_new_end}
 
 -- those that change no cubbyhole
@@ -216,11 +217,6 @@ parent_left t (Some r) =
       | true ↦ λ at. inr (ap Some (same_true r t at), refl)
       | false ↦ λ _. inl refl
     ] refl
-
--- what is something is there
-pub there_is : {X : Type 0} (o : Option X) → is_some o ≡ true → (x : X) × (o ≡ Some x)
-there_is None none = absurd (false≢true none)
-there_is (Some x) some = (x, refl)
 
 -- ---- what becomes of a token
 
@@ -384,7 +380,7 @@ module _ (a : Asking) where
         let ending = ok_step (unless (is_some x.0.ends) (refusal.BadRequest reason.TokenNotRenewable)) _ d x.2 in
         let f = tree.with_end (new_end start.clock (token_entry x.0) increment) in
         let answered = s.is_200 _ _ (ap (λ (z : Done). z.answered) (sym (ok_inj ending.2))) in
-        let had = there_is x.0.ends (unless_ok _ _ ending.0 ending.1) in
+        let had = is_there x.0.ends (unless_ok _ _ ending.0 ending.1) in
         subst (Fated q (get start.tokens q))
         (sym (get-change start.tokens t f q) ∙ ap (λ (z : Done). get z.next.tokens q) (ok_inj ending.2))
         (elim (get start.tokens q) as

@@ -1,15 +1,16 @@
 -- Which names the list of a folder has.
 use Rattle.std.specs.Prelude.{◌≡◌, ◌==◌, ◌&&◌, ◌++◌, List, [], ◌∷◌, Bool, true, false, cond, drop, filter, length}
-use Rattle.std.specs.Prelude.{map, nat_eq, not, T}
+use Rattle.std.specs.Prelude.{map, nat_eq, not}
 use Rattle.std.specs.FinMap as fin
 use Rattle.std.specs.List.{starts_with}
 use Rattle.std.specs.FinMap.{is_sorted}
 use Rattle.std.proofs.Common.{refl, sym, ◌∙◌, ap, subst, inl, inr}
-use Rattle.std.proofs.lemmas.Bool.{and_parts, eqb-true, false≢true, or_cases, or_left, or_right}
+use Rattle.std.proofs.lemmas.Bool.{and_parts, eqb-true, false≢true, or_cases, or_left, or_right, not-true}
 use Rattle.broker_types.specs.Text.{Text, same, text_cmp}
 use Rattle.broker_types.specs.TextLaws.{same_self, same_true}
 use Rattle.broker_types.specs.Map.{entries}
 use Rattle.broker_types.specs.Sound.{is_ascending}
+use Rattle.broker_types.specs.TestLaws.{T_true}
 use Rattle.records.specs.Children.{below, child, children, has, set_of}
 use Rattle.records.specs.SplitLaws.{eqb_self}
 use Rattle.records.specs.Splits.{lacks, slash}
@@ -39,22 +40,18 @@ first_is (c ∷ path) = by (c == slash) refl (first_is path)
       )
     ]
 
-not_is : (v : Bool) → not v ≡ true → v ≡ false
-not_is true h = absurd (false≢true h)
-not_is false h = refl
-
 lacking_whole : (path : Text) → lacks slash path ≡ true → child path ≡ path
 lacking_whole [] h = refl
 lacking_whole (c ∷ path) h =
     let p = and_parts (not (c == slash)) (lacks slash path) h in
-    ap (λ v. c ∷ cond v [] (child path)) (not_is (c == slash) p.0) ∙ ap (λ t. c ∷ t) (lacking_whole path p.1)
+    ap (λ v. c ∷ cond v [] (child path)) (not-true (c == slash) p.0) ∙ ap (λ t. c ∷ t) (lacking_whole path p.1)
 
 before_slash : (segment more : Text) → lacks slash segment ≡ true
     → child (segment ++ slash ∷ more) ≡ segment ++ slash ∷ []
 before_slash [] more h = ap (λ v. slash ∷ cond v [] (child more)) (eqb_self slash)
 before_slash (c ∷ segment) more h =
     let p = and_parts (not (c == slash)) (lacks slash segment) h in
-    ap (λ v. c ∷ cond v [] (child (segment ++ slash ∷ more))) (not_is (c == slash) p.0)
+    ap (λ v. c ∷ cond v [] (child (segment ++ slash ∷ more))) (not-true (c == slash) p.0)
     ∙ ap (λ t. c ∷ t) (before_slash segment more p.1)
 
 -- there is one
@@ -140,10 +137,6 @@ module _ (prefix : Text) where
 
 -- ---- each once
 
-is_true : (b : Bool) → T b → b ≡ true
-is_true true h = refl
-is_true false h = absurd h
-
 sorted_ascend : {X : Type 0} (es : List (Text × X)) → is_sorted text_cmp es ≡ true
     → is_ascending (map (λ e. e.0) es) ≡ true
 sorted_ascend [] h = refl
@@ -157,7 +150,7 @@ pub folders_listed : (prefix : Text) (paths : List Text) → ListsFolder prefix 
 folders_listed prefix paths =
     let names = map child (below prefix paths) in
     record {
-      once = sorted_ascend (entries (set_of names)) (is_true _ (fin.entries_sorted (set_of names)));
+      once = sorted_ascend (entries (set_of names)) (T_true _ (fin.entries_sorted (set_of names)));
       only = λ name h. only_first prefix paths name (sym (has_set names name) ∙ h);
       all = λ path name h first. has_set names name ∙ all_firsts prefix paths path name h first;
     }

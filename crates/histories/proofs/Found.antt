@@ -4,9 +4,9 @@ use Rattle.std.specs.Prelude.{List, is_some, is_none, option_and_then, option_ma
 use Rattle.std.specs.List.{list_any}
 use Rattle.std.specs.Option.{option_map_or}
 use Rattle.std.proofs.Common.{sym, ◌∙◌, ap, inl, inr}
-use Rattle.std.proofs.lemmas.Bool.{false≢true, false_from_ne_true}
+use Rattle.std.proofs.lemmas.Bool.{false≢true}
 use Rattle.broker_types.specs.Text.{Text, same}
-use Rattle.broker_types.specs.TextLaws.{same_self, same_true}
+use Rattle.broker_types.specs.TextLaws.{same_self, same_false}
 use Rattle.broker_types.specs.Map.{Map, first_where, get, put, without}
 use Rattle.broker_types.specs.Name.{is_name, reserved_names}
 use Rattle.broker_types.specs.SearchLaws.{first_where_is, first_where_none}
@@ -84,15 +84,12 @@ lease_found b lease_id t x l there has =
 
 -- ---- names
 
-apart : (t u : Text) → t ≢ u → same t u ≡ false
-apart t u other = false_from_ne_true (same t u) (λ is. other (same_true t u is))
-
 -- two identifiers that were not given out, and differ, are new
 pub both_new : (used : Map ⊤) (one other : Text) → get used one ≡ None → get used other ≡ None → one ≢ other
     → are_new used (one ∷ other ∷ []) ≡ true
 both_new used one other first second differ =
     ap (λ o. is_none o && (not (same one other || false) && are_new used (other ∷ []))) first
-    ∙ ap (λ v. not (v || false) && are_new used (other ∷ [])) (apart one other differ)
+    ∙ ap (λ v. not (v || false) && are_new used (other ∷ [])) (same_false one other differ)
     ∙ ap (λ o. is_none o && true) second
 
 -- ---- a mount
@@ -101,19 +98,20 @@ both_new used one other first second differ =
 pub goes : (name : Text) → name ≢ codes "sys" → name ≢ codes "auth" → name ≢ codes "cubbyhole" → may_go name ≡ Ok tt
 goes name sys auth own =
     ap (λ v. unless (not v) (refusal.BadRequest reason.MountFixed))
-    (ap (λ v. v || list_any (same name) (codes "auth" ∷ codes "cubbyhole" ∷ [])) (apart name (codes "sys") sys)
-    ∙ ap (λ v. v || list_any (same name) (codes "cubbyhole" ∷ [])) (apart name (codes "auth") auth)
-    ∙ ap (λ v. v || false) (apart name (codes "cubbyhole") own))
+    (ap (λ v. v || list_any (same name) (codes "auth" ∷ codes "cubbyhole" ∷ [])) (same_false name (codes "sys") sys)
+    ∙ ap (λ v. v || list_any (same name) (codes "cubbyhole" ∷ [])) (same_false name (codes "auth") auth)
+    ∙ ap (λ v. v || false) (same_false name (codes "cubbyhole") own))
 
 -- none of these names is reserved
 unreserved : (name : Text) → name ≢ codes "sys" → name ≢ codes "auth" → name ≢ codes "cubbyhole"
     → name ≢ codes "identity" → list_any (same name) reserved_names ≡ false
 unreserved name sys auth own identity =
     ap (λ v. v || list_any (same name) (codes "auth" ∷ codes "cubbyhole" ∷ codes "identity" ∷ []))
-    (apart name (codes "sys") sys)
-    ∙ ap (λ v. v || list_any (same name) (codes "cubbyhole" ∷ codes "identity" ∷ [])) (apart name (codes "auth") auth)
-    ∙ ap (λ v. v || list_any (same name) (codes "identity" ∷ [])) (apart name (codes "cubbyhole") own)
-    ∙ ap (λ v. v || false) (apart name (codes "identity") identity)
+    (same_false name (codes "sys") sys)
+    ∙ ap (λ v. v || list_any (same name) (codes "cubbyhole" ∷ codes "identity" ∷ []))
+    (same_false name (codes "auth") auth)
+    ∙ ap (λ v. v || list_any (same name) (codes "identity" ∷ [])) (same_false name (codes "cubbyhole") own)
+    ∙ ap (λ v. v || false) (same_false name (codes "identity") identity)
 
 -- the engine that is meant is the one that is asked for
 engine_is : (asked : MountCreation) (e : Engine) → MeansEngine asked e
@@ -154,7 +152,7 @@ sets policies name text named root is = elim (found_or_not (policy_of text)) [
       let read : Option (List Rule) → Result ⊤ Refusal = λ o. some_or unsupported o >>= (λ rs. Ok tt) in
       ap (λ v. put_it (unless v (refusal.BadRequest reason.InvalidName)
       >>= (λ u. unless (not (is_root name)) fixed >>= (λ w. read (policy_of text))))) named
-      ∙ ap (λ v. put_it (unless (not v) fixed >>= (λ w. read (policy_of text)))) (apart name (codes "root") root)
+      ∙ ap (λ v. put_it (unless (not v) fixed >>= (λ w. read (policy_of text)))) (same_false name (codes "root") root)
       ∙ ap (λ o. put_it (read o)) rules.1
 ]
 
@@ -163,5 +161,5 @@ pub removes : (policies : Map Text) (name : Text) → name ≢ codes "root" → 
     → deleted policies name ≡ Ok (without policies name)
 removes policies name root default =
     ap (λ v. unless (not (v || same name (codes "default"))) fixed >>= (λ u. Ok (without policies name)))
-    (apart name (codes "root") root)
-    ∙ ap (λ v. unless (not v) fixed >>= (λ u. Ok (without policies name))) (apart name (codes "default") default)
+    (same_false name (codes "root") root)
+    ∙ ap (λ v. unless (not v) fixed >>= (λ u. Ok (without policies name))) (same_false name (codes "default") default)

@@ -3,7 +3,7 @@ use Rattle.std.specs.Prelude.{◌≡◌, ◌⊎◌, ◌||◌, not, ℕ, take, []
 use Rattle.std.specs.FinMap.{get-empty}
 use Rattle.std.specs.List.{list_any}
 use Rattle.std.proofs.Common.{refl, sym, ap, inl, inr}
-use Rattle.std.proofs.lemmas.Bool.{false≢true, false_from_ne_true}
+use Rattle.std.proofs.lemmas.Bool.{false≢true, false_from_ne_true, and_from}
 use Rattle.broker_types.specs.Text.{Text, same, text_cmp}
 use Rattle.broker_types.specs.TextLaws.{same_true}
 use Rattle.broker_types.specs.Map.{get, empty}
@@ -24,7 +24,7 @@ use Rattle.histories.proofs.Marked.{are_steps, stay_used, step_at, steps_mark, u
 use Rattle.histories.proofs.Placed.{moment_placed}
 use Rattle.histories.proofs.Requests.{asked_at}
 use Rattle.histories.proofs.RequestsPlace.{requests_tell}
-use Rattle.histories.proofs.Used.{any_left, any_right, join, new_append, new_differ, used_or}
+use Rattle.histories.proofs.Used.{any_left, any_right, new_append, new_differ, used_or}
 
 -- each identifier in a place of a broker that is asked was given out
 abbrev AllUsedAt : History → Type 0
@@ -70,7 +70,7 @@ module _ (told : OperationsDoAsTold) (s : Beginning) (history : History) (steps 
       false_from_ne_true (same (id s.accessor_word) (id s.token_word)) (λ e. s.differ
       (sym (id-same s.accessor_word s.token_word s.accessor_fits s.token_fits
       (same_true (id s.accessor_word) (id s.token_word) e)))) in
-      join _ _ first (join _ _ (ap (λ v. not (v || false)) apart) (join _ _ second refl))
+      and_from _ _ first (and_from _ _ (ap (λ v. not (v || false)) apart) (and_from _ _ second refl))
 
   all_given : (j : ℕ) (x : Asking) (p : Place) (i : Text) → AskedAt history j x → identifier_at x.broker p ≡ Some i
       → list_any (same i) (id s.accessor_word ∷ id s.token_word ∷ given_out (take j history)) ≡ true

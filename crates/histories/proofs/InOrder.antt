@@ -1,7 +1,6 @@
 -- What holds of each way that a request can go, holds of the request.
 use Rattle.std.specs.Prelude.{◌≡◌, ℕ, Bool, true, false, if◌then◌else◌, Option, Some, None, Result, is_some}
 use Rattle.std.proofs.Common.{refl, sym, ◌∙◌, ap, inl, inr}
-use Rattle.std.proofs.lemmas.Bool.{false≢true}
 use Rattle.std.proofs.lemmas.Option.{none-some, same_Some}
 use Rattle.broker_types.specs.Text.{Text}
 use Rattle.broker_types.specs.Map.{get}
@@ -11,15 +10,11 @@ use Rattle.broker_types.specs.Operation.{Done}
 use Rattle.broker_types.specs.Spending.{spend, drop_waiting}
 use Rattle.broker_types.specs.declared.ask.Verb.{Verb}
 use Rattle.broker_types.specs.declared.refusal.Refusal.{Refusal}
+use Rattle.broker_types.specs.OptionLaws.{not_there}
 use Rattle.broker_model.specs.Traits.{Traits}
 use Rattle.broker_model.specs.Order.{Outcome, Wrapped, denied, finish, for_caller, ordered, serve}
 use Rattle.broker_model.specs.Request.{Request}
 use Rattle.histories.proofs.OrderCases.{IsCaller, spent}
-
--- what is not there is none
-pub not_there : {X : Type 0} (o : Option X) → is_some o ≡ false → o ≡ None
-not_there None e = refl
-not_there (Some x) e = absurd (false≢true (sym e))
 
 module _ {Command : Type 0} (permits : Broker → Option Text → Verb → Text → Bool) (traits : Command → Traits)
     (act : Broker → Option Text → Names → Command → Result Done Refusal) (b : Broker) (moment : ℕ)

@@ -17,7 +17,7 @@ use Rattle.broker_types.specs.Names.{names_of, Names}
 use Rattle.broker_types.specs.Answer.{Response}
 use Rattle.broker_types.specs.Operation.{nothing, plainly, reply, Done}
 use Rattle.broker_types.specs.Refuse.{some_or, unless}
-use Rattle.broker_types.specs.RefuseLaws.{ok_step}
+use Rattle.broker_types.specs.RefuseLaws.{ok_step, unless_ok}
 use Rattle.broker_types.specs.Spending.{is_spent}
 use Rattle.broker_types.specs.Token.{Token, Tokens, Lease}
 use Rattle.broker_types.specs.declared.reply.Reply.{Reply}
@@ -70,7 +70,7 @@ use Rattle.histories.specs.LeaseOwners.{IsIssuedTo, IsOfRole}
 use Rattle.histories.specs.Own.{IsRenewedLease, LeaseBecomes, RenewsLease}
 use Rattle.histories.specs.Revocation.{IsClient}
 use Rattle.histories.proofs.Clients.{CarriesOut, from_clock}
-use Rattle.histories.proofs.OrderCases.{unless_ok, some_ok}
+use Rattle.histories.proofs.OrderCases.{some_ok}
 
 -- ---- parts that change neither
 

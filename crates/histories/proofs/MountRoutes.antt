@@ -1,11 +1,10 @@
 -- What the paths mean in a mount that was enabled, and those of policies, of mounts and of cubbyholes.
-use Rattle.std.specs.Prelude.{◌≡◌, ◌==◌, ◌&&◌, ◌||◌, ◌++◌, [], ◌∷◌, ℕ, Bool, true, false, not, Option, Some, None}
+use Rattle.std.specs.Prelude.{◌≡◌, ◌&&◌, ◌||◌, ◌++◌, [], ◌∷◌, ℕ, Bool, true, false, not, Option, Some, None}
 use Rattle.std.specs.Prelude.{Result, codes, if◌then◌else◌, unwrap_or}
 use Rattle.std.specs.List.{list_all}
-use Rattle.std.proofs.Common.{refl, ◌∙◌, ap, arith}
+use Rattle.std.proofs.Common.{refl, ◌∙◌, ap}
 use Rattle.std.proofs.lemmas.Bool.{and_parts, false≢true}
-use Rattle.std.proofs.lemmas.Bool.Decides.{nat_tests}
-use Rattle.broker_types.specs.Name.{is_mount_name, is_name, is_name_byte}
+use Rattle.broker_types.specs.Name.{is_mount_name, is_name}
 use Rattle.broker_types.specs.Broker.{Engine, Mount, issued, kv}
 use Rattle.broker_types.specs.Refuse.{◌>>=◌}
 use Rattle.broker_types.specs.Text.{Text, same}
@@ -14,7 +13,8 @@ use Rattle.broker_types.specs.declared.ask.Verb.TheVariants as verb
 use Rattle.broker_types.specs.declared.refusal.Refusal.{Refusal}
 use Rattle.records.specs.Rows.{or_else}
 use Rattle.records.specs.SplitLaws.{split-lacking}
-use Rattle.records.specs.Splits.{lacks, slash}
+use Rattle.records.specs.Splits.{slash}
+use Rattle.records.specs.SecretNameLaws.{mount_no_slash}
 use Rattle.mounts.specs.Forms.{are_bytes, parameter}
 use Rattle.mounts.specs.Laws.{AreInOrder, FoundByForm, NoneFoundByForm}
 use Rattle.mounts.specs.Route.{Route, operation_for, route_of}
@@ -39,15 +39,6 @@ weaker : (p q : ℕ → Bool) → ((x : ℕ) → p x ≡ true → q x ≡ true) 
     → list_all q xs ≡ true
 weaker p q h [] e = refl
 weaker p q h (x ∷ xs) e = λ i. h x (and_parts _ _ e).0 i && weaker p q h xs (and_parts _ _ e).1 i
-
-name_byte : (x : ℕ) → is_name_byte x ≡ true → not (x == slash) ≡ true
-name_byte x h = grind (arith, nat_tests)
-
--- it has no slash
-name_lacks : (name : Text) → is_mount_name name ≡ true → lacks slash name ≡ true
-name_lacks name h =
-    weaker is_name_byte (λ x. not (x == slash)) name_byte name
-    (and_parts _ _ (and_parts _ _ (and_parts (is_name name) _ h).0).1).1
 
 -- and is none of those that are always there
 not_fixed : (name : Text) → is_mount_name name ≡ true → fixed_type name ≡ None
@@ -81,7 +72,7 @@ module _ (found : FoundByForm) (none : NoneFoundByForm) (ordered : AreInOrder) w
       ∙ ap (λ (t : Option MountType). or_else t (Some (type_of m))) (not_fixed name named)
       ∙ ap (λ (e : Engine). Some (engine_type e)) is)
       (ap (λ (o : Option (Text × Text)). unwrap_or o (path, []))
-      (split-lacking slash name rest (name_lacks name named)))
+      (split-lacking slash name rest (mount_no_slash name named)))
       bytes stands row parameter_is)
 
   pub paths_of_secrets : PathsOfSecrets

@@ -51,6 +51,7 @@ use Rattle.histories.specs.Paths.{WrittenMeans, on_named}
 use Rattle.histories.proofs.OrderCases.{with_caller}
 use Rattle.histories.proofs.OrderKeeps.{wrapped_cases}
 use Rattle.histories.proofs.Routes.{OpenedAreRoutes, fixed_route, may_open}
+use Rattle.histories.proofs.Requests.{is_wrap_of}
 
 -- ---- what it means
 
@@ -150,9 +151,6 @@ by_path : (a : Ask) (path : Text) (o : Opens) → a.verb ≡ verb.Write → a.pa
 by_path a path o write here opens =
     (λ i. opened_by (opening (write i) (here i)) a.token a.body) ∙ ap (λ x. opened_by x a.token a.body) opens
 
-is_wrapping_of : {x y : WrappingCommand} → on_wrapping x ≡ on_wrapping y → x ≡ y
-is_wrapping_of e = cc
-
 -- a command on the client token names no other
 names_own : (mounts : Map Mount) (a : Ask) (on : Option Text → WrappingCommand)
     → ((x y : Option Text) → on x ≡ on y → x ≡ y)
@@ -164,7 +162,7 @@ names_own mounts a on one is means =
     (on_wrapping (on a.token)) (sym is ∙ means) in
     let x = named (λ named. on (token_meant a.token named)) a.body k.0 k.1 in
     ap (is_own_if_read a.token) x.1
-    ∙ own_if_meant a.token x.0 (one (token_meant a.token x.0) a.token (x.2 ∙ is_wrapping_of (ok_inj k.2)))
+    ∙ own_if_meant a.token x.0 (one (token_meant a.token x.0) a.token (x.2 ∙ is_wrap_of (ok_inj k.2)))
 
 pub these_are_open : WrittenMeans (codes "sys/wrapping/rewrap") (on_named response.Rewrap)
     → WrittenMeans (codes "sys/wrapping/unwrap") (on_named response.Unwrap) → TheseAreOpen

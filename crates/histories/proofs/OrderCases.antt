@@ -1,6 +1,6 @@
 -- The cases of the order of one request.
 use Rattle.std.specs.Prelude.{◌≡◌, ◌⊎◌, ◌||◌, ℕ, Bool, true, false, not, nat_lt, if◌then◌else◌}
-use Rattle.std.specs.Prelude.{Option, Some, None, Result, Ok, Err, is_some, ⊤}
+use Rattle.std.specs.Prelude.{Option, Some, None, Result, Ok, Err, is_some}
 use Rattle.std.proofs.Common.{refl, sym, ◌∙◌, ap, subst, inl, inr}
 use Rattle.broker_types.specs.Text.{Text}
 use Rattle.broker_types.specs.Map.{get}
@@ -8,7 +8,7 @@ use Rattle.broker_types.specs.Broker.{Broker, at_moment}
 use Rattle.broker_types.specs.Names.{Names}
 use Rattle.broker_types.specs.Operation.{Done}
 use Rattle.broker_types.specs.Refuse.{some_or, unless}
-use Rattle.broker_types.specs.RefuseLaws.{no_ok, ok_step}
+use Rattle.broker_types.specs.RefuseLaws.{no_ok, ok_step, unless_ok}
 use Rattle.broker_types.specs.Spending.{spend, drop_waiting}
 use Rattle.broker_types.specs.Used.{are_new}
 use Rattle.broker_types.specs.declared.ask.Verb.{Verb}
@@ -23,11 +23,6 @@ use Rattle.broker_model.specs.Order.{serve, wrapped}
 use Rattle.broker_model.specs.Request.{Request}
 
 -- ---- steps of a definition
-
--- a test that is not refused holds
-pub unless_ok : (b : Bool) (z : Refusal) (u : ⊤) → unless b z ≡ Ok u → b ≡ true
-unless_ok true z u e = refl
-unless_ok false z u e = no_ok e
 
 -- there was what was asked for
 pub some_ok : {A : Type 0} {x : A} (r : Refusal) (o : Option A) → some_or r o ≡ Ok x → o ≡ Some x

@@ -4,7 +4,7 @@ use Rattle.std.specs.Prelude.{if◌then◌else◌, Option, Some, None, Result, O
 use Rattle.std.specs.List.{list_any}
 use Rattle.std.specs.Option.{option_map_or}
 use Rattle.std.proofs.Common.{refl, sym, ◌∙◌, ap, subst, inl, inr}
-use Rattle.std.proofs.lemmas.Bool.{false≢true, and_parts, ltb-true}
+use Rattle.std.proofs.lemmas.Bool.{false≢true, and_parts, ltb-true, and_from}
 use Rattle.std.proofs.lemmas.Option.{none-some, same_Some}
 use Rattle.broker_types.specs.Text.{Text, same}
 use Rattle.broker_types.specs.Map.{Map, get, without}
@@ -28,6 +28,7 @@ use Rattle.broker_types.specs.Used.{are_new, use_up}
 use Rattle.broker_types.specs.declared.ask.Verb.{Verb}
 use Rattle.broker_types.specs.declared.reply.Reply.{Reply}
 use Rattle.broker_types.specs.declared.refusal.Refusal.{Refusal}
+use Rattle.broker_types.specs.UsedLaws.{rest_new}
 use Rattle.wrapping.specs.SoundLaws.{store_evolves}
 use Rattle.wrapping.specs.Wrapping.{with_waiting}
 use Rattle.histories.specs.History.{Asking, clocked}
@@ -43,15 +44,11 @@ use Rattle.histories.proofs.OrderCases.{IsServed, IsTurnedAway, IsTurnedDown, or
 use Rattle.api_json.specs.Reply.{reply_text, wrap_reply}
 use Rattle.broker_model.specs.Request.{Request}
 use Rattle.broker_model.specs.Responses.{ok}
-use Rattle.histories.proofs.Used.{join}
 
 -- ---- identifiers
 
 pub first_new : (used : Map ⊤) (i : Text) (is : List Text) → are_new used (i ∷ is) ≡ true → get used i ≡ None
 first_new used i is h = is_nothing (get used i) (and_parts _ _ h).0
-
-tail_new : (used : Map ⊤) (i : Text) (is : List Text) → are_new used (i ∷ is) ≡ true → are_new used is ≡ true
-tail_new used i is h = (and_parts _ _ (and_parts (is_none (get used i)) _ h).1).1
 
 -- the first two of new identifiers are new without the others
 fewer_new : (used : Map ⊤) (i j : Text) (own : List Text) → are_new used (i ∷ j ∷ own) ≡ true
@@ -65,7 +62,7 @@ fewer_new used i j own h =
       | true ↦ λ e. e
       | false ↦ λ _. refl
     ] q.0 in
-    join _ _ p.0 (join _ _ apart (join _ _ r.0 refl))
+    and_from _ _ p.0 (and_from _ _ apart (and_from _ _ r.0 refl))
 
 -- more that is used lets a broker evolve
 pub used_more : (m : Map ⊤) (is : List Text) (i : Text) → get m i ≢ None → get (use_up m is) i ≢ None
@@ -142,8 +139,8 @@ module _ {Command : Type 0} (permits : Broker → Option Text → Verb → Text 
       elim (wraps permits traits act q command) as
       (λ v. are_new used (if v then names.wrapping_token ∷ names.wrapping_accessor ∷ (traits command).own names
       else (traits command).own names) ≡ true → are_new used ((traits command).own names) ≡ true) [
-        | true ↦ λ h. tail_new used names.wrapping_accessor ((traits command).own names)
-            (tail_new used names.wrapping_token (names.wrapping_accessor ∷ (traits command).own names) h)
+        | true ↦ λ h. rest_new used names.wrapping_accessor ((traits command).own names)
+            (rest_new used names.wrapping_token (names.wrapping_accessor ∷ (traits command).own names) h)
         | false ↦ λ h. h
       ]
 

@@ -10,7 +10,7 @@ use Rattle.broker_types.specs.Map.{entries, get}
 use Rattle.broker_types.specs.Answer.{Response, refused}
 use Rattle.broker_types.specs.Names.{names_of}
 use Rattle.broker_types.specs.Operation.{missing, reply, Done}
-use Rattle.broker_types.specs.OptionLaws.{mapped, mapped_none}
+use Rattle.broker_types.specs.OptionLaws.{mapped, mapped_none, not_there}
 use Rattle.broker_types.specs.Refuse.{some_or}
 use Rattle.broker_types.specs.RefuseLaws.{no_ok, ok_step}
 use Rattle.broker_types.specs.Secret.{Key, Version}
@@ -40,7 +40,6 @@ use Rattle.broker_model.specs.parts.SecretReplies.{object_left, version_answered
 use Rattle.histories.specs.History.{Asking, clocked}
 use Rattle.histories.specs.Versions.{LacksVersion, ShowsEnded}
 use Rattle.histories.proofs.EventSecrets.{is_200}
-use Rattle.histories.proofs.InOrder.{not_there}
 use Rattle.histories.proofs.OrderCases.{some_ok, spent}
 use Rattle.histories.proofs.OrderKeeps.{wrapped_cases}
 use Rattle.histories.proofs.Reasons.{Rejects, Way, err_inj, err_step, some_err, ways}

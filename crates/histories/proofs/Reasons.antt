@@ -7,7 +7,7 @@ use Rattle.broker_types.specs.Answer.{refused}
 use Rattle.broker_types.specs.Broker.{Broker, Mount}
 use Rattle.broker_types.specs.Names.{names_of}
 use Rattle.broker_types.specs.Refuse.{◌>>=◌, some_or, unless}
-use Rattle.broker_types.specs.RefuseLaws.{no_ok, ok_step}
+use Rattle.broker_types.specs.RefuseLaws.{no_ok, ok_step, unless_ok}
 use Rattle.broker_types.specs.Used.{are_new}
 use Rattle.broker_types.specs.declared.refusal.Reason.TheVariants as reason
 use Rattle.broker_types.specs.declared.refusal.Refusal.{Refusal}
@@ -21,7 +21,7 @@ use Rattle.broker_model.specs.Request.{Request}
 use Rattle.broker_model.specs.Step.{request_of, step, traits}
 use Rattle.histories.specs.History.{Asking, clocked}
 use Rattle.histories.proofs.InOrder.{in_order}
-use Rattle.histories.proofs.OrderCases.{IsCaller, spent, unless_ok}
+use Rattle.histories.proofs.OrderCases.{IsCaller, spent}
 use Rattle.histories.proofs.Requests.{spent_mounts}
 use Rattle.histories.proofs.Served.{Served}
 

@@ -13,7 +13,7 @@ use Rattle.broker_types.specs.Broker.{Broker, Mount, Waiting, at_moment}
 use Rattle.broker_types.specs.Names.{Names, names_of}
 use Rattle.broker_types.specs.Operation.{Answered, nothing, reply, kept_text, missing, Done}
 use Rattle.broker_types.specs.Refuse.{◌>>=◌, unless}
-use Rattle.broker_types.specs.RefuseLaws.{ok_step}
+use Rattle.broker_types.specs.RefuseLaws.{ok_step, unless_ok}
 use Rattle.broker_types.specs.Spending.{spend, drop_waiting, end_spent, one_less}
 use Rattle.broker_types.specs.Status.{status_code}
 use Rattle.broker_types.specs.Token.{Token}
@@ -38,8 +38,9 @@ use Rattle.broker_model.specs.declared.commands.WrappingCommand.TheVariants as r
 use Rattle.histories.specs.Refused.{Calls, ChangesNothingElse, HasNoCaller, HasResponse, IsDenial, PoliciesDecide}
 use Rattle.histories.specs.Refused.{RefusedChangeNothing, WrapNeedsTtl, is_granted}
 use Rattle.histories.proofs.InOrder.{in_order}
-use Rattle.histories.proofs.OrderCases.{IsCaller, spent, unless_ok, with_caller}
+use Rattle.histories.proofs.OrderCases.{IsCaller, spent, with_caller}
 use Rattle.histories.proofs.OrderKeeps.{wrapped_cases}
+use Rattle.histories.proofs.Requests.{spent_mounts}
 
 -- ---- refused
 
@@ -127,10 +128,6 @@ pub refused_change_nothing : OperationsDoAsTold → RefusedChangeNothing
 refused_change_nothing told b moment words a high = leaves_all_else told b moment words a high
 
 -- ---- without a wrap TTL
-
-spent_mounts : (c : Broker) (who : Option Text) → (spent c who).mounts ≡ c.mounts
-spent_mounts c None = refl
-spent_mounts c (Some t) = refl
 
 module _ (b : Broker) (moment : ℕ) (words : Words) (a : Ask) (text : Text)
     (means : command_of (at_moment b moment).mounts a ≡ Ok (on_wrapping (response.Wrap text)))

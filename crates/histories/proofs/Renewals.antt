@@ -11,10 +11,10 @@ use Rattle.broker_types.specs.MapLaws.{get-change, valued_is}
 use Rattle.broker_types.specs.Broker.{Broker}
 use Rattle.broker_types.specs.Names.{names_of}
 use Rattle.broker_types.specs.Operation.{Done}
-use Rattle.broker_types.specs.OptionLaws.{found_or_not}
+use Rattle.broker_types.specs.OptionLaws.{found_or_not, is_there}
 use Rattle.broker_types.specs.IdentifierPlaces.{lease_of}
 use Rattle.broker_types.specs.Refuse.{unless}
-use Rattle.broker_types.specs.RefuseLaws.{no_ok, ok_step}
+use Rattle.broker_types.specs.RefuseLaws.{no_ok, ok_step, unless_ok}
 use Rattle.broker_types.specs.SearchLaws.{first_where_is}
 use Rattle.broker_types.specs.Status.{status_code}
 use Rattle.broker_types.specs.Token.{Lease, Token, Tokens}
@@ -40,10 +40,10 @@ use Rattle.histories.specs.History.{Asking, clocked, spent_by}
 use Rattle.histories.specs.Own.{IsRenewedLease, IsRenewedTo, RenewalOf, RenewsLease, RenewsToken, increment_of}
 use Rattle.histories.specs.Shown.{TellsRenewed, TellsRenewedLease}
 use Rattle.histories.proofs.Clients.{from_clock}
-use Rattle.histories.proofs.Descent.{HasNewEnd, before_use, renewed_to, there_is}
+use Rattle.histories.proofs.Descent.{HasNewEnd, before_use, renewed_to}
 use Rattle.histories.proofs.Disabled.{token_left}
 use Rattle.histories.proofs.LeaseChanges.{renewed_so}
-use Rattle.histories.proofs.OrderCases.{some_ok, unless_ok}
+use Rattle.histories.proofs.OrderCases.{some_ok}
 use Rattle.histories.proofs.RenewedEnds.{is_new_end}
 use Rattle.histories.proofs.Requests.{tells_body}
 use Rattle.histories.proofs.Served.{served}
@@ -79,7 +79,7 @@ module _ (a : Asking) (is : a.outcome ≡ step a.broker a.moment a.words a.ask) 
       let is_renewed : y ≡ f x.0 = z.2
       ∙ ap (λ u. if same u t then f z.0 else z.0) (sym is_q)
       ∙ ap (λ v. if v then f z.0 else z.0) (same_self t) ∙ ap f one in
-      let had = there_is x.0.ends (unless_ok _ _ ending.0 ending.1) in
+      let had = is_there x.0.ends (unless_ok _ _ ending.0 ending.1) in
       let from = from_clock a for.caller for.client q x.0 was in
       let end : HasNewEnd a q x.0 y.ends = record {
         renews = r;

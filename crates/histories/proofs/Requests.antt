@@ -103,7 +103,7 @@ module _ {C : Type 0} (on : C → Command) (apart : (x : C) → is_of_responses 
       let x = ok_step m (λ command. Ok (on command)) (on_wrapping k) e in
       absurd (false≢true (sym (apart x.0) ∙ ap is_of_responses (ok_inj x.2)))
 
-is_wrap_of : {x y : WrappingCommand} → on_wrapping x ≡ on_wrapping y → x ≡ y
+pub is_wrap_of : {x y : WrappingCommand} → on_wrapping x ≡ on_wrapping y → x ≡ y
 is_wrap_of e = cc
 
 -- the text of an ask to wrap is the object of its body

@@ -15,12 +15,13 @@ use Rattle.broker_types.specs.Broker.{Broker, Engine, Mount, Role, Waiting, issu
 use Rattle.broker_types.specs.Name.{is_name, reserved_names}
 use Rattle.broker_types.specs.Operation.{nothing, Done}
 use Rattle.broker_types.specs.Refuse.{some_or, unless}
-use Rattle.broker_types.specs.RefuseLaws.{no_ok, ok_step}
+use Rattle.broker_types.specs.RefuseLaws.{no_ok, ok_step, unless_ok}
 use Rattle.broker_types.specs.Status.{status_code}
 use Rattle.broker_types.specs.Token.{Tokens}
 use Rattle.broker_types.specs.declared.refusal.Reason.TheVariants as reason
 use Rattle.broker_types.specs.declared.refusal.Refusal.TheVariants as refusal
 use Rattle.broker_types.specs.declared.status.Status.TheVariants as status
+use Rattle.broker_types.specs.OptionLaws.{not_there}
 use Rattle.records.specs.ValueLaws.{ok_inj}
 use Rattle.records.specs.declared.kind.Kind.TheVariants as kind
 use Rattle.leases.specs.Roles as roles
@@ -56,7 +57,7 @@ use Rattle.histories.specs.Settings.{AllSettingsFollow, Enables, IsEnabled, Mean
 use Rattle.histories.specs.Settings.{OnMount, OnPolicy, OnRole, PolicyBecomes, RoleBecomes, Sets, SetsMount, role_given}
 use Rattle.histories.proofs.Disabled.{left}
 use Rattle.histories.proofs.EventSecrets.{is_204}
-use Rattle.histories.proofs.OrderCases.{IsTurnedAway, IsTurnedDown, some_ok, spent, unless_ok}
+use Rattle.histories.proofs.OrderCases.{IsTurnedAway, IsTurnedDown, some_ok, spent}
 use Rattle.histories.proofs.OrderKeeps.{end_spent_same}
 use Rattle.histories.proofs.Requests.{asked_at, means_at_clock}
 use Rattle.histories.proofs.Served.{Served, cases, served}
@@ -440,10 +441,6 @@ not_reserved : (name other : Text) → list_any (same name) reserved_names ≡ f
 not_reserved name other free taken is =
     false≢true (sym free ∙ ap (λ u. list_any (same u) reserved_names) is ∙ taken)
 
-nothing_there : {X : Type 0} (o : Option X) → is_some o ≡ false → o ≡ None
-nothing_there None e = refl
-nothing_there (Some x) e = absurd (false≢true (sym e))
-
 module _ (a : Asking) (name : Text) (asked : MountCreation)
     (s : ServedFor a (on_mount name (of_mount.Enable asked))) where
   pub record DidEnable : Type 0 where
@@ -472,7 +469,7 @@ module _ (a : Asking) (name : Text) (asked : MountCreation)
         after = m.0;
         next = mounts_left a s.it ∙ ap (λ (z : Done). z.next.mounts) (sym (ok_inj next.2)) ∙ sym (ok_inj m.2);
         answered = ap (λ (z : Done). z.answered) (sym (ok_inj next.2));
-        free = nothing_there (get here name) apart.0;
+        free = not_there (get here name) apart.0;
         unreserved = apart.1;
         is = subst (IsEnabled asked) is_plain (record {
           engine = engine_meant asked engine.0 (some_ok _ (engine_asked asked.type_name asked.version) engine.1);

@@ -1,25 +1,16 @@
 -- Laws of the identifiers that were given out.
-use Rattle.std.specs.Prelude.{◌≡◌, ◌≢◌, ◌⊎◌, ◌++◌, List, [], ◌∷◌, Bool, true, false, not, ◌&&◌, ◌||◌, cond}
+use Rattle.std.specs.Prelude.{◌≡◌, ◌≢◌, ◌⊎◌, ◌++◌, List, [], ◌∷◌, true, false, not, ◌||◌, cond}
 use Rattle.std.specs.Prelude.{Some, None, is_none, ⊤}
-use Rattle.std.specs.List.{list_any, IsDistinct, AllByRecursion}
+use Rattle.std.specs.List.{list_any, IsDistinct}
 use Rattle.std.proofs.Common.{refl, sym, ◌∙◌, ap, subst, inl, inr}
-use Rattle.std.proofs.lemmas.Bool.{false≢true, and_parts}
+use Rattle.std.proofs.lemmas.Bool.{false≢true, and_parts, and_from, not-true}
 use Rattle.std.proofs.lemmas.Option.{none-some}
 use Rattle.broker_types.specs.Text.{Text, same}
 use Rattle.broker_types.specs.Map.{Map, get, put}
 use Rattle.broker_types.specs.MapLaws.{get-put}
 use Rattle.broker_types.specs.TextLaws.{same_self, same_true}
 use Rattle.broker_types.specs.Used.{are_new, use_up}
-
--- ---- truth values
-
-pub join : (a b : Bool) → a ≡ true → b ≡ true → (a && b) ≡ true
-join true b e f = f
-join false b e f = absurd (false≢true e)
-
-not_true : (a : Bool) → not a ≡ true → a ≡ false
-not_true true e = absurd (false≢true e)
-not_true false e = refl
+use Rattle.broker_types.specs.LineageLaws.{all_apart}
 
 -- ---- lists
 
@@ -31,15 +22,6 @@ any_append i (x ∷ xs) ys h k =
       | true ↦ λ e. absurd (false≢true (sym e))
       | false ↦ λ e. any_append i xs ys e k
     ] h
-
-none_same : (i : Text) (xs : List Text) → list_any (same i) xs ≡ false → AllByRecursion (λ y. same i y ≡ false) xs
-none_same i [] h = tt
-none_same i (x ∷ xs) h =
-    elim (same i x) as (λ b. same i x ≡ b → (b || list_any (same i) xs) ≡ false
-    → AllByRecursion (λ y. same i y ≡ false) (x ∷ xs)) [
-      | true ↦ λ _ e. absurd (false≢true (sym e))
-      | false ↦ λ apart e. (apart, none_same i xs e)
-    ] refl h
 
 same_sym : (a b : Text) → same a b ≡ true → same b a ≡ true
 same_sym a b e = subst (λ z. same z a ≡ true) (same_true a b e) (same_self a)
@@ -64,7 +46,7 @@ weaken m x (y ∷ ys) h =
       | true ↦ λ e. absurd (false≢true (sym apart ∙ same_sym x y e))
       | false ↦ λ _. refl
     ] refl in (
-      join _ _ (ap (λ b. is_none (cond b (Some tt) (get m y))) (sym apart) ∙ here) (join _ _ q.0 rest.0),
+      and_from _ _ (ap (λ b. is_none (cond b (Some tt) (get m y))) (sym apart) ∙ here) (and_from _ _ q.0 rest.0),
       ap (λ b. b || list_any (same x) ys) other ∙ rest.1,
     )
 
@@ -76,7 +58,7 @@ new_append m (x ∷ xs) ys h k =
     let p = and_parts _ _ h in
     let q = and_parts _ _ p.1 in
     let w = weaken (use_up m xs) x ys k in
-    join _ _ p.0 (join _ _ (any_append x xs ys (not_true _ q.0) w.1) (new_append m xs ys q.1 w.0))
+    and_from _ _ p.0 (and_from _ _ (any_append x xs ys (not-true _ q.0) w.1) (new_append m xs ys q.1 w.0))
 
 -- new identifiers all differ
 pub new_differ : (m : Map ⊤) (xs : List Text) → are_new m xs ≡ true → IsDistinct same xs
@@ -85,7 +67,7 @@ new_differ m [] h = tt
 new_differ m (x ∷ xs) h =
     let p = and_parts _ _ h in
     let q = and_parts _ _ p.1 in
-    (none_same x xs (not_true _ q.0), new_differ m xs q.1)
+    (all_apart x xs (not-true _ q.0), new_differ m xs q.1)
 
 -- ---- one of many
 

@@ -7,6 +7,7 @@ use Rattle.std.specs.Map.{lookup}
 use Rattle.std.proofs.lemmas.Bool.{false≢true, cases_eq, cases_lt, cond-true, cond-false, eq-eqb, ne_eqb, eqb-true}
 use Rattle.std.proofs.lemmas.Bool.{le-leb, lt-leb, leb-false, cases_Bool, false_from_ne_true}
 use Rattle.std.proofs.lemmas.Option.{none-some, cond_some}
+use Rattle.broker_types.specs.OptionLaws.{is_there, not_there}
 use Rattle.hub.specs.Entries.{IsClosedRun, IsLastUpTo, IsNextIn, connection_at, connection_in, last_in, search_down}
 use Rattle.hub.specs.Numbers.{IsNextNumber}
 use Rattle.hub.specs.Pending.{ConnectionRepresents, OpenedAs, closed_at, is_closed}
@@ -17,14 +18,6 @@ use Rattle.hub.specs.declared.entry.Entry.{Entry}
 use Rattle.hub.specs.declared.entry.Entry.TheVariants.{One, ClosedRun}
 
 -- ---- the last entry up to a number
-
-some_of : {X : Type 0} (o : Option X) → is_some o ≡ true → (x : X) × (o ≡ Some x)
-some_of None e = absurd (false≢true e)
-some_of (Some x) e = (x, refl)
-
-pub none_of : {X : Type 0} (o : Option X) → is_some o ≡ false → o ≡ None
-none_of None e = refl
-none_of (Some x) e = absurd (false≢true (sym e))
 
 search_from : (f : ℕ → Option Entry) (n conn first : ℕ) (e : Entry) → f first ≡ Some e → first ≤ n
     → ((k : ℕ) → first < k → k ≤ n → f k ≡ None) → search_down f n conn ≡ connection_in first e conn
@@ -105,7 +98,7 @@ no_entries (e ∷ es) none = absurd (false≢true (none (omega arith)))
 pub none_past : (f : ℕ → Option Entry) (first : ℕ) → ((k : ℕ) → is_some (f k) ≡ true → k ≤ first) → (k : ℕ) → first < k
     → f k ≡ None
 none_past f first greatest k lt =
-    none_of (f k) (false_from_ne_true (is_some (f k)) (λ there. let up_to = greatest k there in absurd (omega arith)))
+    not_there (f k) (false_from_ne_true (is_some (f k)) (λ there. let up_to = greatest k there in absurd (omega arith)))
 
 pub last_from : (f : ℕ → Option Entry) (conn first : ℕ) (e : Entry) → f first ≡ Some e → first ≤ conn
     → ((k : ℕ) → k ≤ conn → is_some (f k) ≡ true → k ≤ first) → IsLastUpTo f conn first e
@@ -113,7 +106,7 @@ last_from f conn first e here within greatest =
     record {
       here = here;
       within = within;
-      none = λ k lt le. none_of (f k)
+      none = λ k lt le. not_there (f k)
           (false_from_ne_true (is_some (f k)) (λ there. let up_to = greatest k le there in absurd (omega arith)));
     }
 
@@ -142,25 +135,6 @@ own : (conn : ℕ) (e : Entry) → is_some (connection_in conn e conn) ≡ true
 own conn (One c) = ap is_some (one_here conn c)
 own conn (ClosedRun more) =
     ap is_some (cond-true (nat_le conn (conn + more)) (Some Closed) None (le-leb conn (conn + more) (omega arith)))
-
-pub one_is_run : (first : ℕ) → IsClosedRun first (One Closed) first
-one_is_run first = record { reaches = omega arith; closed = closed }
-  where
-    closed : (k : ℕ) → first ≤ k → connection_in first (One Closed) k ≡ cond (nat_le k first) (Some Closed) None
-    closed k le = ⊎_elim
-        (λ (same : k ≡ first).
-        cond-true (nat_eq k first) (Some Closed) None (eq-eqb k first same)
-        ∙ sym (cond-true (nat_le k first) (Some Closed) None (le-leb k first (omega arith))))
-        (λ (apart : k ≢ first).
-        one_apart k first Closed apart
-        ∙ sym (cond-false (nat_le k first) (Some Closed) None (lt-leb k first (omega arith))))
-        (cases_eq k first)
-
-pub run_is_run : (first more last : ℕ) → last ≡ first + more → IsClosedRun first (ClosedRun more) last
-run_is_run first more last is = record {
-  reaches = omega arith;
-  closed = λ k le. ap (λ (n : ℕ). cond (nat_le k n) (Some Closed) None) (sym is);
-}
 
 -- ---- entries that stay
 
@@ -301,8 +275,8 @@ opened f g conn c was nothing is others n apart = ⊎_elim
 pub already_open : (f : ℕ → Option Entry) (conn : ℕ) → is_some (f conn) ≡ true
     → (c : Connection) × (connection_at f conn ≡ Some c) × OpenedAs (connection_at f conn) c
 already_open f conn there =
-    let e = some_of (f conn) there in
-    let c = some_of (connection_at f conn) (seen_at f conn e.0 e.1) in
+    let e = is_there (f conn) there in
+    let c = is_there (connection_at f conn) (seen_at f conn e.0 e.1) in
     (c.0, c.1, inl c.1)
 
 pub newly_open : (f g : ℕ → Option Entry) (conn : ℕ) → f conn ≡ None → closed_at (connection_at f conn) ≡ false
@@ -373,7 +347,7 @@ module _ (F : Connection → Connection → Type 0) (f g h : ℕ → Option Entr
   pub fed_others : is_some (connection_at f conn) ≡ true → ((k : ℕ) → k ≢ conn → g k ≡ f k) → (k : ℕ) → k ≢ conn
       → connection_at h k ≡ connection_at f k
   fed_others seen others k apart =
-      let c = some_of (connection_at f conn) seen in
+      let c = is_there (connection_at f conn) seen in
       let was = open_entry f conn c.0 c.1 (sym (ap closed_at c.1) ∙ is_open) in
       let d = feeds c.0 was in
       settles k ∙ changed f g conn c.0 d.0 was d.1 others k apart

@@ -65,19 +65,6 @@ request_serves (Ok s) rest len p body old new m w front told served =
       clock = served.clock;
     }
 
--- the clauses of `serve_request`, as one
-pub request_served : (r : Result Served Fault) (old new : Kept) (m : ℕ) (w : Words) (p : HeadParts) (body : List ℕ)
-    → IfOk r (λ s. s.closes ≡ request_closes p (asked p body))
-    → IfOk r (λ s. IsRequestReply m (request_closes p (asked p body)) (asked p body) s.bytes.items)
-    → (IsHonestStore new → (b : Broker) → Represents None old.rows b
-    → IfOk r (λ s. IsServed (request_effect b m w (asked p body)) m
-    (request_closes p (asked p body)) s.bytes.items new.rows))
-    → (IsHonestStore new → OnOk r (OnOk (asked p body) (HasClock old.rows)))
-    → IfOk r (RequestServed old new m w p body)
-request_served (Err e) old new m w p body closing reply broker clock = tt
-request_served (Ok s) old new m w p body closing reply broker clock =
-    record { closes = closing; reply = reply; broker = broker; clock = clock }
-
 -- ---- what a request that asks the broker gives
 
 pub asked_served : (b : Broker) (m : ℕ) (w : Words) (p : HeadParts) (x : Result Ask RefusalParts) (ask : Ask)

@@ -11,6 +11,7 @@ use Rattle.std.proofs.lemmas.List.Folds.{concat-append}
 use Rattle.std.specs.Io.KnownBytes.{Appends, Consumes}
 use Rattle.std.specs.List.{All, concat, flat_map}
 use Rattle.std.specs.Result.{result_err}
+use Rattle.std.proofs.KnownBytes.{Appends-trans, Consumes-nil, Consumes-trans}
 use Rattle.records.specs.Kept.{Kept}
 use Rattle.hub.specs.Links.{number_of, unsent}
 use Rattle.hub.specs.Ordering.{EndsBy, HaveNumbers, IsAnswer, IsCaused, IsOther, IsServedLine, ServesLines, TurnsLine}
@@ -28,7 +29,6 @@ use Rattle.hub.specs.declared.order.Line.{Line}
 use Rattle.hub.specs.declared.serve.ConnectionFault.{ConnectionFault}
 use Rattle.hub.specs.declared.serve.ConnectionFault.TheVariants.{Broker, Read, Write}
 use Rattle.hub.specs.declared.turn.Turn.{Turn}
-use Rattle.hub.proofs.KnownLemmas.{Appends-append, Consumes-append, Consumes-nil}
 use Rattle.hub.proofs.ServingLemmas.{leaves_none, pieces_on}
 use Rattle.hub.proofs.TakingLemmas.{passes_nothing}
 
@@ -123,7 +123,7 @@ passes_on : (x y z : Option (List ℕ)) (a b d rs ss : List ℕ) → Passes (App
     → Passes (Appends x z) a d (rs ++ ss)
 passes_on x y z a b d rs ss p q = record {
   sent = p.sent ++ q.sent;
-  sends = Appends-append x y z p.sent q.sent p.sends q.sends;
+  sends = Appends-trans x y z p.sent q.sent p.sends q.sends;
   whole = sym (append_assoc a rs ss) ∙ ap (λ (l : List ℕ). l ++ ss) p.whole ∙ append_assoc p.sent b ss
       ∙ ap (λ (l : List ℕ). p.sent ++ l) q.whole ∙ sym (append_assoc p.sent q.sent d);
 }
@@ -184,7 +184,7 @@ served_on : {R W : Type 0} (left : R → Option (List ℕ)) (written : W → Opt
 served_on {R} {W} left written read_failed write_failed ss ts a b c p q = record {
   same = q.same ∙ p.same;
   reads = subst (Consumes (left a.reader) (left c.reader)) (sym (fed_pieces ss ts))
-      (Consumes-append (left a.reader) (left b.reader) (left c.reader) (pieces_in (fed_in ss))
+      (Consumes-trans (left a.reader) (left b.reader) (left c.reader) (pieces_in (fed_in ss))
       (pieces_in (fed_in ts)) p.reads q.reads);
   sends = subst (λ (l : List ℕ). Passes (Appends (written a.writer) (written c.writer)) (unsent a.link)
       (unsent c.link) l) (sym (replies_on ss ts))

@@ -2,6 +2,7 @@
 use Rattle.std.proofs.Common.{◌≡◌, ◌≤◌, ℕ, List, [], ◌∷◌, ◌++◌, length, Option, Vec, Result, Ok, Err, MatchResult}
 use Rattle.std.specs.declared.alloc.Global.{Global}
 use Rattle.std.specs.Io.KnownBytes.{Appends, Consumes}
+use Rattle.std.proofs.KnownBytes.{Appends-trans, Consumes-trans}
 use Rattle.broker_types.specs.declared.fault.Fault.{Fault}
 use Rattle.broker_types.specs.declared.words.Words.{Words}
 use Rattle.records.specs.Kept.{Kept, IsHonestStore}
@@ -20,7 +21,6 @@ use Rattle.hub.proofs.AnswersLemmas.{honest_before}
 use Rattle.hub.proofs.EndingLemmas.{gone_closing, gone_faulting}
 use Rattle.hub.proofs.KeepsLemmas.{keeps_closing, keeps_err, keeps_feeding, keeps_none, keeps_ok, keeps_on, keeps_one}
 use Rattle.hub.proofs.KeepsLemmas.{keeps_writing}
-use Rattle.hub.proofs.KnownLemmas.{Appends-append, Consumes-append}
 use Rattle.hub.proofs.ServingLemmas.{Closes, Fed, Joins, closed_leaves, event_of, fault_leaves, fed_leaves, leaves_none}
 use Rattle.hub.proofs.ServingLemmas.{leaves_on}
 use Rattle.hub.proofs.ServingLemmas.{proceeds_none, proceeds_on, proceeds_one, proceeds_so, stops_closing}
@@ -148,7 +148,7 @@ pub serves_next : {S A B C D : Type 0} {seen : S → Kept} {conn : ℕ} (was lef
     (Supplies may_tell clock clock_after may_give words words_after) F W r old new
 serves_next was left rest start now end {may_tell} {clock} {clock_mid} {clock_after} {may_give} {words} {words_mid}
     {words_after} p q =
-    serves_on p q (Consumes-append was left rest) (Appends-append start now end)
+    serves_on p q (Consumes-trans was left rest) (Appends-trans start now end)
     (Supplies-append may_tell clock clock_mid clock_after may_give words words_mid words_after)
 
 -- ---- other words

@@ -2,6 +2,7 @@
 use Rattle.std.proofs.Common.{◌≡◌, ◌∙◌, ◌⊎◌, inl, inr, ◌<◌, ◌≤◌, ℕ, List, [], ◌∷◌, ◌++◌, length, Option, Some, None}
 use Rattle.std.proofs.Common.{Result, Ok, Err, MatchResult, refl, sym, ap, subst, take, append-nil}
 use Rattle.std.specs.Io.KnownBytes.{Appends, Consumes, IsAtEnd}
+use Rattle.std.proofs.KnownBytes.{Appends-nil}
 use Rattle.endpoints.specs.Now.{PullsNow}
 use Rattle.records.specs.Kept.{Kept}
 use Rattle.hub.specs.Links.{number_of, unsent}
@@ -15,7 +16,7 @@ use Rattle.hub.specs.declared.link.Link.{Link}
 use Rattle.hub.specs.declared.serve.ConnectionFault.{ConnectionFault}
 use Rattle.hub.specs.declared.turn.Turn.{Turn}
 use Rattle.hub.specs.declared.turn.Turn.TheVariants.{NeedsRoom, WentOn}
-use Rattle.hub.proofs.KnownLemmas.{Appends-nil, Consumes-kept}
+use Rattle.hub.proofs.KnownLemmas.{Consumes-kept}
 
 -- ---- what was sent
 

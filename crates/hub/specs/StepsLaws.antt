@@ -1,23 +1,21 @@
 -- Steps that come one after another, and what turns and closings are as steps: lemmas for proofs here and above.
-use Rattle.std.specs.Prelude.{◌≡◌, ◌⊎◌, ℕ, List, [], ◌∷◌, ◌++◌, Option, None, Result, Ok, Err, IsTrue, MatchResult}
+use Rattle.std.specs.Prelude.{◌≡◌, ◌⊎◌, ℕ, List, [], ◌∷◌, ◌++◌, None, Result, Ok, Err, IsTrue, MatchResult}
 use Rattle.std.specs.Prelude.{length}
 use Rattle.std.specs.List.{All}
-use Rattle.std.specs.Option.{option_map_or}
 use Rattle.std.proofs.Common.{arith, refl, sym, ◌∙◌, ap, subst, inl, inr, append-nil}
 use Rattle.std.proofs.lemmas.List.Concat.{flat_map-append}
 use Rattle.std.proofs.lemmas.List.Elements.{All-append, All-cons, All-head, All-nil, All-tail, All-weaker}
-use Rattle.broker_types.specs.Broker.{Broker as TheBroker}
 use Rattle.records.specs.Kept.{Kept, IsHonestStore}
-use Rattle.histories.specs.History.{Asking, History, left_by}
+use Rattle.histories.specs.History.{History}
 use Rattle.hub.specs.Feeding.{IsLater}
 use Rattle.hub.specs.Histories.{EventsAsked}
-use Rattle.hub.specs.HistoriesLaws.{asked_on, left_after, left_on, run_left}
+use Rattle.hub.specs.HistoriesLaws.{asked_on, left_on, run_left}
 use Rattle.hub.specs.ListedReplies.{IsListedReply}
 use Rattle.hub.specs.Representing.{HubRepresents, hub_store}
 use Rattle.hub.specs.Runs.{Answers}
 use Rattle.hub.specs.ServedConnection.{Exchange, IsEventOf, IsKnown, IsUnanswered, LeavesClosed, Proceeds, RunsUntil}
 use Rattle.hub.specs.ServedConnection.{Stops}
-use Rattle.hub.specs.Steps.{AreKnown, IsStep, IsStepOf, Step, StepsBetween, StepsFrom, StepsTaken, TakesStep}
+use Rattle.hub.specs.Steps.{AreKnown, IsStep, IsStepOf, Step, StepsBetween, StepsFrom, StepsTaken}
 use Rattle.hub.specs.Steps.{TakesSteps}
 use Rattle.hub.specs.Steps.{answered, answers_of, before_fault, closed, faulted, fed_by, fed_in, stop_of}
 use Rattle.hub.specs.Turning.{TakesTurn, TurnStops}
@@ -38,30 +36,6 @@ TakesSteps-append w [] ts (h ∷ hs) ks mid after taken next = absurd taken
 TakesSteps-append w (s ∷ ss) ts [] ks mid after taken next = absurd taken
 TakesSteps-append w (s ∷ ss) ts (h ∷ hs) ks mid after (v, first, taken) next =
     (v, first, TakesSteps-append v ss ts hs ks mid after taken next)
-
--- a step that asks nothing leaves the broker
-closing_left : (b : TheBroker) (asking : Option Asking) → asking ≡ None
-    → b ≡ option_map_or (λ (a : Asking). a.outcome.next) asking b
-closing_left b asking none =
-    sym (ap (λ (o : Option Asking). option_map_or (λ (a : Asking). a.outcome.next) o b) none)
-
-step_left : (w : World) (s : Step) (asking : Option Asking) (after : World) → TakesStep w s asking after
-    → after.broker ≡ option_map_or (λ (a : Asking). a.outcome.next) asking w.broker
-step_left w (answered e bytes) asking after one = one.broker
-step_left w (faulted e) asking after (left, none, closing, is) =
-    ap (λ (v : World). v.broker) is ∙ closing_left w.broker asking none
-step_left w (closed conn) asking after (left, none, closing, is) =
-    ap (λ (v : World). v.broker) is ∙ closing_left w.broker asking none
-
--- the world's broker is what the history left
-pub steps_left : (w : World) (ss : List Step) (hs : History) (after : World) → TakesSteps w ss hs after
-    → after.broker ≡ left_by w.broker hs
-steps_left w [] [] after taken = ap (λ (v : World). v.broker) taken
-steps_left w [] (h ∷ hs) after taken = absurd taken
-steps_left w (s ∷ ss) [] after taken = absurd taken
-steps_left w (s ∷ ss) (h ∷ hs) after (mid, one, taken) =
-    steps_left mid ss hs after taken ∙ ap (λ (b : TheBroker). left_by b hs) (step_left w s h mid one)
-    ∙ left_after w.broker h hs
 
 -- no step
 pub StepsFrom-nil : {S : Type 0} (seen : S → Kept) (w : World) (hub : Hub S) → HubRepresents seen hub w

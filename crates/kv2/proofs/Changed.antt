@@ -7,6 +7,7 @@ use Rattle.std.proofs.Common.{refl, sym, ◌∙◌, ap, subst, inl, inr}
 use Rattle.std.proofs.lemmas.Bool.{eqb-true, false≢true, or_cases, or_right, false_from_ne_true}
 use Rattle.std.proofs.lemmas.List.Folds.{list_any-append}
 use Rattle.std.proofs.lemmas.Option.{same_Some}
+use Rattle.std.proofs.Math.Bool.{or-false}
 use Rattle.broker_types.specs.Text.{Text, same}
 use Rattle.broker_types.specs.TextLaws.{same_self, same_true}
 use Rattle.broker_types.specs.Limits.{greatest_version}
@@ -35,10 +36,6 @@ use Rattle.kv2.proofs.Found.{none_is, none_read, some_is, some_read}
 use Rattle.kv2.proofs.Parts.{secrets_by}
 use Rattle.kv2.proofs.SecretsTold.{key_rows, version_rows, version_row_at, small_number, has_version}
 use Rattle.kv2.proofs.VersionRows.{at_parts, by_parts}
-
-or_none : (v : Bool) → (v || false) ≡ v
-or_none true = refl
-or_none false = refl
 
 -- ---- one change after another
 
@@ -126,10 +123,10 @@ module _ (f : Version → Version) (name : Text) where
 
   module _ (t : Table) (m : ℕ) (small : m < 2 ^ 64) where
     one_number : (n : ℕ) → is_among (m ∷ []) n ≡ true → n < 2 ^ 64
-    one_number n h = subst (λ z. z < 2 ^ 64) (eqb-true m n (sym (or_none (m == n)) ∙ h)) small
+    one_number n h = subst (λ z. z < 2 ^ 64) (eqb-true m n (sym (or-false (m == n)) ∙ h)) small
 
     its_key : (q : Text) → is_key_of (m ∷ []) name q ≡ true → q ≡ version_key name m
-    its_key q h = same_true q (version_key name m) (sym (or_none (same q (version_key name m))) ∙ h)
+    its_key q h = same_true q (version_key name m) (sym (or-false (same q (version_key name m))) ∙ h)
 
     -- a version that is not there
     pub missing_changed : t kind.KvVersion (version_key name m) ≡ None → AreChanged f (m ∷ []) name t t
@@ -171,7 +168,7 @@ module _ (f : Version → Version) (name : Text) where
                 ∙ ap (λ z. Some (version_row z)) (reads x.0 x.2 x.3);
           });
       others = λ k q h. ap (λ b. if b then Some (version_row w) else t k q)
-          (ap (λ z. (kind_number k == kind_number kind.KvVersion) && z) (sym (or_none (same q (version_key name m))))
+          (ap (λ z. (kind_number k == kind_number kind.KvVersion) && z) (sym (or-false (same q (version_key name m))))
           ∙ h);
     }
 

@@ -1,5 +1,5 @@
 -- What the keys of versions tell, from the laws of these keys.
-use Rattle.std.specs.Prelude.{◌≡◌, ◌<◌, ◌≤◌, ◌^◌, ◌==◌, ◌∷◌, ◌++◌, [], ℕ, nat_lt, not, true, None}
+use Rattle.std.specs.Prelude.{◌≡◌, ◌<◌, ◌^◌, ◌==◌, ◌∷◌, ◌++◌, [], ℕ, nat_lt, not, true, None}
 use Rattle.std.specs.Ordering.{nat_cmp, is_le, is_eq}
 use Rattle.std.proofs.Common.{sym, ◌∙◌, ap, arith}
 use Rattle.std.proofs.lemmas.Bool.{eqb-true}
@@ -11,8 +11,9 @@ use Rattle.records.specs.Rows.{padded, version_of_digits}
 use Rattle.records.specs.Splits.{line_feed, lacks}
 use Rattle.records.specs.SplitLaws.{lacking_split}
 use Rattle.records.specs.ValueLaws.{none_of}
-use Rattle.kv2.specs.VersionLaws.{eq-nat_cmp}
 use Rattle.records.specs.VersionKeys.{DigitsTellTheVersion, OnlyDigitsTellAVersion, DigitsAreInOrder, NamesAreSplitOff}
+use Rattle.records.specs.TableLaws.{eq-nat_cmp}
+use Rattle.records.specs.DigitLaws.{wide}
 
 -- the laws of the keys of versions
 pub record KeyLaws : Type 0 where
@@ -20,10 +21,6 @@ pub record KeyLaws : Type 0 where
   pub exact : OnlyDigitsTellAVersion
   pub order : DigitsAreInOrder
   pub split : NamesAreSplitOff
-
--- a version's number has 64 bits
-pub wide : (n : ℕ) → n ≤ greatest_version → n < 2 ^ 64
-wide n h = omega (arith, h)
 
 ranks : (n m : ℕ) → is_le (nat_cmp n m) ≡ not (nat_lt m n)
 ranks n m = grind arith

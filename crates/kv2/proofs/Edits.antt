@@ -15,10 +15,11 @@ use Rattle.records.specs.RowForms.{key_row, mount_row}
 use Rattle.records.specs.Rows.{version_at, version_row_of, version_of_digits}
 use Rattle.records.specs.Splits.{line_feed, lacks}
 use Rattle.records.specs.Table.{Table}
+use Rattle.records.specs.PartLaws.{mount_rows}
 use Rattle.kv2.specs.SecretRows.{without_key, without_names, versions_prefix, rows_with_settings}
 use Rattle.kv2.specs.Secrets as secrets
 use Rattle.kv2.proofs.Parts.{secrets_by, mounts_by}
-use Rattle.kv2.proofs.SecretsTold.{key_rows, version_rows, mount_rows}
+use Rattle.kv2.proofs.SecretsTold.{key_rows, version_rows}
 use Rattle.kv2.proofs.VersionRows.{at_parts, without_name, without_folder, at_parts-without_name}
 use Rattle.kv2.proofs.VersionRows.{at_parts-without_folder}
 

@@ -1,32 +1,25 @@
 -- The names of secrets, and the keys of their rows.
-use Rattle.std.specs.Prelude.{◌≡◌, ◌||◌, List, [], ◌∷◌, is_some, Option, Some, None, option_map}
-use Rattle.std.specs.List.{list_any}
-use Rattle.std.specs.Ordering.{eq_by_cmp}
+use Rattle.std.specs.Prelude.{◌≡◌, [], is_some, Option, Some, None, option_map}
 use Rattle.std.specs.FinMap.{contains_key-keys}
 use Rattle.std.proofs.Common.{refl, sym, ◌∙◌, ap}
-use Rattle.broker_types.specs.Text.{Text, text_cmp}
-use Rattle.broker_types.specs.TextLaws.{same-text_cmp}
 use Rattle.broker_types.specs.Map.{get, keys}
 use Rattle.broker_types.specs.Secret.{Key}
 use Rattle.broker_types.specs.Broker.{Broker}
 use Rattle.records.specs.declared.kind.Kind.TheVariants as kind
-use Rattle.records.specs.Children.{has, AreNames}
+use Rattle.records.specs.Children.{AreNames}
 use Rattle.records.specs.Parts.{of_secrets, Tells}
 use Rattle.records.specs.RowForms.{key_row}
 use Rattle.records.specs.Table.{table_of}
 use Rattle.records.specs.Transaction.{Rows}
+use Rattle.records.specs.HasLaws.{has_by_order}
 use Rattle.kv2.proofs.SecretsTold.{key_rows}
-
-by_order : (q : Text) (ts : List Text) → has ts q ≡ list_any (eq_by_cmp text_cmp q) ts
-by_order q [] = refl
-by_order q (t ∷ ts) = λ i. same-text_cmp q t i || by_order q ts i
 
 -- the rows of keys are named by the secrets
 pub secrets_name : (rows : Rows) (b : Broker) → Tells of_secrets (table_of rows) b
     → AreNames rows kind.KvKey [] (keys b.secrets)
 secrets_name rows b told q =
     ap is_some (told kind.KvKey q refl ∙ key_rows b q) ∙ some-map (get b.secrets q)
-    ∙ contains_key-keys b.secrets q ∙ sym (by_order q (keys b.secrets))
+    ∙ contains_key-keys b.secrets q ∙ sym (has_by_order q (keys b.secrets))
   where
     some-map : (o : Option Key) → is_some (option_map key_row o) ≡ is_some o
     some-map None = refl

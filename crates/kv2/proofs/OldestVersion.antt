@@ -9,11 +9,11 @@ use Rattle.std.proofs.Common.{refl, sym, ◌∙◌, ap, subst, arith}
 use Rattle.std.proofs.lemmas.Bool.{eqb-true, ltb-true}
 use Rattle.std.proofs.lemmas.Option.{none-some}
 use Rattle.broker_types.specs.Secret.{Key, Version}
+use Rattle.broker_types.specs.TestLaws.{T_left, T_right}
 use Rattle.records.specs.SplitLaws.{eqb_self}
+use Rattle.records.specs.TableLaws.{eq-nat_cmp}
 use Rattle.kv2.specs.Laws.{IsOldest}
 use Rattle.kv2.specs.Metadata.{metadata_of, version_metadata, oldest_of}
-use Rattle.kv2.specs.VersionLaws.{eq-nat_cmp}
-use Rattle.kv2.proofs.VersionsListed.{left, right}
 
 less : (m n : ℕ) → T (is_lt (nat_cmp m n)) → m < n
 less m n h = grind arith
@@ -27,8 +27,8 @@ above m n v (e ∷ es) h is =
     → cond b (Some e.1) (fin.find nat_cmp n es) ≡ Some v → m < n) [
       | true ↦ λ met _.
           let one : n ≡ e.0 = eqb-true n e.0 (sym (eq-nat_cmp n e.0) ∙ met) in
-          subst (λ z. m < z) (sym one) (less m e.0 (left _ _ h))
-      | false ↦ λ _ rest. above m n v es (right _ _ h) rest
+          subst (λ z. m < z) (sym one) (less m e.0 (T_left _ _ h))
+      | false ↦ λ _ rest. above m n v es (T_right _ _ h) rest
     ] refl is
 
 -- the first has the smallest number, and is there
@@ -40,7 +40,7 @@ first_is_least e es s n v is =
       | true ↦ λ met _.
           let one : n ≡ e.0 = eqb-true n e.0 (sym (eq-nat_cmp n e.0) ∙ met) in
           omega (arith, one)
-      | false ↦ λ _ rest. let far = above e.0 n v es (left _ _ s) rest in omega (arith, far)
+      | false ↦ λ _ rest. let far = above e.0 n v es (T_left _ _ s) rest in omega (arith, far)
     ] refl is
 
 first_is_there : (e : ℕ × Version) (es : List (ℕ × Version)) → fin.find nat_cmp e.0 (e ∷ es) ≢ None

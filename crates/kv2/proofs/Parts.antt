@@ -10,7 +10,8 @@ use Rattle.records.specs.Parts.{of_secrets, of_mounts, Tells}
 use Rattle.records.specs.RowForms.{key_row, mount_row}
 use Rattle.records.specs.Rows.{version_at}
 use Rattle.records.specs.Table.{Table}
-use Rattle.kv2.proofs.SecretsTold.{key_rows, version_rows, mount_rows}
+use Rattle.records.specs.PartLaws.{mount_rows}
+use Rattle.kv2.proofs.SecretsTold.{key_rows, version_rows}
 use Rattle.kv2.proofs.VersionRows.{at_parts}
 
 -- a table that has the rows of keys and of versions

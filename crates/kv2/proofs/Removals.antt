@@ -1,8 +1,8 @@
 -- To take out what is listed under a prefix up to another key, one row after another.
-use Rattle.std.specs.Prelude.{◌≡◌, ◌&&◌, List, [], ◌∷◌, nat_eq, Bool, true, false, cond, if◌then◌else◌, Option, Some}
+use Rattle.std.specs.Prelude.{◌≡◌, ◌&&◌, nat_eq, Bool, true, false, cond, if◌then◌else◌, Option, Some}
 use Rattle.std.specs.Prelude.{None, filter}
-use Rattle.std.specs.Ordering.{eq_by_cmp, is_le}
-use Rattle.std.specs.FinMap.{get, remove, entries, find, get-remove, get-entries}
+use Rattle.std.specs.Ordering.{is_le}
+use Rattle.std.specs.FinMap.{get, entries, get-entries}
 use Rattle.std.specs.FinMap.Entries.{find-where_key}
 use Rattle.std.specs.List.{starts_with}
 use Rattle.std.proofs.Common.{refl, sym, ◌∙◌, ap}
@@ -12,29 +12,9 @@ use Rattle.records.specs.declared.row.Row.{Row}
 use Rattle.records.specs.Kind.{RowKey, key_cmp, is_of_kind}
 use Rattle.records.specs.Transaction.{Rows, rows_upto}
 use Rattle.records.specs.Table.{table_of}
-use Rattle.records.specs.KeyLaws.{key_cmp_total, key_cmp_exact}
-use Rattle.records.specs.UnderLaws.{without_listed}
+use Rattle.records.specs.KeyLaws.{key_cmp_exact}
+use Rattle.records.specs.UnderLaws.{without_listed, unless, get-without_listed}
 use Rattle.kv2.specs.SecretRows.{without_upto}
-
-abbrev unless : Option Row → Option Row → Option Row
-unless None o = o
-unless (Some r) o = None
-
-gone : (o : Option Row) → unless o None ≡ None
-gone None = refl
-gone (Some r) = refl
-
-get-without : (rows : Rows) (es : List (RowKey × Row)) (q : RowKey)
-    → get (without_listed rows es) q ≡ unless (find key_cmp q es) (get rows q)
-get-without rows [] q = refl
-get-without rows (e ∷ es) q =
-    get-without (remove rows e.0) es q ∙ ap (unless (find key_cmp q es)) (get-remove key_cmp_total rows e.0 q)
-    ∙ met (eq_by_cmp key_cmp q e.0)
-  where
-    met : (b : Bool) → unless (find key_cmp q es) (cond b None (get rows q))
-        ≡ unless (cond b (Some e.1) (find key_cmp q es)) (get rows q)
-    met true = gone (find key_cmp q es)
-    met false = refl
 
 taken : (a b : Bool) (o : Option Row) → unless (cond b (cond a o None) None) o ≡ (if a && b then None else o)
 taken true true None = refl
@@ -56,7 +36,7 @@ table_of-without_upto rows kind prefix last = λ i k q. at k q i
     at : (k : Kind) (q : Text) → get (without_listed rows (rows_upto rows kind prefix last)) (k, q)
         ≡ without_upto (table_of rows) kind prefix last k q
     at k q =
-        get-without rows (rows_upto rows kind prefix last) (k, q)
+        get-without_listed rows (rows_upto rows kind prefix last) (k, q)
         ∙ ap (λ o. unless o (get rows (k, q))) (
         find-where_key key_cmp (within last) (k, q) (λ x e. ap (within last) (sym (key_cmp_exact (k, q) x e))) (filter
         (λ e. under kind prefix e.0) (entries rows))

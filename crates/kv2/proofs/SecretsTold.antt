@@ -16,11 +16,12 @@ use Rattle.records.specs.KeyEntry.{key_entry}
 use Rattle.records.specs.Parts.{of_secrets, of_mounts, Tells}
 use Rattle.records.specs.RangeLaws.{key_in_range, version_in_range}
 use Rattle.records.specs.Ranges.{IsKeyInRange}
-use Rattle.records.specs.RowForms.{key_row, key_entry_row, version_row, mount_row}
+use Rattle.records.specs.RowForms.{key_row, key_entry_row, version_row}
 use Rattle.records.specs.Rows.{rows_of, padded, version_row_of, version_at, version_key}
 use Rattle.records.specs.Splits.{line_feed, split_once}
 use Rattle.records.specs.Table.{Table}
 use Rattle.records.specs.ValueLaws.{none_of}
+use Rattle.records.specs.PartLaws.{mount_rows}
 use Rattle.kv2.specs.SecretRows.{HasKey, HasVersion, HasMount}
 use Rattle.kv2.specs.Versions.{version_of}
 use Rattle.kv2.proofs.Digits.{KeyLaws, untold}
@@ -35,10 +36,6 @@ pub version_rows : (b : Broker) (q : Text)
     → rows_of b kind.KvVersion q ≡ option_and_then (version_at b.secrets) (split_once line_feed q)
 unfolding rows_of
 version_rows b q = refl
-
-pub mount_rows : (b : Broker) (q : Text) → rows_of b kind.Mount q ≡ option_map mount_row (get b.mounts q)
-unfolding rows_of
-mount_rows b q = refl
 
 pub version_row_of-some : (o : Option Key) (n : ℕ) → version_row_of o (Some n) ≡ option_map version_row (version_of o n)
 version_row_of-some None n = refl

@@ -1,12 +1,9 @@
 -- Keys of versions: a name, a line feed and twenty digits.
 use Rattle.std.specs.Prelude.{◌≡◌, ◌==◌, ◌&&◌, ℕ, [], ◌∷◌, ◌++◌, nat_eq, Bool, true, false, bytes_eq}
-use Rattle.std.specs.declared.cmp.Ordering.TheVariants.{Equal}
-use Rattle.std.specs.Ordering.{ordering_then}
-use Rattle.std.specs.Cmp.{nat_cmp_is}
 use Rattle.std.specs.List.{starts_with}
-use Rattle.std.proofs.Common.{refl, sym, ◌∙◌, ap, arith}
+use Rattle.std.proofs.Common.{refl, ◌∙◌, ap, arith}
 use Rattle.std.proofs.lemmas.Bool.{and_parts, not-true}
-use Rattle.broker_types.specs.Text.{Text, text_cmp, same}
+use Rattle.broker_types.specs.Text.{Text, same}
 use Rattle.records.specs.Splits.{lacks}
 use Rattle.records.specs.SplitLaws.{eqb_self}
 
@@ -35,11 +32,6 @@ starts-name c (y ∷ front) rest (x ∷ name) g h = λ i. swap_eq x y i
     && starts-name c front rest name (and_parts _ _ g).1 (and_parts _ _ h).1 i
 
 -- ---- the order of keys of one name
-
-pub cmp-same_front : (front r s : Text) → text_cmp (front ++ r) (front ++ s) ≡ text_cmp r s
-cmp-same_front [] r s = refl
-cmp-same_front (x ∷ front) r s = ap (λ o. ordering_then o (text_cmp (front ++ r) (front ++ s)))
-    (sym (nat_cmp_is x x Equal refl)) ∙ cmp-same_front front r s
 
 -- texts with the byte are one where both parts are
 pub same-parts : (c : ℕ) (front rest name end : Text) → lacks c front ≡ true → lacks c name ≡ true

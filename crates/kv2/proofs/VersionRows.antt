@@ -11,7 +11,8 @@ use Rattle.std.proofs.lemmas.Bool.{false_from_ne_true}
 use Rattle.std.proofs.lemmas.Option.{none-some}
 use Rattle.records.specs.Splits.{split_once, line_feed, lacks}
 use Rattle.records.specs.SplitLaws.{split-lacking, lacking_split}
-use Rattle.kv2.proofs.VersionNames.{starts-name, starts-front, same-parts, cmp-same_front}
+use Rattle.records.specs.PrefixLaws.{after_prefix}
+use Rattle.kv2.proofs.VersionNames.{starts-name, starts-front, same-parts}
 
 -- rows by a name and digits
 abbrev pub ByParts : Type 0
@@ -73,7 +74,7 @@ module _ (rows : ByParts) (name : Text) (h : lacks line_feed name ≡ true) wher
       ≡ (b && is_le (text_cmp p.1 last))) [
         | true ↦ λ e. ap is_le
             (ap (λ z. text_cmp (z ++ line_feed ∷ p.1) (name ++ line_feed ∷ last)) (same_true p.0 name e)
-            ∙ cmp-same_front name (line_feed ∷ p.1) (line_feed ∷ last))
+            ∙ after_prefix name (line_feed ∷ p.1) (line_feed ∷ last))
         | false ↦ λ _. refl
       ] refl))
     where

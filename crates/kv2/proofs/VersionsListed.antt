@@ -2,9 +2,7 @@
 use Rattle.std.specs.Prelude.{◌≡◌, ◌≤◌, ◌==◌, ◌&&◌, ◌∷◌, [], ◌++◌, ℕ, List, map, All, nat_eq, Bool, true, false, cond}
 use Rattle.std.specs.Prelude.{if◌then◌else◌, Option, Some, None}
 use Rattle.std.specs.Prelude.{option_map, option_and_then, T}
-use Rattle.std.specs.declared.cmp.Ordering.{Ordering}
-use Rattle.std.specs.declared.cmp.Ordering.TheVariants.{Less, Equal, Greater}
-use Rattle.std.specs.Ordering.{nat_cmp, is_eq, is_lt, eq_by_cmp}
+use Rattle.std.specs.Ordering.{nat_cmp, is_lt, eq_by_cmp}
 use Rattle.std.specs.Cmp.Lexicographic.{nat_list_cmp_total}
 use Rattle.std.specs.FinMap as fin
 use Rattle.std.specs.FinMap.{slice_cmp-IsAntisymmetric, nat_cmp-IsAntisymmetric, is_sorted}
@@ -21,6 +19,7 @@ use Rattle.broker_types.specs.Map.{get}
 use Rattle.broker_types.specs.Secret.{Key, Version}
 use Rattle.broker_types.specs.Broker.{Broker}
 use Rattle.broker_types.specs.Sound.{Forms, SoundSecrets}
+use Rattle.broker_types.specs.TestLaws.{less_apart, T_left, T_right}
 use Rattle.records.specs.declared.kind.Kind.TheVariants as kind
 use Rattle.records.specs.declared.row.Row.{Row}
 use Rattle.records.specs.ListedMapLaws.{listed-sorted, find-listed}
@@ -32,34 +31,23 @@ use Rattle.records.specs.SplitLaws.{eqb_self, split-lacking}
 use Rattle.records.specs.Splits.{line_feed, split_once, lacks}
 use Rattle.records.specs.Table.{table_of}
 use Rattle.records.specs.Transaction.{Rows}
+use Rattle.records.specs.TableLaws.{eq-nat_cmp}
+use Rattle.records.specs.DigitLaws.{wide}
+use Rattle.records.specs.PrefixLaws.{after_prefix}
 use Rattle.kv2.specs.SecretRows.{IsNumbered, AreVersions, version_entry, versions_prefix}
-use Rattle.kv2.specs.VersionLaws.{eq-nat_cmp}
 use Rattle.kv2.specs.Versions.{Versions}
-use Rattle.kv2.proofs.Digits.{KeyLaws, wide, name_lacks, same_digits}
+use Rattle.kv2.proofs.Digits.{KeyLaws, name_lacks, same_digits}
 use Rattle.kv2.proofs.SecretsTold.{version_rows}
-use Rattle.kv2.proofs.VersionNames.{starts-name, same-parts, cmp-same_front}
+use Rattle.kv2.proofs.VersionNames.{starts-name, same-parts}
 use Rattle.kv2.proofs.VersionRows.{at_parts, by_parts}
 
 -- ---- what holds of each version holds of each entry
 
-less_apart : (o : Ordering) → T (is_lt o) → is_eq o ≡ false
-less_apart Less h = refl
-less_apart Equal h = absurd h
-less_apart Greater h = absurd h
-
-pub left : (a b : Bool) → T (a && b) → T a
-left true b h = tt
-left false b h = absurd h
-
-pub right : (a b : Bool) → T (a && b) → T b
-right true b h = h
-right false b h = absurd h
-
 none_below : (n : ℕ) (es : List (ℕ × Version)) → T (below_all nat_cmp n es) → fin.find nat_cmp n es ≡ None
 none_below n [] h = refl
 none_below n (e ∷ es) h =
-    ap (λ b. cond b (Some e.1) (fin.find nat_cmp n es)) (less_apart (nat_cmp n e.0) (left _ _ h))
-    ∙ none_below n es (right _ _ h)
+    ap (λ b. cond b (Some e.1) (fin.find nat_cmp n es)) (less_apart (nat_cmp n e.0) (T_left _ _ h))
+    ∙ none_below n es (T_right _ _ h)
 
 each_found : (P : ℕ × Version → Type 0) (es : List (ℕ × Version)) → T (is_sorted nat_cmp es)
     → ((n : ℕ) (v : Version) → fin.find nat_cmp n es ≡ Some v → P (n, v)) → All P es
@@ -67,13 +55,13 @@ each_found P [] s h = All-nil P
 each_found P (e ∷ es) s h =
     All-cons P e es (h e.0 e.1
     (ap (λ b. cond b (Some e.1) (fin.find nat_cmp e.0 es)) (eq-nat_cmp e.0 e.0 ∙ eqb_self e.0)))
-    (each_found P es (right _ _ s)
+    (each_found P es (T_right _ _ s)
     (λ n v is. h n v (ap (λ b. cond b (Some e.1) (fin.find nat_cmp n es)) (apart n v is) ∙ is)))
   where
     apart : (n : ℕ) (v : Version) → fin.find nat_cmp n es ≡ Some v → eq_by_cmp nat_cmp n e.0 ≡ false
     apart n v is = false_from_ne_true _ (λ met.
         let one : n ≡ e.0 = eqb-true n e.0 (sym (eq-nat_cmp n e.0) ∙ met) in
-        none-some v (sym (none_below e.0 es (left _ _ s)) ∙ ap (λ m. fin.find nat_cmp m es) (sym one) ∙ is))
+        none-some v (sym (none_below e.0 es (T_left _ _ s)) ∙ ap (λ m. fin.find nat_cmp m es) (sym one) ∙ is))
 
 pub each_version : (P : ℕ × Version → Type 0) (vs : Versions)
     → ((n : ℕ) (v : Version) → fin.get vs n ≡ Some v → P (n, v)) → All P (fin.entries vs)
@@ -95,7 +83,7 @@ module _ (laws : KeyLaws) (name : Text) where
 
   key_order : (m n : ℕ) → m ≤ greatest_version → n ≤ greatest_version
       → text_cmp (version_key name m) (version_key name n) ≡ nat_cmp m n
-  key_order m n g h = cmp-same_front name (line_feed ∷ padded m) (line_feed ∷ padded n)
+  key_order m n g h = after_prefix name (line_feed ∷ padded m) (line_feed ∷ padded n)
       ∙ laws.order m n (wide m g) (wide n h)
 
   below-keyed : (n : ℕ) (es : List (ℕ × Version)) → n ≤ greatest_version → All IsFew es

@@ -22,12 +22,13 @@ use Rattle.records.specs.RowForms.{key_row, key_entry_row, version_row}
 use Rattle.records.specs.Rows.{padded, version_of_digits, version_row_of, version_at, version_key}
 use Rattle.records.specs.Splits.{line_feed, lacks}
 use Rattle.records.specs.Table.{Table, with_row}
+use Rattle.records.specs.DigitLaws.{wide}
 use Rattle.kv2.specs.SecretRows as rows
 use Rattle.kv2.specs.SecretRows.{versions_prefix, next_entry, without_upto}
 use Rattle.kv2.specs.Secrets.{written}
 use Rattle.kv2.specs.VersionLaws.{next_versions}
 use Rattle.kv2.specs.Versions.{version_of, new_version, with_version, versions_kept, key_or_new}
-use Rattle.kv2.proofs.Digits.{KeyLaws, wide, same_digits, upto_digits}
+use Rattle.kv2.proofs.Digits.{KeyLaws, same_digits, upto_digits}
 use Rattle.kv2.proofs.SecretsTold.{key_rows, version_rows, version_row_of-some}
 use Rattle.kv2.proofs.Parts.{secrets_by}
 use Rattle.kv2.proofs.VersionRows.{ByParts, at_parts, with_part, without_parts_to, at_parts-with_part}

@@ -1,33 +1,18 @@
 -- Laws of versions by number: what a key has after an edit.
 use Rattle.std.specs.Prelude.{◌≡◌, ◌+◌, ◌-◌, ◌==◌, ◌&&◌, ℕ, List, [], ◌∷◌, nat_lt, Bool, true, false, cond}
 use Rattle.std.specs.Prelude.{if◌then◌else◌, Option, Some, None, option_map, T}
-use Rattle.std.specs.declared.cmp.Ordering.{Ordering}
-use Rattle.std.specs.declared.cmp.Ordering.TheVariants.{Less, Equal, Greater}
-use Rattle.std.specs.Ordering.{nat_cmp, is_eq, is_lt, eq_by_cmp, ordering_then}
+use Rattle.std.specs.Ordering.{nat_cmp, is_lt, eq_by_cmp}
 use Rattle.std.specs.Cmp.{nat_cmp_total}
 use Rattle.std.specs.FinMap as fin
 use Rattle.std.specs.FinMap.{nat_cmp-IsAntisymmetric}
 use Rattle.std.specs.FinMap.Entries.{below_all, is_sorted}
 use Rattle.std.proofs.Common.{refl, sym, ◌∙◌, ap, subst}
 use Rattle.std.proofs.lemmas.Bool.{eqb-true}
-use Rattle.std.proofs.lemmas.Map.Text.{is_eq-slice_cmp}
+use Rattle.records.specs.TableLaws.{eq-nat_cmp}
 use Rattle.broker_types.specs.Text.{Text}
 use Rattle.broker_types.specs.Secret.{Key, Version}
 use Rattle.kv2.specs.Versions.{Versions, version_of, kept_under, change_versions, changed_entries, with_version}
 use Rattle.kv2.specs.Versions.{new_version, key_or_new}
-
-eq-then : (a : Ordering) → is_eq (ordering_then a Equal) ≡ is_eq a
-eq-then Less = refl
-eq-then Equal = refl
-eq-then Greater = refl
-
-and_true : (b : Bool) → (b && true) ≡ b
-and_true true = refl
-and_true false = refl
-
--- numbers compare as equal where they are
-pub eq-nat_cmp : (m n : ℕ) → is_eq (nat_cmp m n) ≡ (m == n)
-eq-nat_cmp m n = sym (eq-then (nat_cmp m n)) ∙ is_eq-slice_cmp (m ∷ []) (n ∷ []) ∙ and_true (m == n)
 
 -- a version put
 pub get-insert : (vs : Versions) (v : ℕ) (x : Version) (n : ℕ)

@@ -1,26 +1,17 @@
 -- Rows of roles, edited.
 use Rattle.std.specs.Prelude.{◌≡◌, nat_eq, Bool, true, false, not, cond, if◌then◌else◌, Option, Some, None, option_map}
-use Rattle.std.specs.Prelude.{Ok}
 use Rattle.std.specs.List.{starts_with}
-use Rattle.std.proofs.Common.{refl, sym, ◌∙◌, ap, subst}
+use Rattle.std.proofs.Common.{refl, sym, ◌∙◌, ap}
 use Rattle.std.proofs.lemmas.Bool.{false≢true}
 use Rattle.broker_types.specs.Text.{Text, same}
 use Rattle.broker_types.specs.Map.{Map, get, put, without, keep}
 use Rattle.broker_types.specs.MapLaws.{get-put, get-without, get-keep}
 use Rattle.broker_types.specs.Broker.{Broker, Role}
-use Rattle.broker_types.specs.Refuse.{◌>>=◌, unless}
-use Rattle.broker_types.specs.RequestError.{EndsOk}
-use Rattle.broker_types.specs.declared.refusal.Refusal.{Refusal}
 use Rattle.records.specs.declared.kind.Kind.TheVariants as kind
 use Rattle.records.specs.Parts.{of_roles, Tells, KeepsOthers}
 use Rattle.records.specs.RowForms.{role_row}
 use Rattle.records.specs.Rows.{rows_of}
 use Rattle.records.specs.Table.{Table, with_row, without_row, without_under}
-
--- a test that passed, and then the value
-pub ends_unless : {X Y : Type 0} (v : Bool) (r : Refusal) (P : X → Y → Type 0) (x : X) (y : Y) → v ≡ true → P x y
-    → EndsOk P x (unless v r >>= (λ _. Ok y))
-ends_unless v r P x y passes p = subst (λ v. EndsOk P x (unless v r >>= (λ _. Ok y))) (sym passes) p
 
 role_rows : (b : Broker) (q : Text) → rows_of b kind.Role q ≡ option_map role_row (get b.roles q)
 unfolding rows_of

@@ -27,9 +27,6 @@ any_along p q h same (r ∷ rs) absent =
     let parts = or_parts (h r) (list_any h rs) absent in
     λ i. same r parts.0 i || any_along p q h same rs parts.1 i
 
-any_same : (p q : Rule → Bool) → ((r : Rule) → p r ≡ q r) → (rs : List Rule) → list_any p rs ≡ list_any q rs
-any_same p q same rs = λ i. list_any (λ r. same r i) rs
-
 -- some rule has f at k, and none is above m
 at_most : (f : Rule → ℕ) (h : Rule → Bool) (k m : ℕ) → ((r : Rule) → h r ≡ true → f r ≡ k) → (rs : List Rule)
     → list_any h rs ≡ true

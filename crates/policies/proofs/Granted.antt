@@ -4,14 +4,15 @@ use Rattle.std.specs.Prelude.{unwrap_or, option_and_then}
 use Rattle.std.specs.List.{list_any, find}
 use Rattle.std.specs.Option.{option_map_or}
 use Rattle.std.proofs.Common.{refl, sym, ◌∙◌, ap, IsPermutation}
-use Rattle.std.proofs.lemmas.Bool.{and_parts, and_from, or_right, false≢true}
+use Rattle.std.proofs.lemmas.Bool.{and_parts, and_from, or_right, false≢true, not-true, false_from_ne_true}
 use Rattle.std.proofs.lemmas.List.Folds.{list_any-append}
 use Rattle.std.proofs.lemmas.List.Sorted.{list_any-IsPermutation}
 use Rattle.broker_types.specs.Map.{Map, get}
 use Rattle.broker_types.specs.Text.{Text, same}
-use Rattle.broker_types.specs.TextLaws.{same_true, same_self}
+use Rattle.broker_types.specs.TextLaws.{same_self}
 use Rattle.broker_types.specs.declared.ask.Verb.{Verb}
 use Rattle.records.specs.Children.{has}
+use Rattle.records.specs.HasLaws.{any_found, any_from}
 use Rattle.policies.specs.declared.capability.Capability.{Capability}
 use Rattle.policies.specs.declared.capability.Word.{Word}
 use Rattle.policies.specs.declared.pattern.Pattern.{Pattern}
@@ -31,26 +32,6 @@ any_flat p f (x ∷ xs) = list_any-append p (f x) (flat_map f xs) ∙ ap (λ b. 
 
 -- ---- what is said by one of a caller's policies
 
--- a name that passes is one of the names
-some_name : (p : Text → Bool) (names : List Text) → list_any p names ≡ true → (name : Text) × (has names name ≡ true)
-    × (p name ≡ true)
-some_name p [] h = absurd (false≢true h)
-some_name p (n ∷ ns) h =
-    elim (p n) as (λ b. p n ≡ b → (b || list_any p ns) ≡ true → (name : Text) × (has (n ∷ ns) name ≡ true)
-    × (p name ≡ true)) [
-      | true ↦ λ is _. (n, ap (λ b. b || has ns n) (same_self n), is)
-      | false ↦ λ _ rest. let s = some_name p ns rest in (s.0, or_right (same s.0 n) (has ns s.0) s.1, s.2)
-    ] refl h
-
-any_name : (p : Text → Bool) (names : List Text) (name : Text) → has names name ≡ true → p name ≡ true
-    → list_any p names ≡ true
-any_name p [] name h is = absurd (false≢true h)
-any_name p (n ∷ ns) name h is =
-    elim (same name n) as (λ b. same name n ≡ b → (b || has ns name) ≡ true → (p n || list_any p ns) ≡ true) [
-      | true ↦ λ one _. ap (λ b. b || list_any p ns) (ap p (sym (same_true name n one)) ∙ is)
-      | false ↦ λ _ rest. or_right (p n) (list_any p ns) (any_name p ns name rest is)
-    ] refl h
-
 module _ (policies : Map Text) (names : List Text) where
   abbrev said_here : (Word → Bool) → Pattern → Text → Bool
   said_here word pattern name = is_said word (rules_named policies name) pattern
@@ -63,20 +44,12 @@ module _ (policies : Map Text) (names : List Text) where
   says : (word : Word → Bool) (pattern : Pattern) → is_said word (flat_map (rules_named policies) names) pattern ≡ true
       → Says policies names word pattern
   says word pattern h =
-      let s = some_name (said_here word pattern) names (sym (said_by_one word pattern) ∙ h) in
+      let s = any_found (said_here word pattern) names (sym (said_by_one word pattern) ∙ h) in
       record { name = s.0; of_caller = s.1; said = s.2 }
 
   said_of : (word : Word → Bool) (pattern : Pattern) → Says policies names word pattern
       → is_said word (flat_map (rules_named policies) names) pattern ≡ true
-  said_of word pattern s = said_by_one word pattern ∙ any_name (said_here word pattern) names s.name s.of_caller s.said
-
-not_true : (b : Bool) → not b ≡ true → b ≡ false
-not_true true h = absurd (false≢true h)
-not_true false h = refl
-
-false_from : (b : Bool) → (b ≡ true → ⊥) → b ≡ false
-false_from true h = absurd (h refl)
-false_from false h = refl
+  said_of word pattern s = said_by_one word pattern ∙ any_from (said_here word pattern) names s.name s.of_caller s.said
 
 module _ (policies : Map Text) (names : List Text) (v : Verb) (path : Text) (c : Capability) where
   pub only_granted : list_any is_root names ≡ false → grants policies names v path c ≡ true
@@ -93,7 +66,7 @@ module _ (policies : Map Text) (names : List Text) (v : Verb) (path : Text) (c :
               pattern = p;
               is_chosen = is;
               said = says policies names (is_grant c) p parts.0;
-              not_denied = λ s. false≢true (sym (not_true (is_said is_deny rules p) parts.1)
+              not_denied = λ s. false≢true (sym (not-true (is_said is_deny rules p) parts.1)
                   ∙ said_of policies names is_deny p s);
             }
       ] refl (sym (ap (λ b. b || option_map_or (is_granted c rules) (chosen (rules_of policies names v) path) false) e)
@@ -104,7 +77,7 @@ module _ (policies : Map Text) (names : List Text) (v : Verb) (path : Text) (c :
   all_granted g =
       let rules = flat_map (rules_named policies) names in
       let denied : is_said is_deny rules g.pattern ≡ false =
-      false_from _ (λ h. g.not_denied (says policies names is_deny g.pattern h)) in
+      false_from_ne_true _ (λ h. g.not_denied (says policies names is_deny g.pattern h)) in
       or_right (list_any is_root names) _
       (ap (λ o. option_map_or (is_granted c rules) o false) g.is_chosen
       ∙ and_from _ _ (said_of policies names (is_grant c) g.pattern g.said) (ap not denied))

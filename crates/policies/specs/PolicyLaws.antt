@@ -1,6 +1,6 @@
 -- Policies that rows tell: which rows they are, and that they say one thing (this project's).
 use lib.Utf8.{encode}
-use Rattle.std.specs.Prelude.{◌≡◌, ◌++◌, List, [], ◌∷◌, All, Bool, true, Option, Some, None, option_map, is_some}
+use Rattle.std.specs.Prelude.{◌≡◌, ◌++◌, List, [], ◌∷◌, All, true, Option, Some, None, option_map, is_some}
 use Rattle.std.specs.Prelude.{false, cond, drop, flat_map, option_and_then, unwrap_or}
 use Rattle.std.specs.List.{list_any}
 use Rattle.std.specs.Str.{is_utf8, chars}
@@ -15,7 +15,7 @@ use Rattle.broker_types.specs.Broker.{Broker}
 use Rattle.broker_types.specs.First.{default_policy}
 use Rattle.broker_types.specs.Map.{Map, empty, get, put, without}
 use Rattle.broker_types.specs.MapLaws.{get-put, get-without}
-use Rattle.broker_types.specs.Sound.{SoundPolicies, IsShortText}
+use Rattle.broker_types.specs.Sound.{IsShortText}
 use Rattle.broker_types.specs.Text.{Text, same}
 use Rattle.broker_types.specs.TextLaws.{same_true, same_self}
 use Rattle.broker_types.specs.declared.ask.Verb.{Verb}
@@ -29,7 +29,7 @@ use Rattle.records.specs.Table.{Table}
 use Rattle.policies.specs.Grants.{rules_named, rules_of}
 use Rattle.policies.specs.Policies.{is_root}
 use Rattle.policies.specs.PolicyRows.{IsPolicyAt, ArePolicies, ArePoliciesAt, IsReadable}
-use Rattle.policies.specs.PolicyTexts.{policy_of, pattern_of, words_of, paths_of, is_policy, policy_forms}
+use Rattle.policies.specs.PolicyTexts.{policy_of, pattern_of, words_of, paths_of, is_policy}
 use Rattle.policies.specs.Rules.{Rule}
 use Rattle.policies.specs.TellLaws.{policies_told}
 
@@ -111,13 +111,6 @@ module _ (rows : Table) (name : Text) where
         | Some rules ↦ λ is _. (rules, record { text = Some text; short = short; row = at; read = is })
         | None ↦ λ _ none. absurd (false≢true none)
       ] refl (policy text refl)
-
--- the rows of sound policies can be read
-pub sound_readable : (is_object : Text → Bool) (rows : Table) (policies : Map Text) (names : List Text)
-    → SoundPolicies (policy_forms is_object) policies → ArePoliciesAt rows names policies
-    → All (IsReadable rows) names
-sound_readable is_object rows policies names sound are = λ i d within.
-    readable_at rows _ _ (λ text is. (sound _ text is).short) (λ text is. (sound _ text is).policy) (are i d within)
 
 -- ---- rows that can be read are those of some policies
 

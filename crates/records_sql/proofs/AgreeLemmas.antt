@@ -4,17 +4,18 @@ use Rattle.std.proofs.Common.{refl, sym, ap, subst, arith}
 use Rattle.std.specs.Prelude.{Option, None, Some, nat_le, All, Contains, IsPermutation}
 use Rattle.std.specs.List.{slice_index_or}
 use Rattle.std.specs.declared.cmp.Ordering.{Ordering}
-use Rattle.std.specs.declared.cmp.Ordering.TheVariants.{Less, Equal, Greater}
+use Rattle.std.specs.declared.cmp.Ordering.TheVariants.{Equal}
 use Rattle.std.specs.Ordering.{eq_by_cmp, is_eq, nat_cmp, ordering_then}
 use Rattle.std.specs.Cmp.{nat_cmp_total, tied_itself}
 use Rattle.std.specs.FinMap.{get, insert, remove, get_tied, get-insert, get-remove}
-use Rattle.std.proofs.lemmas.Bool.{eqb-true, false≢true}
+use Rattle.std.proofs.lemmas.Bool.{eqb-true, false≢true, not-true}
 use Rattle.std.proofs.lemmas.Bool.Decides.{nat_tests}
 use Rattle.std.proofs.lemmas.List.Elements.{All-filter, All-head, filter_passes}
 use Rattle.std.proofs.lemmas.List.Sorted.{IsPermutation-refl, length_permutation}
 use Rattle.std.proofs.lemmas.Option.{none-some, same_Some}
 use Rattle.broker_types.specs.Text.{text_cmp, same}
 use Rattle.broker_types.specs.TextLaws.{same-text_cmp}
+use Rattle.broker_types.specs.TestLaws.{is_equal}
 use Rattle.records.specs.declared.row.Row.{Row}
 use Rattle.records.specs.DueRows.{AreDue, is_due, rows_due}
 use Rattle.records.specs.EntryLaws.{passing_each, passing_whole}
@@ -24,15 +25,6 @@ use Rattle.records.specs.Transaction.{Rows}
 use Rattle.records_sql.specs.Memory.{AreFound, IsDueFrom, IsCalmUntil, others}
 
 -- ---- keys
-
-tied : (r : Ordering) → is_eq r ≡ true → r ≡ Equal
-tied Less h = absurd cc
-tied Equal h = refl
-tied Greater h = absurd cc
-
-apart : (b : Bool) → not b ≡ true → b ≡ false
-apart true h = absurd cc
-apart false h = refl
 
 -- keys of one kind compare as their texts
 pub alike : (a b : RowKey) → kind_number a.0 ≡ kind_number b.0 → same a.1 b.1 ≡ eq_by_cmp key_cmp a b
@@ -44,7 +36,7 @@ alike a b kinds =
 -- what an entry says is what is found at a key that compares alike
 pub found_at : (rows : Rows) (key : RowKey) (e : RowKey × Option Row) → eq_by_cmp key_cmp e.0 key ≡ true
     → get rows e.0 ≡ e.1 → get rows key ≡ e.1
-found_at rows key e alike is = get_tied key_cmp_total rows e.0 key (tied (key_cmp e.0 key) alike) ∙ is
+found_at rows key e alike is = get_tied key_cmp_total rows e.0 key (is_equal (key_cmp e.0 key) alike) ∙ is
 
 -- ---- rows that change
 
@@ -66,7 +58,7 @@ module _ (rows : Rows) (key : RowKey) (list : List (RowKey × Option Row)) (foun
   found_put row k d below =
       let e = slice_index_or (others key list) k d in
       get-insert key_cmp_total rows key row e.0
-      ∙ ap (λ b. cond b (Some row) (get rows e.0)) (apart _ (filter_passes is_other list k d below))
+      ∙ ap (λ b. cond b (Some row) (get rows e.0)) (not-true _ (filter_passes is_other list k d below))
       ∙ All-filter is_other IsFound list found k d below
 
   -- and where one is removed
@@ -74,7 +66,7 @@ module _ (rows : Rows) (key : RowKey) (list : List (RowKey × Option Row)) (foun
   found_removed k d below =
       let e = slice_index_or (others key list) k d in
       get-remove key_cmp_total rows key e.0
-      ∙ ap (λ b. cond b None (get rows e.0)) (apart _ (filter_passes is_other list k d below))
+      ∙ ap (λ b. cond b None (get rows e.0)) (not-true _ (filter_passes is_other list k d below))
       ∙ All-filter is_other IsFound list found k d below
 
 module _ (rows : Rows) (key : RowKey) (moment : ℕ) (calm : IsCalmUntil moment rows) where

@@ -1,21 +1,12 @@
 -- Which faults a replay ends with.
 use Rattle.std.specs.Prelude.{⊤}
-use Rattle.std.proofs.Common.{◌≡◌, ◌⊎◌, inl, inr, ℕ, Bool, IsTrue, refl, sym, subst, arith}
+use Rattle.std.proofs.Common.{◌≡◌, ◌⊎◌, inl, inr, ℕ, Bool, refl, arith}
 use Rattle.broker_types.specs.Fault.{IsMemoryOrStorage, fault_number}
 use Rattle.broker_types.specs.declared.fault.Fault.{Fault}
 use Rattle.broker_types.specs.declared.fault.Fault.TheVariants.{Memory, Storage, Damaged, BadStart}
 use Rattle.replay.specs.Exits.{EndsBy}
 use Rattle.replay.specs.declared.replaying.Exit.{Exit}
 use Rattle.replay.specs.declared.replaying.Exit.TheVariants.{Done, Faulted, BadLine}
-
--- a fault of memory or storage, where the storage failed if it is of storage
-pub ends_by_fault : (fault : Fault) (StorageFailed : Type 0) (failed : Bool) → IsMemoryOrStorage fault
-    → (fault ≡ Storage → StorageFailed)
-    → EndsBy ⊥ StorageFailed failed (Faulted (fault_number fault))
-ends_by_fault Memory StorageFailed failed want storage = inl refl
-ends_by_fault Storage StorageFailed failed want storage = inr (inl (refl, storage refl))
-ends_by_fault Damaged StorageFailed failed want storage = absurd want
-ends_by_fault BadStart StorageFailed failed want storage = absurd want
 
 -- a fault of a start, where the words were equal if it was refused
 pub ends_by_start : (fault : Fault) (EqualWords : Type 0) (failed : Bool) → IsMemoryOrStorage fault ⊎ (fault ≡ BadStart)
@@ -25,15 +16,6 @@ ends_by_start Storage EqualWords failed came equal = inr (inl (refl, tt))
 ends_by_start Damaged EqualWords failed (inl came) equal = absurd came
 ends_by_start Damaged EqualWords failed (inr came) equal = absurd (cc)
 ends_by_start BadStart EqualWords failed came equal = inr (inr (inl (refl, equal refl)))
-
--- the replies were written before such an end, or a write failed
-pub ends_of : (EqualWords StorageFailed : Type 0) (failed : Bool) (result exit : Exit) (A : Type 0)
-    → ((result ≡ exit) × A) ⊎ ((result ≡ Faulted 6) × IsTrue failed)
-    → EndsBy EqualWords StorageFailed failed exit → EndsBy EqualWords StorageFailed failed result
-ends_of EqualWords StorageFailed failed result exit A (inl p) ends =
-    subst (EndsBy EqualWords StorageFailed failed) (sym p.0) ends
-ends_of EqualWords StorageFailed failed result exit A (inr p) ends =
-    subst (EndsBy EqualWords StorageFailed failed) (sym p.0) (inr (inr (inr (refl, p.1))))
 
 -- what follows from it
 pub ends_weaker : (E F S T : Type 0) (failed : Bool) (exit : Exit) → (E → F) → (S → T) → EndsBy E S failed exit

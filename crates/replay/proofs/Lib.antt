@@ -1,5 +1,4 @@
 pub mod ExitLemmas
-pub mod InputLemmas
 pub mod LineLemmas
 pub mod ScriptLemmas
 pub mod StoppedLemmas

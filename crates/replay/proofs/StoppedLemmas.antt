@@ -1,5 +1,6 @@
 -- What was written before a fault.
 use Rattle.std.proofs.Common.{◌≡◌, ◌≢◌, ◌⊎◌, inl, inr, ℕ, List, [], Option, Some, None, refl, sym, subst, ◌∙◌}
+use Rattle.std.proofs.KnownBytes.{Appends-nil}
 use Rattle.records.specs.Kept.{Kept, IsHonestStore}
 use Rattle.hub.specs.Representing.{HubRepresents, hub_store}
 use Rattle.hub.specs.Runs.{bytes_of}
@@ -10,7 +11,6 @@ use Rattle.replay.specs.Lines.{Told}
 use Rattle.replay.specs.Replays.{StopsRun, StoppedRun, StoppedFrom, Stopped, started}
 use Rattle.replay.specs.declared.replaying.Exit.{Exit}
 use Rattle.replay.specs.declared.replaying.Exit.TheVariants.{Done, Faulted, BadLine}
-use Rattle.replay.proofs.WritingLemmas.{Appends-none}
 
 -- no event was run, and nothing was written
 from_none : (w : World) (events : List Event) (known : Option (List ℕ)) (exit : Exit)
@@ -18,13 +18,13 @@ from_none : (w : World) (events : List Event) (known : Option (List ℕ)) (exit 
 from_none w events known Done = tt
 from_none w events known (BadLine line) = tt
 from_none w events known (Faulted number) =
-    λ other. (0, record { replies = []; after = _; run = refl; written = Appends-none known })
+    λ other. (0, record { replies = []; after = _; run = refl; written = Appends-nil known })
 
 -- nothing was written, however it ended
 pub stopped_none : (t : Option Told) (known : Option (List ℕ)) (exit : Exit) → Stopped t known known exit
 stopped_none None known Done = tt
 stopped_none None known (BadLine line) = tt
-stopped_none None known (Faulted number) = λ other. Appends-none known
+stopped_none None known (Faulted number) = λ other. Appends-nil known
 stopped_none (Some t) known exit = from_none (started t.start) t.events known exit
 
 -- the run stopped and its replies were written, or a write failed

@@ -1,21 +1,11 @@
 -- Replies that are written one after another.
-use Rattle.std.proofs.Common.{◌≡◌, ◌∙◌, ℕ, ◌+◌, ◌<◌, List, [], ◌∷◌, ◌++◌, length, take, get_or, Option, Some, None, Vec}
+use Rattle.std.proofs.Common.{◌≡◌, ◌∙◌, ℕ, ◌+◌, ◌<◌, List, [], ◌∷◌, ◌++◌, length, take, get_or, Option, Vec}
 use Rattle.std.proofs.Common.{Global, sym, ap, subst, append_assoc}
 use Rattle.std.specs.Io.KnownBytes.{Appends}
 use Rattle.std.specs.List.{concat}
 use Rattle.std.proofs.lemmas.List.{append-nil, take_more, map_push}
+use Rattle.std.proofs.KnownBytes.{Appends-trans}
 use Rattle.hub.specs.Runs.{bytes_of}
-
-pub Appends-none : (known : Option (List ℕ)) → Appends known known []
-Appends-none None = tt
-Appends-none (Some xs) = sym (append-nil xs)
-
-Appends-append : (old mid new : Option (List ℕ)) (xs ys : List ℕ) → Appends old mid xs → Appends mid new ys
-    → Appends old new (xs ++ ys)
-Appends-append None mid new xs ys p q = tt
-Appends-append (Some a) None new xs ys p q = absurd p
-Appends-append (Some a) (Some b) None xs ys p q = absurd q
-Appends-append (Some a) (Some b) (Some c) xs ys p q = q ∙ ap (λ (l : List ℕ). l ++ ys) p ∙ append_assoc a xs ys
 
 concat-push : (xs : List (List ℕ)) (x : List ℕ) → concat (xs ++ x ∷ []) ≡ concat xs ++ x
 concat-push [] x = append-nil x
@@ -37,5 +27,5 @@ pub Appends-more : (old mid new : Option (List ℕ)) (replies : List (Vec ℕ Gl
     → Appends old new (concat (bytes_of (take (i + 1) replies)))
 Appends-more old mid new replies i reply bytes lt is same before now =
     subst (Appends old new) (sym (bytes_more replies i reply lt is))
-    (Appends-append old mid new (concat (bytes_of (take i replies))) reply.items before
+    (Appends-trans old mid new (concat (bytes_of (take i replies))) reply.items before
     (subst (Appends mid new) same now))

@@ -1,21 +1,19 @@
 -- A credential that was issued: its rows, its identifiers, and the broker that they represent.
-use Rattle.std.specs.Prelude.{◌≡◌, ◌≢◌, ◌==◌, ◌&&◌, ◌||◌, ℕ, List, [], ◌∷◌, ◌++◌}
-use Rattle.std.specs.Prelude.{not, Bool, true, false, if◌then◌else◌, codes}
+use Rattle.std.specs.Prelude.{◌≡◌, ◌≢◌, ◌==◌, ◌&&◌, ◌||◌, ℕ, [], ◌∷◌, ◌++◌}
+use Rattle.std.specs.Prelude.{not, true, false, if◌then◌else◌, codes}
 use Rattle.std.specs.Prelude.{Option, Some, None, option_map, is_none, Result, Ok, Err}
-use Rattle.std.specs.List.{list_all}
 use Rattle.std.specs.Option.{option_map_or}
-use Rattle.std.proofs.Common.{arith, refl, sym, ◌∙◌, ap, subst, append_assoc}
+use Rattle.std.proofs.Common.{refl, sym, ◌∙◌, ap, subst, append_assoc}
 use Rattle.std.proofs.lemmas.Bool.{false≢true, and_parts}
-use Rattle.std.proofs.lemmas.Bool.Decides.{nat_tests}
 use Rattle.std.proofs.lemmas.Option.{none-some, same_Some}
 use Rattle.broker_types.specs.Broker.{Broker, Role}
 use Rattle.broker_types.specs.Evolves.{IsNew}
 use Rattle.broker_types.specs.Map.{get, put}
-use Rattle.broker_types.specs.Name.{is_name, is_name_byte, is_mount_name}
+use Rattle.broker_types.specs.Name.{is_name, is_mount_name}
 use Rattle.broker_types.specs.OptionLaws.{is_nothing}
 use Rattle.broker_types.specs.IdentifierPlaces.{lease_identifier}
 use Rattle.broker_types.specs.Refuse.{some_or, unless}
-use Rattle.broker_types.specs.RefuseLaws.{ok_step, no_ok}
+use Rattle.broker_types.specs.RefuseLaws.{ok_step, some_ok}
 use Rattle.broker_types.specs.RequestError.{EndsOk}
 use Rattle.broker_types.specs.Sound.{Sound, IsSoundRole, IsIdentifier}
 use Rattle.broker_types.specs.Text.{Text, same}
@@ -32,11 +30,12 @@ use Rattle.records.specs.Parts.{Tells, KeepsOthers, of_leases}
 use Rattle.records.specs.RowForms.{used_row}
 use Rattle.records.specs.Rows.{rows_of}
 use Rattle.records.specs.SplitLaws.{split-lacking}
-use Rattle.records.specs.Splits.{slash, split_once, lacks}
+use Rattle.records.specs.Splits.{slash, split_once}
 use Rattle.records.specs.Table.{table_of, with_row}
 use Rattle.records.specs.TokenEntry.{TokenEntry, token_entry}
 use Rattle.records.specs.Transaction.{Rows}
 use Rattle.records.specs.ValueLaws.{ok_inj}
+use Rattle.records.specs.SecretNameLaws.{mount_no_slash}
 use Rattle.leases.specs.IssuedLaws.{issue_sound, identifier_of_id, new_lease_sound}
 use Rattle.leases.specs.Laws.{MayBeIssued}
 use Rattle.leases.specs.Leases.{issue}
@@ -51,26 +50,14 @@ use Rattle.secret_operations.specs.Issuing.{IsLeased}
 
 -- ---- the name of a role that is there
 
-weaker : (p q : ℕ → Bool) → ((x : ℕ) → p x ≡ true → q x ≡ true) → (xs : List ℕ) → list_all p xs ≡ true
-    → list_all q xs ≡ true
-weaker p q h [] e = refl
-weaker p q h (x ∷ xs) e = λ i. h x (and_parts _ _ e).0 i && weaker p q h xs (and_parts _ _ e).1 i
-
-name_byte : (x : ℕ) → is_name_byte x ≡ true → not (x == slash) ≡ true
-name_byte x h = grind (arith, nat_tests)
-
-mount_lacks : (mount : Text) → is_mount_name mount ≡ true → lacks slash mount ≡ true
-mount_lacks mount h = weaker is_name_byte (λ x. not (x == slash)) name_byte mount
-    (and_parts _ _ (and_parts _ _ (and_parts _ _ h).0).1).1
-
 -- a role is kept under a name
 role_named : (mount name : Text) (r : Role) → is_mount_name mount ≡ true → IsSoundRole (role_name mount name) r
     → is_name name ≡ true
 role_named mount name r is_mount s =
     let parts : role_name mount name ≡ s.mount ++ slash ∷ s.role = s.parts ∙ append_assoc s.mount (codes "/") s.role in
     let pair = same_Some _ _
-    (sym (split-lacking slash mount name (mount_lacks mount is_mount)) ∙ ap (split_once slash) parts
-    ∙ split-lacking slash s.mount s.role (mount_lacks s.mount s.mount_name)) in
+    (sym (split-lacking slash mount name (mount_no_slash mount is_mount)) ∙ ap (split_once slash) parts
+    ∙ split-lacking slash s.mount s.role (mount_no_slash s.mount s.mount_name)) in
     ap (λ (p : Text × Text). is_name p.1) pair ∙ s.role_name
 
 -- ---- the caller
@@ -87,10 +74,6 @@ last_use b c is = by (get b.tokens c.token) is
     by (Some x) h = ap (λ (e : TokenEntry). option_map_or (λ n. n == 0) e.uses_left false) (same_Some _ _ h)
 
 -- ---- a lease that may be made
-
-some_of : {X : Type 0} (e : Refusal) (o : Option X) (x : X) → some_or e o ≡ Ok x → o ≡ Some x
-some_of e None x h = no_ok h
-some_of e (Some y) x h = ap Some (ok_inj h)
 
 module _ (b : Broker) (c : Text) (sound : Sound forms (Some c) b) (mount name identifier credential : Text)
     (is_mount : is_mount_name mount ≡ true)
@@ -176,7 +159,7 @@ module _ (b : Broker) (c : Text) (sound : Sound forms (Some c) b) (mount name id
             let r = ok_step (some_or refusal.NotFound (roles.role b mount name)) _ x.0 x.1 in
             let lasts =
             ok_step (unless (not (is_last_use b c)) (refusal.BadRequest reason.LastUseTakesLease)) _ x.0 r.2 in
-            let there = some_of refusal.NotFound (roles.role b mount name) r.0 r.1 in
+            let there = some_ok refusal.NotFound (roles.role b mount name) r.0 r.1 in
             let same = ap given (ok_inj lasts.2) ∙ ok_inj x.2 in (
               h.0,
               subst (λ (i : Issued). Represents (Some c) new_rows

@@ -1,26 +1,9 @@
 -- The path in a line of the log, one byte more.
-use Rattle.std.proofs.Common.{◌≡◌, ℕ, suc, ◌+◌, ◌-◌, ◌<◌, ◌≤◌, ◌==◌, List, [], ◌∷◌, ◌++◌, map, length, get_or, take}
-use Rattle.std.proofs.Common.{drop, slice_range, false, refl, sym, ap, ◌∙◌}
-use Rattle.std.proofs.Common.{arith, add-one, append_assoc, length-drop}
-use Rattle.std.proofs.Math.Seq.{take-suc, drop-cons}
-use Rattle.std.proofs.lemmas.List.{get_or-drop}
+use Rattle.std.proofs.Common.{◌≡◌, ℕ, ◌+◌, ◌<◌, ◌≤◌, ◌==◌, List, [], ◌∷◌, ◌++◌, map, length, get_or}
+use Rattle.std.proofs.Common.{drop, slice_range, false, refl, sym, ◌∙◌}
+use Rattle.std.proofs.Common.{append_assoc}
+use Rattle.broker_types.specs.SliceLaws.{slice_grown, slice_none, drop_first}
 use Rattle.server.specs.LogLine.{shown_byte, shown_path, shown_segment}
-
-grown : (s : List ℕ) (start i : ℕ) → start ≤ i → i < length s
-    → slice_range s start (i + 1) ≡ slice_range s start i ++ (get_or s i 0 ∷ [])
-grown s start i from within =
-    let up : (i + 1) - start ≡ suc (i - start) = omega arith in
-    let room : i - start < length (drop start s) = rw length-drop (omega arith) in
-    let at : start + (i - start) ≡ i = omega arith in
-    ap (λ n. take n (drop start s)) up ∙ take-suc (drop start s) (i - start) 0 room
-    ∙ ap (λ b. take (i - start) (drop start s) ++ b ∷ [])
-    (get_or-drop start s (i - start) 0 ∙ ap (λ n. get_or s n 0) at)
-
-none : (s : List ℕ) (i : ℕ) → slice_range s i i ≡ []
-none s i = let zero : i - i ≡ 0 = omega arith in rw zero refl
-
-left : (s : List ℕ) (i : ℕ) → i < length s → drop i s ≡ get_or s i 0 ∷ drop (i + 1) s
-left s i within = rw add-one (drop-cons s i 0 within)
 
 -- at a slash a segment is shown
 pub at_slash : (s shown : List ℕ) (start i : ℕ) → i < length s → get_or s i 0 ≡ 47
@@ -28,16 +11,16 @@ pub at_slash : (s shown : List ℕ) (start i : ℕ) → i < length s → get_or 
     ≡ ((shown ++ shown_segment (slice_range s start i)) ++ 47 ∷ [])
     ++ shown_path (slice_range s (i + 1) (i + 1)) (drop (i + 1) s)
 at_slash s shown start i within slash =
-    rw (left s i within, slash, none s (i + 1))
+    rw (drop_first s i within, slash, slice_none s (i + 1))
     (sym (append_assoc (shown ++ shown_segment (slice_range s start i)) (47 ∷ []) _
     ∙ append_assoc shown (shown_segment (slice_range s start i)) _))
 
 -- at another byte it grows
 pub at_other : (s : List ℕ) (start i : ℕ) → start ≤ i → i < length s → (get_or s i 0 == 47) ≡ false
     → shown_path (slice_range s start i) (drop i s) ≡ shown_path (slice_range s start (i + 1)) (drop (i + 1) s)
-at_other s start i from within other = rw (left s i within, grown s start i from within, other) refl
+at_other s start i from within other = rw (drop_first s i within, slice_grown s start i from within, other) refl
 
 -- one byte of a segment more is shown
 pub one_more : (s shown : List ℕ) (i : ℕ) → i < length s
     → shown ++ map shown_byte (drop i s) ≡ (shown ++ shown_byte (get_or s i 0) ∷ []) ++ map shown_byte (drop (i + 1) s)
-one_more s shown i within = rw (left s i within) (sym (append_assoc shown (shown_byte (get_or s i 0) ∷ []) _))
+one_more s shown i within = rw (drop_first s i within) (sym (append_assoc shown (shown_byte (get_or s i 0) ∷ []) _))

@@ -17,11 +17,6 @@ pub on_true : {P : Type 0} (b : Bool) → (b ≡ true → P) → OnTrue b P
 on_true true f = f refl
 on_true false f = tt
 
--- and from one that may pass as another does
-pub on_true_weaker : {P Q : Type 0} (b : Bool) → (P → Q) → OnTrue b P → OnTrue b Q
-on_true_weaker true f p = f p
-on_true_weaker false f p = tt
-
 -- what is there
 pub filled : {X : Type 0} (o p : Option X) → p ≡ o → is_some p ≡ true → o ≢ None
 filled o p is some none = false≢true (sym (ap is_some (is ∙ none)) ∙ some)

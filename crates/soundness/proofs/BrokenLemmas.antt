@@ -11,14 +11,13 @@ use Rattle.broker_types.specs.Text.{Text, same}
 use Rattle.broker_types.specs.Limits.{most_custom_metadata, longest_custom_name, longest_custom_value}
 use Rattle.broker_types.specs.Name.{is_name}
 use Rattle.broker_types.specs.Broker.{Waiting}
-use Rattle.broker_types.specs.Sound.{IsCustomPair, IsIdentifier, IsPathText, IsShortText, IsTokenText}
+use Rattle.broker_types.specs.Sound.{IsCustomPair, IsPathText, IsShortText, IsTokenText}
 use Rattle.broker_model.specs.Forms.{forms}
 use Rattle.records.specs.declared.holder.Holder.TheVariants as holder
 use Rattle.records.specs.declared.kind.Kind.{Kind}
 use Rattle.records.specs.declared.kind.Kind.TheVariants as kind
 use Rattle.records.specs.declared.row.Row.{Row}
 use Rattle.records.specs.DigitLaws.{digits_after-padded, wide}
-use Rattle.records.specs.Kind.{RowKey}
 use Rattle.records.specs.KeyEntry.{KeyEntry}
 use Rattle.records.specs.TokenEntry.{TokenEntry}
 use Rattle.records.specs.Ranges.{IsTokenInRange, IsLeaseInRange, IsKeyInRange, IsVersionInRange, IsWaitingInRange}
@@ -37,8 +36,10 @@ use Rattle.records.specs.Table.{Table}
 use Rattle.soundness.specs.Broken.{IsInFormat, IsVersionKey, IsKeyOf, BreaksText, IsKeyRow, BreaksNumber, BreaksUses}
 use Rattle.soundness.specs.Broken.{BreaksParent, BreaksOwner, BreaksAccessor, BreaksCredential}
 use Rattle.soundness.specs.RowRules.{IsOf, Named, IsNamedBy, Owned, Held, IsCredentialOf}
-use Rattle.soundness.specs.SoundRows.{AreSound, Places, IsHad}
+use Rattle.soundness.specs.SoundRows.{AreSound}
 use Rattle.soundness.specs.Texts.{is_fit, are_fit}
+use Rattle.soundness.proofs.ReadLemmas.{owner_of}
+use Rattle.soundness.proofs.TokenFacts.{had_identifier}
 
 -- ---- records that rows tell
 
@@ -55,14 +56,11 @@ owned_one e f h k is = let one = cubby_row-injective e.0 f.0 e.1 f.1 h k is in �
 held_one : (h i : Held) → IsLeaseInRange h.1 → IsLeaseInRange i.1 → lease_row h.0 h.1 ≡ lease_row i.0 i.1 → h ≡ i
 held_one h i a b is = let one = lease_row-injective h.0 i.0 h.1 i.1 a b is in λ j. (one.0 j, one.1 j)
 
-owner_of : (r s : Row) → r ≡ s → r.owner ≡ s.owner
-owner_of r s is = ap (λ (x : Row). x.owner) is
-
 -- the row of an accessor says what it names
 is_of_token : Row → Bool
 is_of_token r = same r.body (accessor_row [] holder.Token).body
 
-not_both : (t u : Text) → accessor_row t holder.Token ≡ accessor_row u holder.WrappingToken → ⊥
+pub not_both : (t u : Text) → accessor_row t holder.Token ≡ accessor_row u holder.WrappingToken → ⊥
 unfolding same number is_of_token
 not_both t u is = false≢true (sym (ap is_of_token is))
 
@@ -87,10 +85,6 @@ version_parts q n m a b k l =
       sym (digits_after-padded a k.wide) ∙ ap (λ (p : Text × Text). digits_after 0 p.1) split
           ∙ digits_after-padded b l.wide,
     )
-
--- what a row has is an identifier
-had_is : (table : Table) (places : Places) (key : RowKey) (i : Text) → IsHad table places key i → IsIdentifier i
-had_is table places key i had = (had.0, had.1, had.2)
 
 -- ---- custom metadata
 
@@ -157,14 +151,14 @@ module _ (rows : Table) (s : AreSound rows) where
   pub token_key : (q : Text) (row : Row) → rows kind.Token q ≡ Some row → IsTokenText q
   token_key q row is =
       let i = s.identifiers.1 kind.Token q row is in
-      (i.0, had_is rows s.identifiers.0 (kind.Token, q) i.0 i.2, i.1)
+      (i.0, had_identifier rows s.identifiers.0 (kind.Token, q) i.0 i.2, i.1)
 
   pub is_key : (k : Kind) (q : Text) (row : Row) → rows k q ≡ Some row → IsKeyOf k q row.owner
   is_key kind.Clock q row is = (s.each kind.Clock q row is).1.0
   is_key kind.Used q row is = (s.each kind.Used q row is).1
   is_key kind.Token q row is = token_key q row is
   is_key kind.Accessor q row is =
-      had_is rows s.identifiers.0 (kind.Accessor, q) q (s.identifiers.1 kind.Accessor q row is)
+      had_identifier rows s.identifiers.0 (kind.Accessor, q) q (s.identifiers.1 kind.Accessor q row is)
   is_key kind.Cubby q row is =
       let x = s.each kind.Cubby q row is in (
         x.1.path,
@@ -173,13 +167,13 @@ module _ (rows : Table) (s : AreSound rows) where
       )
   is_key kind.Lease q row is = (s.each kind.Lease q row is).1.name
   is_key kind.Credential q row is =
-      had_is rows s.identifiers.0 (kind.Credential, q) q (s.identifiers.1 kind.Credential q row is)
+      had_identifier rows s.identifiers.0 (kind.Credential, q) q (s.identifiers.1 kind.Credential q row is)
   is_key kind.KvKey q row is = (s.each kind.KvKey q row is).1.name
   is_key kind.KvVersion q row is =
       let good = (s.each kind.KvVersion q row is).1 in (good.name, good.number, version_key_at q row is)
   is_key kind.Waiting q row is =
       let i = s.identifiers.1 kind.Waiting q row is in
-      (i.0, had_is rows s.identifiers.0 (kind.Waiting, q) i.0 i.2, i.1)
+      (i.0, had_identifier rows s.identifiers.0 (kind.Waiting, q) i.0 i.2, i.1)
   is_key kind.Mount q row is = (s.each kind.Mount q row is).1.mount_name
   is_key kind.Policy q row is =
       let good = (s.each kind.Policy q row is).1 in (good.policy_name, good.not_root)

@@ -6,6 +6,7 @@ use Rattle.std.proofs.Common.{refl, sym, ◌∙◌, ap, subst, get_or, arith}
 use Rattle.std.proofs.lemmas.Bool.{and_parts, eqb-true, false≢true}
 use Rattle.std.proofs.lemmas.List.Elements.{Contains-get_or}
 use Rattle.broker_types.specs.Text.{Text, text_cmp}
+use Rattle.broker_types.specs.OptionLaws.{of_none, of_some}
 use Rattle.records.specs.declared.kind.Kind.{Kind}
 use Rattle.records.specs.declared.row.Row.{Row}
 use Rattle.records.specs.Kind.{RowKey, kind_number}
@@ -16,9 +17,9 @@ use Rattle.soundness.specs.declared.trouble.Trouble.{Trouble}
 use Rattle.soundness.specs.declared.visiting.Notes.{Notes}
 use Rattle.soundness.specs.Broken.{Breaks, BreaksAt}
 use Rattle.soundness.specs.Notes.{AreApart, AreTrue, CanBeVisited, IsEntry, IsFresh, IsFreshKind, Spares}
-use Rattle.soundness.proofs.NotingLemmas.{if_some, spares_further, trouble_at}
+use Rattle.soundness.proofs.NotingLemmas.{spares_further, trouble_at}
 use Rattle.soundness.proofs.PageOrder.{IsLast, above_from, in_page, page_sorted, page_upto, sorted_apart}
-use Rattle.soundness.proofs.WalkLemmas.{all_kinds, if_none}
+use Rattle.soundness.proofs.WalkLemmas.{all_kinds}
 
 -- ---- entries
 
@@ -121,7 +122,7 @@ module _ (first now : Rows) (same : now ≡ first) (a b c : Notes) (es : List (R
     entry_spares all =
         let here = subst (λ (m : Rows). IsEntry (table_of m) e
         → IfNone o (Spares (table_of m) (λ key. key ≢ e.0) b c)) same kept in
-        if_none o none (here (subst (IsEntry (table_of first)) (sym at) (all i e below)))
+        of_none o none (here (subst (IsEntry (table_of first)) (sym at) (all i e below)))
 
     pub entry_keeps : All (IsEntry (table_of first)) es → SparesOthers a b → SparesOthers a c
     entry_keeps all so =
@@ -145,7 +146,7 @@ module _ (first now : Rows) (same : now ≡ first) (a b c : Notes) (es : List (R
       subst (λ (f : RowKey × Row). IsFresh b f.0) (sym at) (fresh i e (omega arith) below) in
       trouble_at (table_of first) t e.0.0 e.0.1 r e.1 is_kind is_key is_rule
       (subst (IsEntry (table_of first)) (sym at) (can.are_rows i e below))
-      (if_some (λ rule. BreaksAt (table_of first) rule e.0.0 e.0.1 e.1) o r is (here (so.stay_true are) free))
+      (of_some (λ rule. BreaksAt (table_of first) rule e.0.0 e.0.1 e.1) o r is (here (so.stay_true are) free))
 
 module _ (first now : Rows) (same : now ≡ first) (a b c : Notes) (k : Kind) (from : Text) (count : ℕ)
     (page es : List (RowKey × Row)) (is : page ≡ take count (rows_from first k [] from)) (shown : es ≡ page) where
@@ -162,7 +163,7 @@ module _ (first now : Rows) (same : now ≡ first) (a b c : Notes) (k : Kind) (f
     page_spares =
         let here = subst (λ (m : Rows). All (IsEntry (table_of m)) es
         → IfNone o (Spares (table_of m) (λ key. All (λ e. key ≢ e.0) es) b c)) same kept in
-        if_none o none (subst (λ (fs : List (RowKey × Row)). All (IsEntry (table_of first)) fs
+        of_none o none (subst (λ (fs : List (RowKey × Row)). All (IsEntry (table_of first)) fs
         → IfNone o (Spares (table_of first) (λ key. All (λ e. key ≢ e.0) fs) b c)) shown here page_rows)
 
     pub page_keeps : SparesKinds a b → SparesKinds a c
@@ -181,7 +182,7 @@ module _ (first now : Rows) (same : now ≡ first) (a b c : Notes) (k : Kind) (f
   page_breaks are fresh o t told breaks =
       let here = subst (λ (m : Rows). AreTrue (table_of m) b → CanBeVisited (table_of m) b es
       → IfSome o (Breaks (table_of m))) same breaks in
-      if_some (Breaks (table_of first)) o t told
+      of_some (Breaks (table_of first)) o t told
       (here are (subst (CanBeVisited (table_of first) b) (sym shown) (page_can first k from count page is b fresh)))
 
 module _ (first now : Rows) (same : now ≡ first) (a b c : Notes) (ks : List Kind) (i : ℕ) (below : i < length ks)
@@ -194,7 +195,7 @@ module _ (first now : Rows) (same : now ≡ first) (a b c : Notes) (ks : List Ki
       (kept : IfNone o (Spares (table_of now) (λ key. key.0 ≢ get_or ks i d) b c)) where
     kind_spares : Spares (table_of first) (λ key. key.0 ≢ get_or ks i d) b c
     kind_spares =
-        if_none o none
+        of_none o none
         (subst (λ (m : Rows). IfNone o (Spares (table_of m) (λ key. key.0 ≢ get_or ks i d) b c)) same kept)
 
     pub kind_stays_true : (AreTrue (table_of first) a → AreTrue (table_of first) b) → AreTrue (table_of first) a
@@ -211,4 +212,4 @@ module _ (first now : Rows) (same : now ≡ first) (a b c : Notes) (ks : List Ki
   kind_breaks are fresh o t told breaks =
       let here = subst (λ (m : Rows). AreTrue (table_of m) b → IsFreshKind b (get_or ks i d)
       → IfSome o (Breaks (table_of m))) same breaks in
-      if_some (Breaks (table_of first)) o t told (here are (fresh i d (omega arith) below))
+      of_some (Breaks (table_of first)) o t told (here are (fresh i d (omega arith) below))

@@ -11,6 +11,7 @@ use Rattle.broker_types.specs.Identifier.{id}
 use Rattle.broker_types.specs.IdentifierPlaces.{lease_identifier}
 use Rattle.broker_types.specs.Sound.{IsIdentifier, IsLeaseId}
 use Rattle.broker_types.specs.declared.fault.Fault.{Fault}
+use Rattle.broker_types.specs.OptionLaws.{if_none_weaker}
 use Rattle.records.specs.declared.kind.Kind.{Kind}
 use Rattle.records.specs.declared.row.Row.{Row}
 use Rattle.records.specs.Kind.{RowKey}
@@ -28,7 +29,6 @@ use Rattle.soundness.specs.SoundRows.{Places}
 use Rattle.soundness.specs.Visiting.{Finds, noted}
 use Rattle.soundness.proofs.TextLemmas.{lease_id_of}
 use Rattle.soundness.proofs.TextWhole.{lease_parts}
-use Rattle.soundness.proofs.WalkLemmas.{if_none_weaker}
 
 -- ---- what stops the noting of a row is a rule that it breaks
 
@@ -233,7 +233,3 @@ module _ (first now : Rows) (same : now ≡ first) (k : Kind) (q : Text) (row : 
       (subst (λ (m : Rows). BreaksAt (table_of m) r k q row) same
       (breaks (subst (λ (m : Rows). AreNotedOrigins (table_of m) (noted n.origins)) (sym same) are.origins)
       fresh_here.origins))
-
--- what an answer tells of a rule
-pub if_some : {B : Type 0} (P : B → Type 0) (o : Option B) (b : B) → o ≡ Some b → IfSome o P → P b
-if_some P o b is told = subst (λ x. IfSome x P) is told

@@ -1,19 +1,18 @@
 -- A walk over the rows of a kind by pages.
 use Rattle.std.specs.Prelude.{◌≡◌, ◌<◌, ◌-◌, ◌&&◌, ◌++◌, [], ◌∷◌, ℕ, List, take, drop, length, slice_get, min, nat_eq}
-use Rattle.std.specs.Prelude.{Bool, true, false, not, cond, T, Some, None, All, Contains}
-use Rattle.std.specs.declared.cmp.Ordering.{Ordering}
-use Rattle.std.specs.declared.cmp.Ordering.TheVariants.{Less, Equal, Greater}
+use Rattle.std.specs.Prelude.{Bool, true, false, cond, T, Some, None, All, Contains}
 use Rattle.std.specs.Cmp.{eq_by_cmp_equiv, nat_cmp_total}
 use Rattle.std.specs.FinMap.{get, entries, find, is_sorted, entries_sorted}
 use Rattle.std.specs.FinMap.Entries.{is_sorted-where_key}
 use Rattle.std.specs.List.{starts_with}
-use Rattle.std.specs.Ordering.{is_eq, is_ge, is_le, ordering_then}
+use Rattle.std.specs.Ordering.{is_ge, is_le, ordering_then}
 use Rattle.std.proofs.Common.{refl, sym, ◌∙◌, ap, subst, arith}
-use Rattle.std.proofs.lemmas.Bool.{and_parts, false≢true}
+use Rattle.std.proofs.lemmas.Bool.{and_parts, false≢true, not-false}
 use Rattle.std.proofs.lemmas.List.{take-append-drop, take_all, length-take}
 use Rattle.std.proofs.lemmas.List.Elements.{All-contains, All-contains_itself, Contains-append_left}
 use Rattle.std.proofs.lemmas.List.Elements.{Contains-append_right}
 use Rattle.broker_types.specs.Text.{Text, text_cmp}
+use Rattle.broker_types.specs.TestLaws.{is_equal, T_true}
 use Rattle.records.specs.declared.kind.Kind.{Kind}
 use Rattle.records.specs.declared.row.Row.{Row}
 use Rattle.records.specs.EntryLaws.{Contains-filter, kept_cases, passing_whole, found_in, in_found}
@@ -27,23 +26,10 @@ use Rattle.soundness.specs.SoundRows.{Places}
 use Rattle.soundness.specs.Visiting.{Grows, IsPassed, ArePassed}
 use Rattle.soundness.proofs.VisitLemmas.{still_passed}
 
-pub turned : (b : Bool) → not b ≡ false → b ≡ true
-turned true h = refl
-turned false h = absurd (false≢true (sym h))
-
-tied : (o : Ordering) → is_eq o ≡ true → o ≡ Equal
-tied Less h = absurd (false≢true h)
-tied Equal h = refl
-tied Greater h = absurd (false≢true h)
-
-pub T_true : (b : Bool) → T b → b ≡ true
-T_true true t = refl
-T_true false t = absurd t
-
 -- keys of one kind are in the order of their texts
 pub one_kind : (k : Kind) (q t : Text) → key_cmp (k, q) (k, t) ≡ text_cmp q t
 one_kind k q t =
-    ap (λ o. ordering_then o (text_cmp q t)) (tied _ ((eq_by_cmp_equiv nat_cmp_total).refl (kind_number k)))
+    ap (λ o. ordering_then o (text_cmp q t)) (is_equal _ ((eq_by_cmp_equiv nat_cmp_total).refl (kind_number k)))
 
 -- the last of a list is in it
 last_in : (e : RowKey × Row) (es : List (RowKey × Row)) → Contains (e ∷ es) (last_of key_cmp key_cmp_total e es)
@@ -115,7 +101,7 @@ module _ (rows : Rows) (k : Kind) (from : Text) (count : ℕ) (page : List (RowK
         let key : last.0 ≡ (k, last.0.1) = λ i. (last_kind i, last.0.1) in
         let upto : is_le (key_cmp (k, q) last.0) ≡ true =
         ap (λ x. is_le (key_cmp (k, q) x)) key ∙ ap is_le (one_kind k q last.0.1)
-        ∙ turned _ (sym (just_above q last.0.1) ∙ low) in
+        ∙ not-false _ (sym (just_above q last.0.1) ∙ low) in
         let sorted : is_sorted key_cmp (first ∷ others ++ drop count listed) ≡ true =
         ap (is_sorted key_cmp) whole ∙ T_true _ listed_sorted in
         let all : find key_cmp (k, q) (first ∷ others ++ drop count listed) ≡ Some row =

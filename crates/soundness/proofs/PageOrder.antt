@@ -1,6 +1,6 @@
 -- The order of the rows on a page: each is there once, and none is above the last.
 use Rattle.std.specs.Prelude.{◌≡◌, ◌≢◌, ◌<◌, ◌-◌, ◌++◌, ◌∷◌, [], ℕ, zero, suc, List, Contains, Bool, true}
-use Rattle.std.specs.Prelude.{false, not, cond, T, length, take, drop, slice_get, Option, Some, None}
+use Rattle.std.specs.Prelude.{false, not, cond, length, take, drop, slice_get, Option, Some, None}
 use Rattle.std.specs.declared.cmp.Ordering.{Ordering}
 use Rattle.std.specs.declared.cmp.Ordering.TheVariants.{Less, Equal, Greater}
 use Rattle.std.specs.Cmp.{tied_itself}
@@ -9,11 +9,13 @@ use Rattle.std.specs.FinMap.{get, find, is_sorted}
 use Rattle.std.specs.FinMap.Entries.{below_all}
 use Rattle.std.specs.Ordering.{is_ge, is_gt, is_le, is_lt, ordering_reverse}
 use Rattle.std.proofs.Common.{refl, sym, ◌∙◌, ap, subst, get_or, arith}
-use Rattle.std.proofs.lemmas.Bool.{and_parts, false≢true}
+use Rattle.std.proofs.lemmas.Bool.{and_parts, false≢true, not-true}
 use Rattle.std.proofs.lemmas.Cmp.{upto}
 use Rattle.std.proofs.lemmas.List.Elements.{All-contains, Contains-append_left}
 use Rattle.std.proofs.lemmas.Option.{get_or_from_slice_get, none-some, same_Some}
+use Rattle.std.proofs.lemmas.Float.{T_from_true}
 use Rattle.broker_types.specs.Text.{Text, text_cmp}
+use Rattle.broker_types.specs.TestLaws.{T_true}
 use Rattle.records.specs.declared.kind.Kind.{Kind}
 use Rattle.records.specs.declared.row.Row.{Row}
 use Rattle.records.specs.EntryLaws.{in_found, kept_cases, passing_each}
@@ -22,7 +24,7 @@ use Rattle.records.specs.KeyLaws.{key_cmp_total, same_kind}
 use Rattle.records.specs.PageLaws.{just_above, last_of, last_got, page_finds, first_sorted}
 use Rattle.records.specs.Transaction.{Rows, rows_under, rows_from}
 use Rattle.soundness.specs.Notes.{AreApart}
-use Rattle.soundness.proofs.PageLemmas.{T_true, is_from, is_under, listed, listed_sorted, one_kind, split}
+use Rattle.soundness.proofs.PageLemmas.{is_from, is_under, listed, listed_sorted, one_kind, split}
 
 -- ---- entries in the order of their keys
 
@@ -45,10 +47,6 @@ sorted_apart (x ∷ xs) rest h zero (suc j) d e before below =
 sorted_apart (x ∷ xs) rest h (suc i) (suc j) d e before below =
     sorted_apart xs rest (and_parts _ _ h).1 i j d e (omega (arith, before)) (omega (arith, below))
 
-true_T : (b : Bool) → b ≡ true → T b
-true_T true h = tt
-true_T false h = absurd (false≢true h)
-
 -- ---- texts in order
 
 turned_ge : (o : Ordering) → is_gt o ≡ false → is_ge (ordering_reverse o) ≡ true
@@ -66,10 +64,6 @@ turned_le Less h = refl
 turned_le Equal h = refl
 turned_le Greater h = absurd (false≢true (sym h))
 
-not_false : (b : Bool) → not b ≡ true → b ≡ false
-not_false true h = absurd (false≢true h)
-not_false false h = refl
-
 -- what is above the key of a page's row is above what the page begins with
 above : (from last q : Text) → is_ge (text_cmp last from) ≡ true → is_ge (text_cmp q (last ++ 0 ∷ [])) ≡ true
     → is_ge (text_cmp q from) ≡ true
@@ -79,7 +73,7 @@ above from last q later at =
     turned_gt (text_cmp from last) (ap is_ge (sym (total.antisymm last from)) ∙ later) in
     let high : is_gt (text_cmp last q) ≡ false =
     turned_le (text_cmp last q)
-    (ap is_le (sym (total.antisymm q last)) ∙ not_false (is_le (text_cmp q last)) (sym (just_above q last) ∙ at)) in
+    (ap is_le (sym (total.antisymm q last)) ∙ not-true (is_le (text_cmp q last)) (sym (just_above q last) ∙ at)) in
     ap is_ge (total.antisymm q from) ∙ turned_ge (text_cmp from q) (upto total from last q low high)
 
 -- ---- pages
@@ -138,7 +132,7 @@ module _ (rows : Rows) (k : Kind) (from : Text) (count : ℕ) (page : List (RowK
         ap (λ es. is_sorted key_cmp (es ++ more)) (sym b.1.1) ∙ page_sorted in
         let found : find key_cmp e.0 (b.0 ∷ b.1.0) ≡ Some e.1 =
         in_found key_cmp key_cmp_total (b.0 ∷ b.1.0)
-        (true_T _ (first_sorted key_cmp key_cmp_total (b.0 ∷ b.1.0) more whole)) e
+        (T_from_true _ (first_sorted key_cmp key_cmp_total (b.0 ∷ b.1.0) more whole)) e
         (subst (λ es. Contains es e) b.1.1 has) in
         let low : is_le (key_cmp e.0 last.0) ≡ true =
         upto_last (is_le (key_cmp e.0 last.0)) (find key_cmp e.0 (b.0 ∷ b.1.0 ++ more)) e.1

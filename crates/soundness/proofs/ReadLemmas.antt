@@ -1,6 +1,6 @@
 -- Rows that a reader does not read are in no format of their kind, and what tests answer.
 use Rattle.std.specs.Prelude.{◌≡◌, Bool, true, false, Option, Some, None, is_some, Result, Ok, Err, MatchResult, ⊤}
-use Rattle.std.specs.Prelude.{ℕ, ◌<◌, ◌≤◌, is_none, is_err}
+use Rattle.std.specs.Prelude.{ℕ, ◌<◌, ◌≤◌, is_err}
 use Rattle.std.proofs.Common.{refl, sym, ◌∙◌, ap, subst, arith}
 use Rattle.std.proofs.lemmas.Bool.{false≢true}
 use Rattle.broker_types.specs.Text.{Text, same}
@@ -92,11 +92,6 @@ fails b is whole p = false≢true (sym is ∙ whole p)
 -- texts that are one are the same
 pub same_of : (a b : Text) → a ≡ b → same a b ≡ true
 same_of a b is = ap (λ x. same x b) is ∙ same_self b
-
--- what is none
-pub is_none_of : {X : Type 0} (o : Option X) → is_none o ≡ true → o ≡ None
-is_none_of None h = refl
-is_none_of (Some x) h = absurd (false≢true h)
 
 -- what is an error
 pub is_error : {X E : Type 0} (r : Result X E) → is_err r ≡ true → (e : E) × (r ≡ Err e)

@@ -6,11 +6,6 @@ use Rattle.records.specs.Calls.{IsReading}
 use Rattle.records.specs.CallLaws.{goes_further, honest_before}
 use Rattle.records.specs.Transaction.{Seen, IsHonest, GoesOn}
 
--- one that answered, whatever it answered
-pub read_one : {A B : Type 0} {a b : Seen} {F : Fault → Type 0} {x : A} {y : B} → IsReading a b (Ok x) F
-    → IsReading a b (Ok y) F
-read_one read = record { same = read.same; faults = tt; goes_on = read.goes_on }
-
 -- two that answered
 pub read_both : {A B C : Type 0} {a b c : Seen} {F : Fault → Type 0} {x : A} {y : B} {z : C} → IsReading a b (Ok x) F
     → IsReading b c (Ok y) F → IsReading a c (Ok z) F

@@ -9,7 +9,7 @@ use Rattle.std.specs.Ordering.{nat_cmp, is_eq}
 use Rattle.std.proofs.Common.{refl, sym, ◌∙◌, ap, subst, inl, inr, get_or, arith, append_assoc, below_more}
 use Rattle.std.proofs.Math.ListN.{get_or-append}
 use Rattle.std.proofs.lemmas.Bool.{false≢true}
-use Rattle.std.proofs.lemmas.List.{append-nil}
+use Rattle.std.proofs.lemmas.List.{append-nil, get_or_default}
 use Rattle.std.proofs.lemmas.List.Elements.{All-contains, Contains-append_left, Contains-push}
 use Rattle.std.proofs.lemmas.Map.Views.{tells_apart}
 use Rattle.broker_types.specs.Text.{Text}
@@ -91,10 +91,6 @@ module _ (old new : BTreeSet ℕ) (word : ℕ)
         ];
       }
 
-pub adds_nothing : (words : BTreeSet ℕ) (queue : List Text) → OnlyAdds words words queue queue
-adds_nothing words queue =
-    record { words = λ q has. has; at_end = ([], sym (append-nil queue)); queued = λ queued. queued }
-
 pub adds_further : (a b c : BTreeSet ℕ) (p q r : List Text) → OnlyAdds a b p q → OnlyAdds b c q r → OnlyAdds a c p r
 adds_further a b c p q r ab bc =
     record {
@@ -125,12 +121,6 @@ AreDone rows words queue next =
     (k : ℕ) (d : Text) → k < next → (t : Text) (row : Row) → rows kind.Token t ≡ Some row
     → row.owner ≡ get_or queue k d → HasWordOf words t
 
--- an element of a list, whatever is said to be past its end
-pub same_at : {X : Type 0} (xs : List X) (k : ℕ) (d e : X) → k < length xs → get_or xs k d ≡ get_or xs k e
-same_at [] k d e h = absurd (omega (arith, h))
-same_at (x ∷ xs) zero d e h = refl
-same_at (x ∷ xs) (suc k) d e h = same_at xs k d e (omega (arith, h))
-
 -- a child is listed
 child_listed : (rows : Rows) (t owner : Text) (row : Row) → table_of rows kind.Token t ≡ Some row → row.owner ≡ owner
     → Contains (rows_owned rows kind.Token owner) ((kind.Token, t), row)
@@ -154,7 +144,7 @@ module _ (rows : Rows) (old new : BTreeSet ℕ) (queue longer : List Text) (next
       (λ d t row here of.
       All-contains (λ (e : RowKey × Row). HasWordOf new e.0.1) (rows_owned rows kind.Token owner)
       ((kind.Token, t), row) all
-      (child_listed rows t owner row here (of ∙ stays next d below ∙ same_at queue next d owner below ∙ at)))
+      (child_listed rows t owner row here (of ∙ stays next d below ∙ get_or_default queue next d owner below ∙ at)))
       k upto d
 
 -- ---- the end of the walk

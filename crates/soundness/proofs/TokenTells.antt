@@ -23,22 +23,13 @@ use Rattle.records.specs.Splits.{slash}
 use Rattle.records.specs.Table.{Table, table_of}
 use Rattle.records.specs.Transaction.{Rows}
 use Rattle.cubbyhole.specs.ObjectLaws.{key_parts, token_whole}
-use Rattle.token_tree.specs.AccessorLaws.{names_of_row}
-use Rattle.token_tree.specs.Accessors.{names_token}
 use Rattle.soundness.specs.RowRules.{Named, Owned, Held}
 use Rattle.soundness.specs.SoundRows.{AreSound}
 use Rattle.soundness.proofs.ReadBack as read
 use Rattle.soundness.proofs.TokenFacts.{both_ways, token_is, token_here, token_long, same_entry, same_waiting}
 use Rattle.soundness.proofs.TokenFacts.{same_held}
 use Rattle.soundness.proofs.TokenFacts.{held_by, holder_has, entry_row_at}
-
--- the row of an accessor says what it names
-not_both : (t u : Text) → accessor_row t holder.Token ≡ accessor_row u holder.WrappingToken → ⊥
-not_both t u e =
-    false≢true
-    (sym (names_of_row (accessor_row u holder.WrappingToken) holder.WrappingToken refl)
-    ∙ ap names_token (sym e)
-    ∙ names_of_row (accessor_row t holder.Token) holder.Token refl)
+use Rattle.soundness.proofs.BrokenLemmas.{not_both}
 
 module _ (rows : Rows) (s : AreSound (table_of rows)) where
   abbrev at : Table

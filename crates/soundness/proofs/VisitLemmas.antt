@@ -1,17 +1,12 @@
 -- What a walk over rows knows of the rows that it has passed.
-use Rattle.std.specs.Prelude.{◌≢◌, ◌&&◌, [], List, nat_eq, None, All}
-use Rattle.std.specs.List.{starts_with}
-use Rattle.std.proofs.lemmas.List.Elements.{All-weaker, All-contains}
-use Rattle.std.proofs.Common.{ap}
+use Rattle.std.specs.Prelude.{◌≢◌, [], List, None, All}
+use Rattle.std.proofs.lemmas.List.Elements.{All-weaker}
 use Rattle.broker_types.specs.Text.{Text}
 use Rattle.records.specs.declared.kind.Kind.{Kind}
 use Rattle.records.specs.declared.kind.Kind.TheVariants as kind
 use Rattle.records.specs.declared.row.Row.{Row}
-use Rattle.records.specs.EntryLaws.{passing_whole}
-use Rattle.records.specs.Kind.{RowKey, kind_number, is_of_kind}
-use Rattle.records.specs.SplitLaws.{eqb_self}
-use Rattle.records.specs.Table.{Table, table_of}
-use Rattle.records.specs.Transaction.{Rows, rows_under}
+use Rattle.records.specs.Kind.{RowKey}
+use Rattle.records.specs.Table.{Table}
 use Rattle.soundness.specs.SoundRows.{Places, IsHad, HasItsIdentifier, AreSound}
 use Rattle.soundness.specs.Visiting.{Grows, HasItsOrigin, IsPassed, ArePassed}
 
@@ -55,15 +50,6 @@ pub grows_further : (a b c : Places) → Grows a b → Grows b c → Grows a c
 grows_further a b c ab bc = λ word key is. bc word key (ab word key is)
 
 -- ---- rows of a kind
-
--- a walk over the rows of a kind has passed each
-pub kind_passed : (rows : Rows) (k : Kind) (identifiers origins : Places)
-    → All (IsPassed (table_of rows) identifiers origins) (rows_under rows k [])
-    → ArePassed (table_of rows) identifiers origins k
-kind_passed rows k identifiers origins all q row is =
-    All-contains (IsPassed (table_of rows) identifiers origins) (rows_under rows k []) ((k, q), row) all
-    (passing_whole rows (λ e. is_of_kind k e.0 && starts_with nat_eq e.0.1 []) (k, q) row is
-    (ap (λ v. v && starts_with nat_eq q []) (eqb_self (kind_number k))))
 
 pub kind_still_passed : (rows : Table) (i j o p : Places) → Grows i j → Grows o p → (k : Kind) → ArePassed rows i o k
     → ArePassed rows j p k

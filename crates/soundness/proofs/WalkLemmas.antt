@@ -1,10 +1,10 @@
 -- Steps of a walk over rows, and of its notes.
-use Rattle.std.specs.Prelude.{◌≡◌, ◌≢◌, ◌<◌, ◌+◌, ◌∷◌, [], ℕ, List, All, take, length, Option, Some, None, IfNone}
+use Rattle.std.specs.Prelude.{◌≡◌, ◌≢◌, ◌<◌, ◌+◌, ◌∷◌, [], ℕ, List, All, take, length, Option, None, IfNone}
 use Rattle.std.specs.BTreeSet.{BTreeSet}
 use Rattle.std.proofs.Common.{refl, sym, ◌∙◌, subst, get_or, lit<}
 use Rattle.std.proofs.lemmas.List.Elements.{All-more, All-weaker}
-use Rattle.std.proofs.lemmas.Option.{none-some}
 use Rattle.broker_types.specs.Text.{Text}
+use Rattle.broker_types.specs.OptionLaws.{of_none, if_none_weaker}
 use Rattle.records.specs.declared.kind.Kind.{Kind}
 use Rattle.records.specs.declared.kind.Kind.TheVariants as kind
 use Rattle.records.specs.declared.row.Row.{Row}
@@ -31,16 +31,6 @@ PassedBelow rows n k from = ArePassedBelow rows (noted n.identifiers) (noted n.o
 -- and all of a kind
 abbrev pub KindPassed : Table → Notes → Kind → Type 0
 KindPassed rows n k = ArePassed rows (noted n.identifiers) (noted n.origins) k
-
--- what an answer that is none tells
-pub if_none : {B P : Type 0} (o : Option B) → o ≡ None → IfNone o P → P
-if_none None is p = p
-if_none (Some x) is p = absurd (none-some x (sym is))
-
--- and what follows from what it tells
-pub if_none_weaker : {B P Q : Type 0} (o : Option B) → (P → Q) → IfNone o P → IfNone o Q
-if_none_weaker None f p = f p
-if_none_weaker (Some x) f p = tt
 
 -- ---- notes
 
@@ -96,7 +86,7 @@ module _ {B : Type 0} (first now : Rows) (same : now ≡ first) (a b c : Notes) 
       let here = subst (λ (m : Rows). EachEnds (table_of m) b.rooted
       → IfNone o (GoesOnFrom b c × Passed (table_of m) c e))
       same done in
-      let one = if_none o none (here (still_end (table_of first) a b so.0 ends)) in (
+      let one = of_none o none (here (still_end (table_of first) a b so.0 ends)) in (
         notes_further a b c so.0 one.0,
         All-more (Passed (table_of first) c) es i e below
             (all_still_passed (table_of first) (noted b.identifiers) (noted c.identifiers) (noted b.origins)
@@ -114,7 +104,7 @@ module _ {B : Type 0} (first now : Rows) (same : now ≡ first) (a b c : Notes) 
   page_more ends so done =
       let here = subst (λ (m : Rows). EachEnds (table_of m) b.rooted
       → IfNone o (GoesOnFrom b c × All (Passed (table_of m) c) page)) same done in
-      let one = if_none o none (here (still_end (table_of first) a b so.0 ends)) in (
+      let one = of_none o none (here (still_end (table_of first) a b so.0 ends)) in (
         notes_further a b c so.0 one.0,
         below_still first (noted b.identifiers) (noted c.identifiers) (noted b.origins) (noted c.origins)
             one.0.identifiers one.0.origins k from so.1,
@@ -132,7 +122,7 @@ module _ {B : Type 0} (first now : Rows) (same : now ≡ first) (a b c : Notes) 
   kind_more ends so done =
       let here = subst (λ (m : Rows). EachEnds (table_of m) b.rooted
       → IfNone o (GoesOnFrom b c × KindPassed (table_of m) c (get_or ks i d))) same done in
-      let one = if_none o none (here (still_end (table_of first) a b so.0 ends)) in (
+      let one = of_none o none (here (still_end (table_of first) a b so.0 ends)) in (
         notes_further a b c so.0 one.0,
         All-more (KindPassed (table_of first) c) ks i d below
             (All-weaker (KindPassed (table_of first) b) (KindPassed (table_of first) c)

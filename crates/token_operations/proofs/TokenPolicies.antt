@@ -1,6 +1,6 @@
 -- The policies of a new token are names, in order, and few.
 use Rattle.std.specs.Prelude.{◌≡◌, ◌≤◌, ◌<◌, ◌^◌, ◌+◌, ◌&&◌, ℕ, suc, List, [], ◌∷◌}
-use Rattle.std.specs.Prelude.{length, map, Bool, true, false, not, ◌||◌, T, codes}
+use Rattle.std.specs.Prelude.{length, map, Bool, true, false, not, ◌||◌, codes}
 use Rattle.std.specs.Prelude.{All, if◌then◌else◌}
 use Rattle.std.specs.FinMap.{len-entries, entries_sorted, is_sorted}
 use Rattle.std.specs.List.{list_all}
@@ -15,6 +15,7 @@ use Rattle.broker_types.specs.Name.{is_name}
 use Rattle.broker_types.specs.SearchLaws.{each_entry}
 use Rattle.broker_types.specs.Sound.{is_ascending}
 use Rattle.broker_types.specs.Token.{Token}
+use Rattle.broker_types.specs.TestLaws.{T_true}
 use Rattle.api_json.specs.declared.token_bodies.TokenCreation.{TokenCreation}
 use Rattle.records.specs.Children.{has, set_of, member}
 use Rattle.records.specs.EntryMapLaws.{each_listed, few_listed}
@@ -22,10 +23,6 @@ use Rattle.broker_model.specs.parts.TokenCreation.{default_name, have_root, poli
 use Rattle.broker_model.specs.parts.TokenCreation.{new_policies}
 
 -- ---- keys of maps
-
-is_true : (b : Bool) → T b → b ≡ true
-is_true true h = refl
-is_true false h = absurd h
 
 module _ {X : Type 0} where
   sorted_ascend : (es : List (Text × X)) → is_sorted text_cmp es ≡ true → is_ascending (map (λ e. e.0) es) ≡ true
@@ -38,7 +35,7 @@ module _ {X : Type 0} where
 
   -- the keys of a map ascend
   pub keys_ascend : (m : Map X) → is_ascending (keys m) ≡ true
-  keys_ascend m = sorted_ascend (entries m) (is_true _ (entries_sorted m))
+  keys_ascend m = sorted_ascend (entries m) (T_true _ (entries_sorted m))
 
 -- ---- sets of texts
 

@@ -18,8 +18,7 @@ use Rattle.records.specs.RangeLaws.{identifier_short, name_short}
 use Rattle.records.specs.Ranges.{IsTokenInRange}
 use Rattle.records.specs.RowReaders.{IsSomeIn, IsWide}
 use Rattle.records.specs.TokenEntry.{TokenEntry, token_entry}
-use Rattle.broker_model.specs.declared.making.Making.{Making}
-use Rattle.broker_model.specs.parts.TokenCreation.{new_token, new_policies, may_make, has_no_end, asked_ttl}
+use Rattle.broker_model.specs.parts.TokenCreation.{new_token, new_policies, has_no_end, asked_ttl}
 use Rattle.token_operations.specs.TokenEntries.{token_told, new_entry}
 use Rattle.token_operations.specs.TokenRanges.{IsInRange}
 use Rattle.token_operations.proofs.TokenPolicies.{ArePolicies, IsPolicyName, each_passes, new_policies_are}
@@ -30,10 +29,6 @@ use Rattle.token_operations.proofs.TokenSound.{ttl_short, end_near}
 pub same_policies : (privileged : Bool) (x : Token) (asked : TokenCreation)
     → new_policies privileged x asked ≡ new_policies privileged (token_told (token_entry x)) asked
 same_policies privileged x asked = refl
-
-pub same_leave : (privileged : Bool) (making : Making) (x : Token) (ps : List Text) (asked : TokenCreation)
-    → may_make privileged making x ps asked ≡ may_make privileged making (token_told (token_entry x)) ps asked
-same_leave privileged making x ps asked = refl
 
 -- the row of a new token, whose metadata is in order
 pub same_new : (now : ℕ) (parent : Option Text) (accessor : Text) (ps : List Text) (asked : TokenCreation)

@@ -1,12 +1,12 @@
 -- Renewals of tokens: from what the rows tell to what the commands answer.
-use Rattle.std.specs.Prelude.{◌≡◌, ◌≤◌, ◌+◌, ◌==◌, min, if◌then◌else◌, ℕ, Bool, true, false}
+use Rattle.std.specs.Prelude.{◌≡◌, ◌+◌, ◌==◌, min, if◌then◌else◌, ℕ, Bool, true, false}
 use Rattle.std.specs.Prelude.{Option, Some, None, is_some, option_map, Result, Ok, Err}
-use Rattle.std.proofs.Common.{refl, sym, ◌∙◌, ap, subst, arith}
+use Rattle.std.proofs.Common.{refl, sym, ◌∙◌, ap, subst}
 use Rattle.std.proofs.Math.Nat.{le_trans, min-le_left, min-le_right}
+use Rattle.token_operations.proofs.TokenSound.{end_near}
 use Rattle.broker_types.specs.Text.{Text}
 use Rattle.broker_types.specs.Limits.{longest_ttl}
 use Rattle.broker_types.specs.Map.{get}
-use Rattle.broker_types.specs.Moment.{greatest_moment}
 use Rattle.broker_types.specs.Token.{Token}
 use Rattle.broker_types.specs.Broker.{Broker}
 use Rattle.broker_types.specs.Names.{Names}
@@ -27,32 +27,19 @@ use Rattle.token_tree.specs.Tokens.{with_end}
 use Rattle.token_tree.specs.Tokens as tree
 use Rattle.broker_model.specs.parts.TokenCreation.{or_longest}
 use Rattle.broker_model.specs.parts.TokenReplies.{auth_reply}
-use Rattle.broker_model.specs.parts.Tokens.{renew_token, new_end, prolonged_end, periodic_end}
+use Rattle.broker_model.specs.parts.Tokens.{renew_token, new_end, prolonged_end}
 use Rattle.broker_rows.specs.Representing.{Represents}
 use Rattle.broker_rows.specs.declared.answered.Answered.TheVariants.{Given}
 use Rattle.broker_rows.specs.Operating.{ActsAs}
 
 -- ---- the new end
 
-near : (issued ttl : ℕ) → issued ≤ greatest_moment → ttl ≤ longest_ttl → IsEnd (issued + ttl)
-near issued ttl h g = omega arith
-
 -- the new end of what a row holds is no further ahead than ends are set
 pub prolonged_near : (now increment : ℕ) (x : TokenEntry) → IsTokenInRange x → IsEnd (prolonged_end now x increment)
 prolonged_near now increment x range =
     let longest = min longest_ttl (or_longest x.explicit_max_ttl) in
     le_trans (min-le_right (now + (if increment == 0 then x.ttl else increment)) (x.issued + longest))
-    (near x.issued longest range.issued (min-le_left longest_ttl (or_longest x.explicit_max_ttl)))
-
-pub periodic_near : (now : ℕ) (x : TokenEntry) → now ≤ greatest_moment → IsTokenInRange x → IsEnd (periodic_end now x)
-periodic_near now x within range = by (x.explicit_max_ttl == 0)
-  where
-    next : IsEnd (now + x.period)
-    next = near now x.period within range.period
-
-    by : (v : Bool) → IsEnd (if v then now + x.period else min (now + x.period) (x.issued + x.explicit_max_ttl))
-    by true = next
-    by false = le_trans (min-le_left (now + x.period) (x.issued + x.explicit_max_ttl)) next
+    (end_near x.issued longest range.issued (min-le_left longest_ttl (or_longest x.explicit_max_ttl)))
 
 -- ---- how a renewal ends
 

@@ -1,7 +1,7 @@
 -- What commands on tokens leave: a sound broker.
 use Rattle.std.specs.Prelude.{◌≡◌, ◌≢◌, ◌≤◌, ◌<◌, ◌^◌, ◌+◌, ◌==◌, ◌||◌, ◌&&◌, ℕ, min}
 use Rattle.std.specs.Prelude.{List, Bool, All, true, false, not, if◌then◌else◌}
-use Rattle.std.specs.Prelude.{Option, Some, None, is_none, Ok}
+use Rattle.std.specs.Prelude.{Option, Some, None, is_none}
 use Rattle.std.proofs.Common.{refl, sym, ◌∙◌, ap, subst, arith, lt_of_le_of_lt}
 use Rattle.std.proofs.Math.Nat.{le_trans, min-le_left, min-le_right}
 use Rattle.std.proofs.lemmas.Bool.{false≢true, and_parts}
@@ -16,35 +16,20 @@ use Rattle.broker_types.specs.OptionLaws.{is_nothing}
 use Rattle.broker_types.specs.Token.{Token}
 use Rattle.broker_types.specs.TokenText.{token_text}
 use Rattle.broker_types.specs.Broker.{Broker}
-use Rattle.broker_types.specs.Refuse.{some_or}
 use Rattle.broker_types.specs.Sound.{Forms, Sound, IsSoundToken, IsEnd, IsShortText}
 use Rattle.broker_types.specs.Used.{are_new}
 use Rattle.broker_types.specs.TextLaws.{same_self}
 use Rattle.broker_types.specs.UsedLaws.{first_new}
-use Rattle.broker_types.specs.declared.refusal.Denial.TheVariants as denial
-use Rattle.broker_types.specs.declared.refusal.Refusal.TheVariants as refusal
 use Rattle.api_json.specs.declared.token_bodies.TokenCreation.{TokenCreation}
 use Rattle.records.specs.EntryMapLaws.{each_listed, few_listed}
-use Rattle.records.specs.ValueLaws.{ok_inj}
 use Rattle.token_tree.specs.Tokens.{MayBeMade}
 use Rattle.broker_model.specs.Traits.{token_names}
 use Rattle.broker_model.specs.declared.making.Making.{Making}
 use Rattle.broker_model.specs.parts.TokenCreation.{makes_orphans}
 use Rattle.broker_model.specs.parts.TokenCreation.{new_token, new_parent, or_longest, asked_time}
 use Rattle.broker_model.specs.parts.TokenCreation.{asked_ttl, has_no_end, use_limit}
-use Rattle.broker_model.specs.parts.Tokens.{known}
 use Rattle.token_operations.specs.TokenRanges.{IsInRange, AreTokenNames}
 use Rattle.token_operations.proofs.TokenPolicies.{ArePolicies, IsPolicyName}
-
--- ---- the token of a caller
-
-pub known_is : (b : Broker) (t : Text) (x : Token) → known b t ≡ Ok x → get b.tokens t ≡ Some x
-known_is b t x e = by (get b.tokens t) refl e
-  where
-    by : (o : Option Token) → get b.tokens t ≡ o → some_or (refusal.Forbidden denial.BadToken) o ≡ Ok x
-        → get b.tokens t ≡ Some x
-    by None none e = absurd (cc)
-    by (Some y) some e = some ∙ ap Some (ok_inj e)
 
 -- ---- a new token is sound
 

@@ -24,8 +24,6 @@ use Rattle.records.specs.ListingLaws.{rows_under-listing}
 use Rattle.records.specs.Table.{table_of}
 use Rattle.records.specs.Transaction.{Rows, rows_under}
 
--- ---- lists of texts
-
 -- ---- the map
 
 abbrev unplaced : RowKey × Row → Text × Row

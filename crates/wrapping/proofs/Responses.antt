@@ -25,6 +25,7 @@ use Rattle.records.specs.Parts.{of_tokens, of_waiting, Tells, KeepsOthers}
 use Rattle.records.specs.RowForms.{waiting_row, accessor_row}
 use Rattle.records.specs.Rows.{rows_of, or_else}
 use Rattle.records.specs.Table.{Table}
+use Rattle.records.specs.PartLaws.{by_token_kind}
 use Rattle.wrapping.specs.ResponseLaws.{drop_unknown}
 use Rattle.wrapping.specs.WaitingRows.{RepresentsWaiting, with_response, without_response}
 use Rattle.wrapping.specs.Wrapping.{has_accessor, find_accessor, with_waiting}
@@ -298,11 +299,6 @@ dropped_keeps table t a _ q h = refl
 
 -- ---- accessors of tokens and of wrapping tokens
 
-token_kind : (P : Kind → Type 0) → P kind.Token → P kind.Accessor → (k : Kind) → of_tokens k ≡ true → P k
-token_kind P t a kind.Token h = t
-token_kind P t a kind.Accessor h = a
-token_kind P t a _ h = absurd (false≢true h)
-
 -- a change of tokens leaves the rows of waiting responses
 pub tokens_leave : (old new : Table) (b : Broker) (ts : Tokens) → Tells of_waiting old b
     → Tells of_tokens new (record b { tokens = ts }) → KeepsOthers of_tokens old new
@@ -318,5 +314,5 @@ pub waiting_leaves : (old new : Table) (b : Broker) (ws : Map Waiting) → Tells
     → Tells of_tokens new (record b { waiting = ws })
 unfolding rows_of
 waiting_leaves old new b ws was now keeps k q h =
-    token_kind (λ k. new k q ≡ rows_of (record b { waiting = ws }) k q)
+    by_token_kind (λ k. new k q ≡ rows_of (record b { waiting = ws }) k q)
     (keeps kind.Token q refl ∙ was kind.Token q refl) (now kind.Accessor q refl) k h

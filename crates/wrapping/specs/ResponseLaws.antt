@@ -2,7 +2,6 @@
 use Rattle.std.specs.Prelude.{◌≡◌, ◌≢◌, ◌⊎◌, ℕ, true, false, cond, Option, Some, None}
 use Rattle.std.specs.Option.{option_map_or}
 use Rattle.std.proofs.Common.{refl, sym, ◌∙◌, ap, subst, inl, inr}
-use Rattle.std.proofs.lemmas.Bool.{false_from_ne_true}
 use Rattle.broker_types.specs.Text.{Text, same}
 use Rattle.broker_types.specs.Map.{get, without, keep}
 use Rattle.broker_types.specs.Broker.{Broker, Waiting}
@@ -16,13 +15,9 @@ use Rattle.broker_types.specs.OptionLaws.{found_or_not}
 use Rattle.broker_types.specs.PutLaws.{put_is}
 use Rattle.broker_types.specs.SearchLaws.{kept_get}
 use Rattle.broker_types.specs.SpendingLaws.{drop_takes_out}
-use Rattle.broker_types.specs.TextLaws.{same_true}
+use Rattle.broker_types.specs.TextLaws.{same_true, same_false}
 use Rattle.wrapping.specs.Wrapping.{AddsNone, find_accessor, with_waiting, moved, rewrap, drop_accessor}
 use Rattle.wrapping.specs.Wrapping.{still_waits, without_ended}
-
--- texts that differ are not the same
-apart : (q t : Text) → q ≢ t → same q t ≡ false
-apart q t differ = false_from_ne_true (same q t) (λ e. differ (same_true q t e))
 
 -- ---- a response goes alone
 
@@ -30,7 +25,7 @@ module _ (b : Broker) (t : Text) where
   -- the others stay
   pub others_stay : (q : Text) → q ≢ t → get (drop_waiting b t).waiting q ≡ get b.waiting q
   others_stay q differ =
-      get-without b.waiting t q ∙ ap (λ v. cond v None (get b.waiting q)) (apart q t differ)
+      get-without b.waiting t q ∙ ap (λ v. cond v None (get b.waiting q)) (same_false q t differ)
 
   -- if it does not wait, nothing changes
   pub drop_unknown : get b.waiting t ≡ None → drop_waiting b t ≡ b
@@ -71,7 +66,7 @@ module _ (b : Broker) (t u a : Text) (now : ℕ) where
   gone_from : (w : Waiting) → u ≢ t → get (to w).waiting t ≡ None
   gone_from w differ =
       get-put (without b.waiting t) u (moved a now w) t
-      ∙ ap (λ v. cond v (Some (moved a now w)) (get (without b.waiting t) t)) (apart t u (λ e. differ (sym e)))
+      ∙ ap (λ v. cond v (Some (moved a now w)) (get (without b.waiting t) t)) (same_false t u (λ e. differ (sym e)))
       ∙ get-without_self b.waiting t
 
   -- and not under the old one
@@ -96,7 +91,7 @@ module _ (b : Broker) (t u a : Text) (now : ℕ) where
     | inr w ↦
         ap (λ (c : Broker). get c.waiting q) (rewrap_is w.0 w.1)
         ∙ get-put (without b.waiting t) u (moved a now w.0) q
-        ∙ ap (λ v. cond v (Some (moved a now w.0)) (get (without b.waiting t) q)) (apart q u onto)
+        ∙ ap (λ v. cond v (Some (moved a now w.0)) (get (without b.waiting t) q)) (same_false q u onto)
         ∙ others_stay b t q from
   ]
 

@@ -5,21 +5,15 @@ use Rattle.std.specs.Char.{to_ascii_lowercase}
 use Rattle.std.proofs.Math.Seq.{drop-cons}
 use Rattle.std.proofs.lemmas.Bool.Decides.{same_from_decides}
 use Rattle.std.proofs.lemmas.List.{map-append, map_more, take-append-drop, append-nil}
-use Rattle.std.proofs.lemmas.List.Elements.{filter-append}
 use Rattle.std.proofs.lemmas.Slice.Eq.{bytes_eq-Decides}
 use Rattle.httparse.specs.Spans.{header_bytes}
 use Rattle.httparse.specs.declared.spans.HeaderSpan.{HeaderSpan}
 use Rattle.http_layer.specs.HeadParts.{HeadField, values_named, is_named, same_in_any_case}
+use Rattle.http_layer.specs.HeadPartsLaws.{values_named-append}
 use Rattle.api_client.proofs.reply_head.first_length.Goals as goal
 
 abbrev none : HeaderSpan
 none = record { name = record { start = 0; end = 0 }; value = record { start = 0; end = 0 } }
-
-values_named-append : (name : List ℕ) (fields more : List HeadField)
-    → values_named name (fields ++ more) ≡ values_named name fields ++ values_named name more
-values_named-append name fields more =
-    ap (map (λ (f : HeadField). f.1)) (filter-append (is_named name) fields more)
-    ∙ map-append (λ (f : HeadField). f.1) (filter (is_named name) fields) (filter (is_named name) more)
 
 -- a field of another name adds no value
 other_name : (name : List ℕ) (fields : List HeadField) (f : HeadField) → is_named name f ≡ false

@@ -5,20 +5,14 @@ use Rattle.std.proofs.lemmas.Bool.{and_parts, ltb-true}
 use Rattle.std.proofs.lemmas.Bool.Decides.{nat_tests}
 use Rattle.std.proofs.lemmas.Fmt.{IsAscii-from_digits}
 use Rattle.std.proofs.lemmas.Str.{IsUtf8-from_ascii}
-use Rattle.std.specs.Char.{is_ascii_digit, digit_value}
+use Rattle.std.specs.Char.{is_ascii_digit}
 use Rattle.std.specs.List.{list_all}
 use Rattle.std.specs.Result.{IsOk}
-use Rattle.std.specs.Str.Parse.{AllDigits, IsNumeral, digits_value, without_leading_plus}
+use Rattle.std.specs.Str.Parse.{IsNumeral, digits_value, without_leading_plus}
+use Rattle.broker_types.specs.DecimalLaws.{all_digits}
 use Rattle.http_layer.specs.Front.{is_number}
 use Rattle.api_client.specs.Replies.{length_told, longest_reply_body}
 use Rattle.api_client.proofs.reply_head.length_of.Goals as goal
-
-digit_below : (c : ℕ) → is_ascii_digit c ≡ true → digit_value c < 10
-digit_below c digit = grind (arith, nat_tests)
-
-all_digits : (ds : List ℕ) → list_all is_ascii_digit ds ≡ true → AllDigits 10 ds
-all_digits [] h = tt
-all_digits (c ∷ cs) h = let p = and_parts _ _ h in (digit_below c p.0, all_digits cs p.1)
 
 not_plus : (ds : List ℕ) → list_all is_ascii_digit ds ≡ true → without_leading_plus ds ≡ ds
 not_plus [] h = refl

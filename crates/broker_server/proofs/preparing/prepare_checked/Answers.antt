@@ -3,13 +3,14 @@ use Rattle.std.proofs.lemmas.Result.{err_from_is_err_and}
 use Rattle.broker_rows.specs.ClockRow.{HasNoClock}
 use Rattle.broker_types.specs.declared.fault.Fault.{Fault}
 use Rattle.broker_types.specs.declared.fault.Fault.TheVariants.{BadStart}
+use Rattle.broker_types.specs.OptionLaws.{of_none, of_some}
 use Rattle.records_sql.specs.KeptRecords.{kept_records}
 use Rattle.database_check.specs.Findings.{OpenAsNone}
 use Rattle.broker_sql.specs.SqlKept.{sql_kept}
 use Rattle.hub.specs.declared.serve.ConnectionFault.TheVariants.{Broker, Read, Write}
 use Rattle.broker_server.specs.declared.serve_error.ServeError.{ServeError}
 use Rattle.broker_server.specs.declared.serve_error.ServeError.TheVariants.{Unsound, Faulted}
-use Rattle.broker_server.proofs.PreparedLemmas.{checked_broker, if_none, if_some, lacked_before, refused_before}
+use Rattle.broker_server.proofs.PreparedLemmas.{checked_broker, lacked_before, refused_before}
 use Rattle.broker_server.proofs.preparing.prepare_checked.Goals as goal
 
 abbrev error_of : {A : Type 0} → ServeError → Result A ServeError → ServeError
@@ -29,19 +30,19 @@ returns-in_ok-prepare-in-None-clause-sound g c honest =
     (kept_records g.S.Store c.defect_of.new.records)
     (sql_kept g.S.Store c.in_ok-prepare-in-None.field-0.0) c.in_ok-prepare-in-None.field-0.1
     c.in_ok-prepare-in-None.ensures.mismatches
-    (λ before. if_none c.in_ok-defect.field-0 c.in-None.is (c.in_ok-defect.ensures.sound before))
+    (λ before. of_none c.in_ok-defect.field-0 c.in-None.is (c.in_ok-defect.ensures.sound before))
     c.in_ok-defect.ensures.same
     c.in_ok-prepare-in-None.ensures.prepared honest).1
 
 pub returns-in-Some-clause-unsound : goal.returns-in-Some-clause-unsound
 returns-in-Some-clause-unsound g c always =
-    if_some (OpenAsNone (kept_records g.S.Store c.args.records).rows) c.in_ok-defect.field-0 c.in-Some.defect
+    of_some (OpenAsNone (kept_records g.S.Store c.args.records).rows) c.in_ok-defect.field-0 c.in-Some.defect
     c.in-Some.is (c.in_ok-defect.ensures.unsound
     (always (record { alloc = c.args.alloc; records = c.defect_of.new.records; aids = None })))
 
 pub returns-in-Some-clause-started : goal.returns-in-Some-clause-started
 returns-in-Some-clause-started g c always =
-    if_some (λ defect. ¬ HasNoClock (kept_records g.S.Store c.args.records).rows) c.in_ok-defect.field-0
+    of_some (λ defect. ¬ HasNoClock (kept_records g.S.Store c.args.records).rows) c.in_ok-defect.field-0
     c.in-Some.defect c.in-Some.is (c.in_ok-defect.ensures.started
     (always (record { alloc = c.args.alloc; records = c.defect_of.new.records; aids = None })))
 

@@ -1,7 +1,7 @@
+use Rattle.broker_types.specs.OptionLaws.{of_none, of_some}
 use Rattle.records.specs.CallLaws.{honest_before}
 use Rattle.records.specs.Transaction.{IsHonest}
 use Rattle.database_check.specs.Findings.{OpenAsNone}
-use Rattle.database_check.proofs.FindingLemmas.{none_found, some_found}
 use Rattle.database_check.proofs.checking.find.Goals as goal
 
 pub returns-in_ok-of-in-None-clause-sound : goal.returns-in_ok-of-in-None-clause-sound
@@ -9,10 +9,10 @@ returns-in_ok-of-in-None-clause-sound g c honest =
     let seen = g.T.RecordsTx.seen in
     let found : IsHonest (seen c.find_defect.new.tx) =
     honest_before (seen c.find_defect.new.tx) (seen c.of.new.tx) _ c.in_ok-of-in-None.ensures.call.goes_on honest in
-    let opens = none_found c.in_ok-find_defect.field-0 c.in-None.is (c.in_ok-find_defect.ensures.sound found) in
+    let opens = of_none c.in_ok-find_defect.field-0 c.in-None.is (c.in_ok-find_defect.ensures.sound found) in
     ((seen c.find_defect.new.tx).rows, opens.0, opens.1, c.in_ok-of-in-None.ensures.counted honest)
 
 pub returns-in-Some-clause-unsound : goal.returns-in-Some-clause-unsound
 returns-in-Some-clause-unsound g c honest =
-    some_found (OpenAsNone (g.T.RecordsTx.seen c.args.tx.now).rows) c.in_ok-find_defect.field-0
+    of_some (OpenAsNone (g.T.RecordsTx.seen c.args.tx.now).rows) c.in_ok-find_defect.field-0
     c.in-Some.defect c.in-Some.is (c.in_ok-find_defect.ensures.unsound honest)

@@ -1,4 +1,5 @@
 use Rattle.std.proofs.Common.{sym, subst}
+use Rattle.broker_types.specs.OptionLaws.{of_none, of_some}
 use Rattle.records.specs.CallLaws.{honest_before}
 use Rattle.records.specs.Transaction.{IsHonest, Rows}
 use Rattle.records.specs.Table.{table_of}
@@ -6,7 +7,7 @@ use Rattle.records.specs.Upgraded.{AreUpgraded}
 use Rattle.soundness.specs.Broken.{Breaks}
 use Rattle.soundness.specs.Laws.{AreOfABroker}
 use Rattle.database_check.specs.Naming.{TellsOf}
-use Rattle.database_check.proofs.FindingLemmas.{none_found, opens_as_none, some_found}
+use Rattle.database_check.proofs.FindingLemmas.{opens_as_none}
 use Rattle.database_check.proofs.checking.find_defect.Goals as goal
 
 pub returns-in-None-clause-sound : goal.returns-in-None-clause-sound
@@ -17,7 +18,7 @@ returns-in-None-clause-sound g c honest =
     subst (λ (rows : Rows). AreUpgraded (table_of (seen c.args.tx.now).rows) (table_of rows) × AreOfABroker rows)
     (sym (c.in_ok-check.ensures.call.same honest)) (
       c.in_ok-upgrade_keys.ensures.rows upgraded,
-      none_found c.in_ok-check.field-0 c.in-None.is (c.in_ok-check.ensures.sound honest),
+      of_none c.in_ok-check.field-0 c.in-None.is (c.in_ok-check.ensures.sound honest),
     )
 
 pub returns-in_ok-at-in-Some-clause-unsound : goal.returns-in_ok-at-in-Some-clause-unsound
@@ -28,7 +29,7 @@ returns-in_ok-at-in-Some-clause-unsound g c honest =
     honest_before (seen c.check.new.tx) (seen c.at.new.tx) _ c.in_ok-at-in-Some.ensures.call.goes_on honest in
     let upgraded : IsHonest (seen c.upgrade_keys.new.tx) =
     honest_before (seen c.upgrade_keys.new.tx) (seen c.check.new.tx) _ c.in_ok-check.ensures.call.goes_on checked in
-    let breaks = some_found (Breaks (table_of rows)) c.in_ok-check.field-0 c.in-Some.trouble c.in-Some.is
+    let breaks = of_some (Breaks (table_of rows)) c.in_ok-check.field-0 c.in-Some.trouble c.in-Some.is
     (c.in_ok-check.ensures.broken checked) in
     record {
       none = opens_as_none (seen c.args.tx.now).rows rows (c.in_ok-upgrade_keys.ensures.rows upgraded)

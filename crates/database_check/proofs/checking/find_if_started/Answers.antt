@@ -1,11 +1,11 @@
 use Rattle.std.proofs.Common.{inr, subst}
 use Rattle.std.specs.Prelude.{IfOk, IfNone, IfSome, ◌⊎◌}
 use Rattle.std.proofs.lemmas.Result.{IfOk-weaker}
+use Rattle.broker_types.specs.OptionLaws.{if_none_weaker}
 use Rattle.records.specs.CallLaws.{honest_before}
 use Rattle.records.specs.Transaction.{IsHonest, Rows}
 use Rattle.broker_rows.specs.ClockRow.{HasNoClock}
 use Rattle.database_check.specs.Findings.{OpenAsABroker, OpenAsNone}
-use Rattle.database_check.proofs.FindingLemmas.{if_none}
 use Rattle.database_check.proofs.checking.find_if_started.Goals as goal
 
 pub returns-clause-sound : goal.returns-clause-sound
@@ -16,7 +16,7 @@ returns-clause-sound g c honest =
     subst (λ (rows : Rows). IfOk c.find_defect.result (λ defect. IfNone defect (HasNoClock rows ⊎ OpenAsABroker rows)))
     (c.in_ok-get.ensures.call.same asked)
     (IfOk-weaker c.find_defect.result _ _
-    (λ defect. if_none defect (λ opens. inr ((seen c.find_defect.new.tx).rows, opens.0, opens.1)))
+    (λ defect. if_none_weaker defect (λ opens. inr ((seen c.find_defect.new.tx).rows, opens.0, opens.1)))
     (c.find_defect.ensures.sound honest))
 
 pub returns-clause-unsound : goal.returns-clause-unsound

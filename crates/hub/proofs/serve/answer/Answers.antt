@@ -1,8 +1,8 @@
 use Rattle.std.proofs.Common.{◌≡◌, ◌∙◌, Err, Ok, ap, refl}
 use Rattle.std.proofs.lemmas.Result.{err_from_is_err_and}
+use Rattle.std.proofs.KnownBytes.{Appends-trans}
 use Rattle.hub.specs.Representing.{hub_waiting}
 use Rattle.hub.specs.SuppliesLaws.{Supplies-append}
-use Rattle.hub.proofs.KnownLemmas.{Appends-append}
 use Rattle.hub.proofs.ServedLemmas.{serves_err, serves_ok, serves_on}
 use Rattle.hub.proofs.ServingLemmas.{joins_nothing, measure_falls}
 use Rattle.hub.proofs.serve.answer.Goals as goal
@@ -22,7 +22,7 @@ returns-in_err-more-2-clause-served g c =
     rw (p.1 ∙ ap Err p.2)
     (serves_err
     (serves_on c.loop-more.invariant.served c.in_err-more-2.ensures.served (joins_nothing c.args.piece.now _ refl)
-    (Appends-append (g.W.Sink.written c.args.writer.now) (g.W.Sink.written c.loop-more.writer)
+    (Appends-trans (g.W.Sink.written c.args.writer.now) (g.W.Sink.written c.loop-more.writer)
     (g.W.Sink.written c.answer_one-in-loop-more.new.writer))
     (Supplies-append g.C.Clock.may_tell c.args.clock.now c.loop-more.clock c.answer_one-in-loop-more.new.clock
     g.D.WordSource.may_give
@@ -40,7 +40,7 @@ loop-more-smaller g c =
 pub loop-more-preserved : goal.loop-more-preserved
 loop-more-preserved g c = record {
   served = serves_on c.loop-more.invariant.served c.in_ok-more-2.ensures.served (joins_nothing c.args.piece.now _ refl)
-      (Appends-append (g.W.Sink.written c.args.writer.now) (g.W.Sink.written c.loop-more.writer)
+      (Appends-trans (g.W.Sink.written c.args.writer.now) (g.W.Sink.written c.loop-more.writer)
       (g.W.Sink.written c.answer_one-in-loop-more.new.writer))
       (Supplies-append g.C.Clock.may_tell c.args.clock.now c.loop-more.clock c.answer_one-in-loop-more.new.clock
       g.D.WordSource.may_give

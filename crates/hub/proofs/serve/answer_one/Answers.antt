@@ -5,11 +5,11 @@ use Rattle.std.proofs.lemmas.Bool.{false≢true}
 use Rattle.std.proofs.lemmas.Bool.Decides.{nat_tests}
 use Rattle.std.proofs.lemmas.List.{nil_from_length}
 use Rattle.std.proofs.lemmas.Result.{err_from_is_err_and}
+use Rattle.std.proofs.KnownBytes.{Appends-nil}
 use Rattle.hub.specs.Representing.{hub_connections}
 use Rattle.hub.specs.SuppliesLaws.{Supplies-one}
 use Rattle.hub.proofs.EndingLemmas.{answered_silent}
 use Rattle.hub.proofs.KeepsLemmas.{failed_now}
-use Rattle.hub.proofs.KnownLemmas.{Appends-nil}
 use Rattle.hub.proofs.ServedLemmas.{serves_feeding, serves_one, serves_writing}
 use Rattle.hub.proofs.ServingLemmas.{event_of}
 use Rattle.hub.proofs.WaitingLemmas.{standing_all, standing_each, waiting_falls}

@@ -2,10 +2,11 @@ use Rattle.std.proofs.Common.{◌≡◌, ◌∙◌, Err, ap, sym, subst, inl, re
 use Rattle.std.proofs.lemmas.Result.{err_from_is_err_and}
 use Rattle.std.proofs.lemmas.Bool.Decides.{nat_tests}
 use Rattle.std.specs.Io.KnownBytes.{Consumes}
+use Rattle.std.proofs.KnownBytes.{Appends-nil}
 use Rattle.hub.specs.SuppliesLaws.{Supplies-nil}
 use Rattle.hub.specs.declared.serve.ConnectionFault.TheVariants.{Read}
 use Rattle.hub.proofs.KeepsLemmas.{failed_now}
-use Rattle.hub.proofs.KnownLemmas.{Appends-nil, Consumes-kept}
+use Rattle.hub.proofs.KnownLemmas.{Consumes-kept}
 use Rattle.hub.proofs.ServedLemmas.{serves_closing, serves_err, serves_ok, serves_so}
 use Rattle.hub.proofs.ServingLemmas.{ended_at}
 use Rattle.hub.proofs.serve.serve_piece.Goals as goal

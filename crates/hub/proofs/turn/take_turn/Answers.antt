@@ -1,5 +1,6 @@
 use Rattle.std.proofs.Common.{◌≡◌, ◌∙◌, ℕ, inl, refl, sym, subst, arith}
 use Rattle.std.proofs.lemmas.Bool.{false≢true}
+use Rattle.std.proofs.KnownBytes.{Consumes-nil}
 use Rattle.hub.specs.Links.{number_of, unsent}
 use Rattle.hub.specs.Representing.{ConnectionsRepresent}
 use Rattle.hub.specs.ServedConnection.{HasEnded, IsAnswered}
@@ -7,7 +8,6 @@ use Rattle.hub.specs.SuppliesLaws.{Supplies-nil}
 use Rattle.hub.specs.declared.hub.Hub.{Hub}
 use Rattle.hub.specs.declared.serve.ConnectionFault.TheVariants.{Write}
 use Rattle.hub.specs.declared.turn.Turn.TheVariants.{NeedsRoom}
-use Rattle.hub.proofs.KnownLemmas.{Consumes-nil}
 use Rattle.hub.proofs.ServedLemmas.{serves_closing, serves_none}
 use Rattle.hub.proofs.ServingLemmas.{ended_at}
 use Rattle.hub.proofs.TakingLemmas.{passes_nothing, said_sending, turns_err, turns_ok, turns_so}

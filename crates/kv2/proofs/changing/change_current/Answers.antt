@@ -5,10 +5,10 @@ use Rattle.records.specs.KeyEntry.{KeyEntry}
 use Rattle.records.specs.SplitLaws.{eqb_self}
 use Rattle.records.specs.Table.{table_of}
 use Rattle.records.specs.Transaction.{Rows, IsHonest}
+use Rattle.records.specs.DigitLaws.{wide}
 use Rattle.kv2.specs.Changes.{change_of}
 use Rattle.kv2.specs.SecretRows.{KeepsOtherNames, HasVersion, current_of}
 use Rattle.kv2.specs.Versions.{is_among}
-use Rattle.kv2.proofs.Digits.{wide}
 use Rattle.kv2.proofs.Others.{changed_keeps}
 use Rattle.kv2.proofs.changing.change_current.Goals as goal
 

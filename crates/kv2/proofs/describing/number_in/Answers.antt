@@ -3,7 +3,7 @@ use Rattle.std.proofs.lemmas.Bool.{false≢true}
 use Rattle.std.proofs.lemmas.Option.{same_Some}
 use Rattle.std.proofs.lemmas.Slice.Eq.{bytes_eq-Decides}
 use Rattle.records.specs.Rows.{padded, version_key}
-use Rattle.kv2.proofs.Digits.{wide}
+use Rattle.records.specs.DigitLaws.{wide}
 use Rattle.kv2.proofs.NumberTexts.{key_is, digits_are}
 use Rattle.kv2.proofs.describing.number_in.Goals.{then-number-gt-GREATEST_VERSION-via-then-number-gt-GREATEST_VERSION}
 use Rattle.kv2.proofs.describing.number_in.Goals.{then-number-gt-GREATEST_VERSION-via-else-number-gt-GREATEST_VERSION+then-ne}

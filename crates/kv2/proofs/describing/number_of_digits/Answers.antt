@@ -1,14 +1,14 @@
 use Rattle.std.proofs.Common.{ap, sym, ◌∙◌, Some, is_ok}
 use Rattle.std.proofs.lemmas.Bool.{false≢true}
 use Rattle.records.specs.ValueLaws.{ok_inj}
-use Rattle.kv2.proofs.NumberTexts.{parsed}
+use Rattle.records.specs.DigitLaws.{padded_read}
 use Rattle.kv2.proofs.describing.number_of_digits.Goals as goal
 
 pub returns-in-Ok : goal.returns-in-Ok
 returns-in-Ok c n small is =
-    ap Some (ok_inj (sym c.in-Ok.is ∙ parsed c.args.digits.now n small is c.parse.result c.parse.ensures.value.0))
+    ap Some (ok_inj (sym c.in-Ok.is ∙ padded_read c.args.digits.now n small is c.parse.result c.parse.ensures.value.0))
 
 pub returns-in-Err : goal.returns-in-Err
 returns-in-Err c n small is =
     absurd (false≢true (ap is_ok
-    (sym c.in-Err.is ∙ parsed c.args.digits.now n small is c.parse.result c.parse.ensures.value.0)))
+    (sym c.in-Err.is ∙ padded_read c.args.digits.now n small is c.parse.result c.parse.ensures.value.0)))

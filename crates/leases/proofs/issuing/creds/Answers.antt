@@ -8,7 +8,7 @@ use Rattle.broker_types.specs.declared.refusal.Refusal.{Refusal}
 use Rattle.broker_types.specs.RequestError.{EndsOk}
 use Rattle.broker_types.specs.Text.{Text}
 use Rattle.broker_types.specs.Token.{Lease}
-use Rattle.records.specs.CallLaws.{honest_before, goes_further, fails_alike}
+use Rattle.records.specs.CallLaws.{honest_before, goes_further, fails_alike, read_fault}
 use Rattle.records.specs.Parts.{of_leases, Tells, KeepsOthers}
 use Rattle.records.specs.Table.{Table, table, table_of}
 use Rattle.records.specs.Transaction.{Rows, IsHonest, GoesOn}
@@ -16,7 +16,6 @@ use Rattle.leases.specs.LeaseRows.{RepresentsLeases, with_issued}
 use Rattle.leases.specs.Leases.{issue}
 use Rattle.leases.specs.RoleRows.{with_lease}
 use Rattle.leases.specs.Roles as roles
-use Rattle.leases.proofs.Faults.{read_fault}
 use Rattle.leases.proofs.issuing.creds.Goals as goal
 
 -- the lease that is answered, and its rows

@@ -9,7 +9,7 @@ use Rattle.broker_types.specs.declared.refusal.Refusal.TheVariants as refusal
 use Rattle.broker_types.specs.declared.refusal.Reason.TheVariants as reason
 use Rattle.records.specs.declared.kind.Kind.TheVariants as kind
 use Rattle.records.specs.declared.row.Row.{Row}
-use Rattle.records.specs.CallLaws.{honest_before, goes_further, fails_alike}
+use Rattle.records.specs.CallLaws.{honest_before, goes_further, fails_alike, read_fault}
 use Rattle.records.specs.Parts.{of_leases, Tells}
 use Rattle.records.specs.Ranges.{IsLeaseInRange}
 use Rattle.records.specs.RowForms.{lease_row}
@@ -20,7 +20,6 @@ use Rattle.records.specs.ValueLaws.{none_of, ok_inj}
 use Rattle.leases.specs.LeaseRows as rows
 use Rattle.leases.specs.LeaseRows.{Held, IsLeaseAt, IsReadableLease, KeepsOtherLeases}
 use Rattle.leases.specs.Leases.{Renewed, renewed, renewed_end, with_renewed}
-use Rattle.leases.proofs.Faults.{read_fault}
 use Rattle.leases.proofs.LeaseFound.{find_none, find_some, at_is, at_read}
 use Rattle.leases.proofs.LeaseMade.{changed_told, renewed_keeps}
 use Rattle.leases.proofs.renewing.renew.Goals as goal

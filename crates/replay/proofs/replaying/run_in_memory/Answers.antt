@@ -1,8 +1,8 @@
 use Rattle.std.proofs.Common.{Some, refl}
+use Rattle.std.proofs.KnownBytes.{Appends-nil}
 use Rattle.broker_sql.specs.HonestLaws.{always_honest}
 use Rattle.replay.specs.Replays.{told}
 use Rattle.replay.proofs.StoppedLemmas.{stopped_none}
-use Rattle.replay.proofs.WritingLemmas.{Appends-none}
 use Rattle.replay.proofs.replaying.run_in_memory.Goals as goal
 
 -- memory returns what was written
@@ -23,4 +23,4 @@ returns-in-Err-clause-stopped g c = stopped_none (Some (told c.args.script.now))
     (g.W.Sink.written c.args.writer.now) c.from.result
 
 pub returns-in-Err-clause-nothing : goal.returns-in-Err-clause-nothing
-returns-in-Err-clause-nothing g c = λ early. Appends-none (g.W.Sink.written c.args.writer.now)
+returns-in-Err-clause-nothing g c = λ early. Appends-nil (g.W.Sink.written c.args.writer.now)

@@ -1,11 +1,11 @@
 use Rattle.std.specs.Prelude.{⊤}
 use Rattle.std.proofs.Common.{Some, Err, slice_index, sym, ap, subst, inl, inr}
+use Rattle.std.proofs.KnownBytes.{Appends-nil}
 use Rattle.broker_types.specs.First.{first_broker}
 use Rattle.replay.specs.Exits.{EndsBy, HasEqualWords}
 use Rattle.replay.specs.Replays.{started, told}
 use Rattle.replay.proofs.ExitLemmas.{ends_by_start, ends_weaker, no_early_end}
 use Rattle.replay.proofs.StoppedLemmas.{stopped_from, stopped_none}
-use Rattle.replay.proofs.WritingLemmas.{Appends-none}
 use Rattle.replay.proofs.replaying.run_new.Goals as goal
 
 pub returns-in-Err-clause-stopped : goal.returns-in-Err-clause-stopped
@@ -55,7 +55,7 @@ returns-clause-stopped g c always =
 -- ---- faults before the first event
 
 pub returns-in-Err-clause-nothing : goal.returns-in-Err-clause-nothing
-returns-in-Err-clause-nothing g c = λ always early. Appends-none (g.W.Sink.written c.args.writer.now)
+returns-in-Err-clause-nothing g c = λ always early. Appends-nil (g.W.Sink.written c.args.writer.now)
 
 pub returns-clause-nothing : goal.returns-clause-nothing
 returns-clause-nothing g c = λ always early.

@@ -1,9 +1,10 @@
 use Rattle.std.proofs.Common.{ℕ, sym, subst, ap, ◌∙◌, get_or, below_more}
+use Rattle.std.proofs.lemmas.List.{get_or_default}
 use Rattle.records.specs.declared.row.Row.{Row}
 use Rattle.records.specs.Kind.{RowKey}
 use Rattle.soundness.specs.Chains.{HasWordOf}
 use Rattle.soundness.specs.SoundRows.{Ends}
-use Rattle.soundness.proofs.RootedLemmas.{adds_further, same_at}
+use Rattle.soundness.proofs.RootedLemmas.{adds_further}
 use Rattle.soundness.proofs.chains.add_each.Goals as goal
 
 pub loop-token-preserved : goal.loop-token-preserved
@@ -28,7 +29,7 @@ loop-token-preserved c =
           c.in_ok-add.ensures.added w small
           (key
           ∙ ap (λ (e : RowKey × Row). e.0.1)
-          (same_at c.args.tokens.now c.loop-token.token-index c.token-item.result d c.loop-token-test.true)
+          (get_or_default c.args.tokens.now c.loop-token.token-index c.token-item.result d c.loop-token-test.true)
           ∙ is)) k upto d;
       kept = adds_further c.args.words.now c.loop-token.words c.add.new.words c.args.queue.now.items
           c.loop-token.queue.items c.add.new.queue.items c.loop-token.invariant.kept c.in_ok-add.ensures.grows;

@@ -1,6 +1,7 @@
 use Rattle.std.proofs.Common.{rules, ◌<◌, ◌++◌, ◌∷◌, [], length, get_or, sym, ◌∙◌, subst, refl, arith, inl}
 use Rattle.std.specs.Prelude.{All, Contains}
 use Rattle.std.proofs.lemmas.List.Elements.{All-push, All-nil, Contains-push}
+use Rattle.std.proofs.lemmas.List.{get_or_default}
 use Rattle.broker_types.specs.Text.{Text}
 use Rattle.records.specs.declared.kind.Kind.TheVariants as kind
 use Rattle.records.specs.declared.row.Row.{Row}
@@ -12,7 +13,7 @@ use Rattle.soundness.specs.Chains.{HasWordOf}
 use Rattle.soundness.specs.SoundRows.{Ends}
 use Rattle.soundness.specs.Visiting.{IsAbove}
 use Rattle.soundness.proofs.ChainLemmas.{children_end, none_ends}
-use Rattle.soundness.proofs.RootedLemmas.{each_found, none_queued, one_more_done, same_at, still_queued}
+use Rattle.soundness.proofs.RootedLemmas.{each_found, none_queued, one_more_done, still_queued}
 use Rattle.soundness.proofs.chains.rooted.Goals as goal
 
 pub loop-next-init : goal.loop-next-init
@@ -72,7 +73,7 @@ loop-next-preserved g c =
           let listed = c.deref.ensures.value ∙ c.in_ok-children.ensures.entries honest
           ∙ (λ i. rows_owned (c.loop-next.invariant.same before i) kind.Token (asked i)) in
           one_more_done rows c.loop-next.words c.add_each.new.words es c.add_each.new.queue.items c.loop-next.next owner
-          below (same_at es c.loop-next.next owner next below) c.in_ok-add_each.ensures.grows
+          below (get_or_default es c.loop-next.next owner next below) c.in_ok-add_each.ensures.grows
           (subst (All (λ (e : RowKey × Row). HasWordOf c.add_each.new.words e.0.1)) listed
           c.in_ok-add_each.ensures.added) (c.loop-next.invariant.done before);
       goes_on = search rules;

@@ -1,6 +1,6 @@
-use Rattle.soundness.proofs.WalkLemmas.{if_none}
 use Rattle.std.proofs.Common.{subst}
 use Rattle.broker_types.specs.Broker.{Waiting}
+use Rattle.broker_types.specs.OptionLaws.{of_none}
 use Rattle.records.specs.Table.{table_of}
 use Rattle.records.specs.declared.kind.Kind.TheVariants as kind
 use Rattle.soundness.specs.SoundRows.{IsHad}
@@ -11,7 +11,7 @@ pub returns-in-None-clause-had : goal.returns-in-None-clause-had
 returns-in-None-clause-had g c honest =
     let read = c.in-Ok.ensures.exact in
     let rows = table_of (g.T.RecordsTx.seen c.args.tx.now).rows in
-    let had = if_none c.in_ok-had.field-0 c.in-None.is (c.in_ok-had.ensures.had honest) in (
+    let had = of_none c.in_ok-had.field-0 c.in-None.is (c.in_ok-had.ensures.had honest) in (
       (
         c.in-Ok.waiting,
         (

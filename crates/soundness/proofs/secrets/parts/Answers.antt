@@ -2,8 +2,8 @@ use Rattle.std.proofs.Common.{◌≡◌, sym, ◌∙◌, arith}
 use Rattle.std.proofs.lemmas.Bool.{false≢true}
 use Rattle.std.proofs.lemmas.Slice.Eq.{bytes_eq-Decides}
 use Rattle.records.specs.Rows.{version_key}
+use Rattle.records.specs.DigitLaws.{padded_read}
 use Rattle.soundness.proofs.ReadLemmas.{ok_err}
-use Rattle.soundness.proofs.TextWhole.{digits_read}
 use Rattle.soundness.proofs.VersionLemmas.{no_version, version_halves, half_lacks}
 use Rattle.soundness.proofs.secrets.parts.Goals as goal
 
@@ -16,7 +16,7 @@ returns-in_default-parse-clause-whole c = λ name number k.
     let halves = version_halves c.args.key.now c.split_once.result c.split_once.ensures.cases
     (c.in-Some.name, c.in-Some.digits) c.in-Some.is name number k in
     ok_err c.parse.result number c.in_default-parse.field-0
-    (digits_read c.in-Some.digits.now number k.wide halves.1 c.parse.result c.parse.ensures.value.0)
+    (padded_read c.in-Some.digits.now number k.wide halves.1 c.parse.result c.parse.ensures.value.0)
     c.in_default-parse.is
 
 pub returns-then-eq-clause-sound : goal.returns-then-eq-clause-sound
@@ -32,7 +32,7 @@ pub returns-clause-whole : goal.returns-clause-whole
 returns-clause-whole c = λ name number k.
     let halves = version_halves c.args.key.now c.split_once.result c.split_once.ensures.cases
     (c.in-Some.name, c.in-Some.digits) c.in-Some.is name number k in
-    let read = digits_read c.in-Some.digits.now number k.wide halves.1 c.parse.result c.parse.ensures.value.0 in
+    let read = padded_read c.in-Some.digits.now number k.wide halves.1 c.parse.result c.parse.ensures.value.0 in
     let same : c.in-Ok.number ≡ number = let e = sym c.in-Ok.is ∙ read in cc in
     let printed = c.as_str.ensures.value ∙ c.in_ok-expected.ensures
     ∙ (λ i. version_key (halves.0 i) (same i)) ∙ sym k.is_key in

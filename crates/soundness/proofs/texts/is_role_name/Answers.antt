@@ -3,7 +3,8 @@ use Rattle.soundness.proofs.AnswerLemmas.{on_true}
 use Rattle.soundness.proofs.TextLemmas.{name_parts}
 use Rattle.broker_types.specs.Name.{is_name, is_mount_name}
 use Rattle.std.proofs.lemmas.Bool.{false≢true}
-use Rattle.soundness.proofs.TextWhole.{cut_somewhere, cut_there, mount_lacks, role_parts}
+use Rattle.records.specs.SecretNameLaws.{mount_no_slash}
+use Rattle.soundness.proofs.TextWhole.{cut_somewhere, cut_there, role_parts}
 use Rattle.soundness.proofs.texts.is_role_name.Goals as goal
 
 pub returns-clause-sound : goal.returns-clause-sound
@@ -18,17 +19,17 @@ returns-clause-sound c = on_true c.is_name.result (λ named. record {
 pub returns-in_default-clause-whole : goal.returns-in_default-clause-whole
 returns-in_default-clause-whole c = λ s.
     absurd (cut_somewhere c.args.text.now s.mount s.role c.cut.result c.in_default.is c.cut.ensures.exact
-    (mount_lacks s.mount s.mount_name) (role_parts c.args.text.now s))
+    (mount_no_slash s.mount s.mount_name) (role_parts c.args.text.now s))
 
 pub returns-then-not-is_mount_name-clause-whole : goal.returns-then-not-is_mount_name-clause-whole
 returns-then-not-is_mount_name-clause-whole c = λ s.
     let parts = cut_there c.args.text.now s.mount s.role c.cut.result (c.in-Some.mount, c.in-Some.role) c.in-Some.is
-    c.cut.ensures.exact (mount_lacks s.mount s.mount_name) (role_parts c.args.text.now s) in
+    c.cut.ensures.exact (mount_no_slash s.mount s.mount_name) (role_parts c.args.text.now s) in
     absurd (false≢true (sym c.if-not-is_mount_name.true ∙ c.is_mount_name.ensures ∙ ap is_mount_name (sym parts.0)
     ∙ s.mount_name))
 
 pub returns-clause-whole : goal.returns-clause-whole
 returns-clause-whole c = λ s.
     let parts = cut_there c.args.text.now s.mount s.role c.cut.result (c.in-Some.mount, c.in-Some.role) c.in-Some.is
-    c.cut.ensures.exact (mount_lacks s.mount s.mount_name) (role_parts c.args.text.now s) in
+    c.cut.ensures.exact (mount_no_slash s.mount s.mount_name) (role_parts c.args.text.now s) in
     c.is_name.ensures ∙ ap is_name (sym parts.1) ∙ s.role_name

@@ -4,7 +4,8 @@ use Rattle.std.proofs.lemmas.Bool.{false≢true}
 use Rattle.std.proofs.lemmas.Slice.Eq.{bytes_eq-Decides}
 use Rattle.uuid.specs.Text.{parsed}
 use Rattle.broker_types.specs.Identifier.{id}
-use Rattle.soundness.proofs.TextWhole.{reads_back, word_back}
+use Rattle.broker_types.specs.IdentifierLaws.{reads_back}
+use Rattle.soundness.proofs.TextWhole.{word_back}
 use Rattle.soundness.proofs.texts.word_of.Goals as goal
 
 pub returns-in_default-clause-whole : goal.returns-in_default-clause-whole

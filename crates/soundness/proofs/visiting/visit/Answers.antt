@@ -1,4 +1,5 @@
 use Rattle.std.proofs.Common.{refl, ◌∙◌}
+use Rattle.broker_types.specs.OptionLaws.{of_none, of_some}
 use Rattle.records.specs.CallLaws.{honest_before}
 use Rattle.records.specs.Table.{table_of}
 use Rattle.soundness.specs.declared.trouble.Rule.{Rule}
@@ -6,8 +7,8 @@ use Rattle.soundness.specs.declared.visiting.Notes.{Notes}
 use Rattle.soundness.specs.Broken.{BreaksAt, HasIdentifier, IsKeyOf}
 use Rattle.soundness.specs.Notes.{StopsNoting}
 use Rattle.soundness.specs.Visiting.{noted}
-use Rattle.soundness.proofs.NotingLemmas.{identifier_breaks, if_none_always, if_some, origin_breaks, row_spared}
-use Rattle.soundness.proofs.WalkLemmas.{if_none, row_passed}
+use Rattle.soundness.proofs.NotingLemmas.{identifier_breaks, if_none_always, origin_breaks, row_spared}
+use Rattle.soundness.proofs.WalkLemmas.{row_passed}
 use Rattle.soundness.proofs.visiting.visit.Goals as goal
 
 pub returns-clause-passed : goal.returns-clause-passed
@@ -27,9 +28,9 @@ returns-clause-passed g c honest ends =
     (c.in_ok-place.ensures.call.same two) c.args.notes.now after refl c.entry.inside.kind c.as_str-key.result.now
     c.entry.inside.row c.args.entry.now
     ((λ i. ((c.entry.inside.kind, c.as_str-key.ensures i), c.entry.inside.row)) ∙ c.entry.view_is)
-    (if_none c.in_ok-rule.field-0 c.in_default.is (c.in_ok-rule.ensures.sound one))
-    (if_none c.in_ok-place.field-0 c.in_default-2.is (c.in_ok-place.ensures.had two))
-    (if_none c.in_ok-origin.field-0 c.in_default-3.is (c.in_ok-origin.ensures.had honest))
+    (of_none c.in_ok-rule.field-0 c.in_default.is (c.in_ok-rule.ensures.sound one))
+    (of_none c.in_ok-place.field-0 c.in_default-2.is (c.in_ok-place.ensures.had two))
+    (of_none c.in_ok-origin.field-0 c.in_default-3.is (c.in_ok-origin.ensures.had honest))
     c.chain.result (c.chain.ensures.sound (table_of first) ends)
 
 pub returns-in-Some-2-clause-broken : goal.returns-in-Some-2-clause-broken
@@ -44,7 +45,7 @@ returns-in-Some-2-clause-broken g c honest are fresh =
     let row = c.entry.inside.row in
     identifier_breaks first now (c.in_ok-rule.ensures.call.same one) k q row c.args.entry.now
     ((λ i. ((k, c.as_str-key.ensures i), row)) ∙ c.entry.view_is) c.args.notes.now fresh are c.in-Some-2.place
-    (if_some
+    (of_some
     (StopsNoting (table_of now) (noted c.args.notes.now.identifiers) (IsKeyOf k q row.owner) (HasIdentifier k q))
     c.in_ok-place.field-0 c.in-Some-2.place c.in-Some-2.is (c.in_ok-place.ensures.broken honest row.owner))
 
@@ -63,7 +64,7 @@ returns-in-Some-3-clause-broken g c honest are fresh =
     origin_breaks first now (c.in_ok-place.ensures.call.same two ∙ c.in_ok-rule.ensures.call.same one) k q row
     c.args.entry.now ((λ i. ((k, c.as_str-key.ensures i), row)) ∙ c.entry.view_is) c.args.notes.now fresh are
     c.in-Some-3.origin
-    (λ origins not_noted. if_some (λ (r : Rule). BreaksAt (table_of now) r k q row) c.in_ok-origin.field-0
+    (λ origins not_noted. of_some (λ (r : Rule). BreaksAt (table_of now) r k q row) c.in_ok-origin.field-0
     c.in-Some-3.origin c.in-Some-3.is (c.in_ok-origin.ensures.broken honest origins not_noted))
 
 pub returns-clause-spares : goal.returns-clause-spares
@@ -78,5 +79,5 @@ returns-clause-spares g c honest here =
     (row_spared (table_of first) c.args.notes.now after refl c.entry.inside.kind c.as_str-key.result.now
     c.entry.inside.row c.args.entry.now
     ((λ i. ((c.entry.inside.kind, c.as_str-key.ensures i), c.entry.inside.row)) ∙ c.entry.view_is) here
-    (if_none c.in_ok-place.field-0 c.in_default-2.is c.in_ok-place.ensures.adds)
-    (if_none c.in_ok-origin.field-0 c.in_default-3.is c.in_ok-origin.ensures.adds))
+    (of_none c.in_ok-place.field-0 c.in_default-2.is c.in_ok-place.ensures.adds)
+    (of_none c.in_ok-origin.field-0 c.in_default-3.is c.in_ok-origin.ensures.adds))
