@@ -17,10 +17,10 @@ use Rattle.records.specs.Kind.{RowKey as Key, key_cmp}
 use Rattle.records.specs.Transaction.{rows_under, rows_from, rows_upto, rows_owned}
 use Rattle.records.specs.declared.row.Row.{Row as Fields}
 use Rattle.records.specs.KeyLaws.{key_cmp_total}
-use Rattle.records_sql.specs.Memory.{Memory, Agrees}
-use Rattle.records_sql.specs.SqlTable.{AgreesAt, Kept, stored, kept, due_value, broker_schema, IsStore, IsSoundAt}
-use Rattle.records_sql.specs.SqlTable.{IsActive, IsUsable, rows_of, entries_of, are_apart, due_in, Stays, read_row}
-use Rattle.records_sql.specs.SqlTable.{entry_in, whole_entry}
+use Rattle.records_sql.specs.Memory.{Agrees}
+use Rattle.records_sql.specs.SqlTable.{Kept, stored, kept, due_value, broker_schema, IsStore, IsSoundAt}
+use Rattle.records_sql.specs.SqlTable.{IsActive, IsUsable, rows_of, entries_of, are_apart, due_in, read_row}
+use Rattle.records_sql.specs.SqlTable.{entry_in, whole_entry, Read, Asked}
 use Rattle.records_sql.specs.Texts.{get_text, under_text, from_text, upto_text, owner_text, due_text, key_params}
 use Rattle.records_sql.specs.Texts.{under_params, from_params, upto_params, due_params}
 use Rattle.records_sql.specs.Bounds.{IsAbove, IsLater}
@@ -69,22 +69,13 @@ got q db es rows store is found =
 
 module _ (old new : State) (P : Trees → Type 0) (s : Survives old new P) (was : IsSoundAt old)
     (begun : IsActive old) where
-  -- what holds of a query
-  pub record Read (Q : Type 0) : Type 0 where
-    pub stays : Stays old new
-    pub active : IsActive new
-    pub rows : HasCleanDisk new → Q
-    pub was_clean : HasCleanDisk new → HasCleanDisk old
-    pub agrees : (memory : Memory) → AgreesAt memory old → AgreesAt memory new
-    pub same : HasCleanDisk new → rows_of new.now.trees ≡ rows_of old.now.trees
-
   usable_before : HasCleanDisk new → IsUsable old
   usable_before clean = let before : HasCleanDisk old = omega (arith, s.clean) in
       clean_usable old before (begun before).0
 
   pub reads : (sql : List ℕ) (params : Row) (rows : List Row) (Q : Type 0)
       → (HasCleanDisk new → Shown sql params old new rows) → IsPlain (understood broker_schema sql)
-      → (HasCleanDisk new → IsStore old.now → Q) → Read Q
+      → (HasCleanDisk new → IsStore old.now → Q) → Read old new Q
   reads sql params rows Q shown plain step = record {
     stays = record {
       mismatches = s.clean;
@@ -113,30 +104,30 @@ module _ (old new : State) (P : Trees → Type 0) (s : Survives old new P) (was 
           (subst (λ sc. IsPlain (understood sc sql)) (sym (was (usable_before clean)).0.schema) plain) (shown clean)
 
   pub get_reads : (q : Key) (rows : List Row) → (HasCleanDisk new → Shown get_text (key_params q) old new rows)
-      → Read (option_map read_row (slice_get rows 0) ≡ get (rows_of old.now.trees) q)
+      → Read old new (option_map read_row (slice_get rows 0) ≡ get (rows_of old.now.trees) q)
   get_reads q rows shown = reads get_text (key_params q) rows _ shown get_plain (λ clean store.
       let read = reads_as get_text (key_params q) old new broker_schema store.schema _ get_is get_plain get_unlisted
       rows (shown clean) in
       got q old.now (map kept (old.now.trees 0)) rows store refl
       (is_found at_key get_project [] (key_params q) old.now.trees rows read.answer))
 
-  pub under_reads : (q : Key) (bound : Option (List ℕ)) (rows : List Row) → IsAbove q.1 bound
+  pub under_reads : (q : Key) (bound : Option (List ℕ)) → IsAbove q.1 bound → (rows : List Row)
       → (HasCleanDisk new → Shown under_text (under_params q bound) old new rows)
-      → Read (filter (λ e. starts_with nat_eq e.0.1 q.1) (map (entry_in q.0) rows)
+      → Read old new (filter (λ e. starts_with nat_eq e.0.1 q.1) (map (entry_in q.0) rows)
       ≡ rows_under (rows_of old.now.trees) q.0 q.1)
-  under_reads q bound rows above shown = reads under_text (under_params q bound) rows _ shown under_plain
+  under_reads q bound above rows shown = reads under_text (under_params q bound) rows _ shown under_plain
       (λ clean store.
       let read = reads_as under_text (under_params q bound) old new broker_schema store.schema _ under_is under_plain
       under_unlisted rows (shown clean) in
       under_found q bound above (map kept (old.now.trees 0)) (old.now.trees 0) rows (sym store.shape) store.apart
       (is_found under_tests entry_project by_key (under_params q bound) old.now.trees rows read.answer))
 
-  pub from_reads : (q : Key) (from first : List ℕ) (bound : Option (List ℕ)) (count : ℕ) (rows : List Row)
-      → IsAbove q.1 bound → IsLater q.1 from first
+  pub from_reads : (q : Key) (from first : List ℕ) (bound : Option (List ℕ)) (count : ℕ)
+      → IsAbove q.1 bound → IsLater q.1 from first → (rows : List Row)
       → (HasCleanDisk new → Shown from_text (from_params (q.0, first) bound count) old new rows)
-      → Read (filter (λ e. starts_with nat_eq e.0.1 q.1) (map (entry_in q.0) rows)
+      → Read old new (filter (λ e. starts_with nat_eq e.0.1 q.1) (map (entry_in q.0) rows)
       ≡ take count (rows_from (rows_of old.now.trees) q.0 q.1 from))
-  from_reads q from first bound count rows above later shown =
+  from_reads q from first bound count above later rows shown =
       reads from_text (from_params (q.0, first) bound count) rows _ shown from_plain (λ clean store.
       let read = reads_as from_text (from_params (q.0, first) bound count) old new broker_schema store.schema _ from_is
       from_plain from_unlisted rows (shown clean) in
@@ -147,7 +138,7 @@ module _ (old new : State) (P : Trees → Type 0) (s : Survives old new P) (was 
 
   pub upto_reads : (q : Key) (last : List ℕ) (rows : List Row)
       → (HasCleanDisk new → Shown upto_text (upto_params q last) old new rows)
-      → Read (filter (λ e. starts_with nat_eq e.0.1 q.1) (map (entry_in q.0) rows)
+      → Read old new (filter (λ e. starts_with nat_eq e.0.1 q.1) (map (entry_in q.0) rows)
       ≡ rows_upto (rows_of old.now.trees) q.0 q.1 last)
   upto_reads q last rows shown = reads upto_text (upto_params q last) rows _ shown upto_plain (λ clean store.
       let read = reads_as upto_text (upto_params q last) old new broker_schema store.schema _ upto_is upto_plain
@@ -156,7 +147,7 @@ module _ (old new : State) (P : Trees → Type 0) (s : Survives old new P) (was 
       (is_found upto_tests entry_project by_key (upto_params q last) old.now.trees rows read.answer))
 
   pub owner_reads : (q : Key) (rows : List Row) → (HasCleanDisk new → Shown owner_text (key_params q) old new rows)
-      → Read (map (entry_in q.0) rows ≡ rows_owned (rows_of old.now.trees) q.0 q.1)
+      → Read old new (map (entry_in q.0) rows ≡ rows_owned (rows_of old.now.trees) q.0 q.1)
   owner_reads q rows shown = reads owner_text (key_params q) rows _ shown owner_plain (λ clean store.
       let read = reads_as owner_text (key_params q) old new broker_schema store.schema _ owner_is owner_plain
       owner_unlisted rows (shown clean) in
@@ -164,7 +155,7 @@ module _ (old new : State) (P : Trees → Type 0) (s : Survives old new P) (was 
       (is_found owner_tests entry_project by_key (key_params q) old.now.trees rows read.answer))
 
   pub due_reads : (moment : ℕ) (rows : List Row) → (HasCleanDisk new → Shown due_text (due_params moment) old new rows)
-      → Read (AreDue (rows_of old.now.trees) moment (map whole_entry rows))
+      → Read old new (AreDue (rows_of old.now.trees) moment (map whole_entry rows))
   due_reads moment rows shown = reads due_text (due_params moment) rows _ shown due_plain (λ clean store.
       let read = reads_as due_text (due_params moment) old new broker_schema store.schema _ due_is due_plain
       due_unlisted rows (shown clean) in
@@ -184,12 +175,8 @@ shown_open sql params old new rows h = go h.0.returning h.2
     go (Some what) s = (s.1.shown.was_open, s.1.shown.is_open)
 
 module _ (old new : State) (P : Trees → Type 0) (s : Survives old new P) (was : IsSoundAt old) where
-  -- what holds if it answered
-  pub record Asked : Type 0 where
-    pub stays : Stays old new
-    pub usable : HasCleanDisk new → IsUsable new
-
-  pub asks : (q : Key) (rows : List Row) → (HasCleanDisk new → Shown get_text (key_params q) old new rows) → Asked
+  pub asks : (q : Key) (rows : List Row) → (HasCleanDisk new → Shown get_text (key_params q) old new rows)
+      → Asked old new
   asks q rows shown = record {
     stays = record {
       mismatches = s.clean;

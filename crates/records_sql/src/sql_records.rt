@@ -1,13 +1,14 @@
 //! Rows in a table of a database.
 
-ghost use Rattle.std.specs.Prelude.{◌≡◌, ◌≤◌, ◌||◌, false, IsTrue, OnOk, OnErr, IfOk, IfErr, option_map, take};
+ghost use Rattle.std.specs.Prelude.{◌≡◌, ◌≤◌, ◌||◌, true, false, IsTrue, OnOk, OnErr, IfOk, IfErr, option_map, take};
 ghost use Rattle.std.specs.Option.{option_copied};
 ghost use Rattle.std.specs.FinMap as map;
 ghost use Rattle.sqlite.specs.Held.{state};
 ghost use Rattle.sqlite.specs.State.{HasCleanDisk};
 ghost use Rattle.broker_types.specs.Fault.{IsMemoryOrStorage};
 ghost use Rattle.records.specs.DueRows.{AreDue};
-ghost use Rattle.records.specs.Transaction.{is_storage, rows_under, rows_from, rows_upto, rows_owned};
+ghost use Rattle.records.specs.Transaction.{Rows, is_storage, rows_under, rows_from, rows_upto, rows_owned};
+ghost use Rattle.records_sql.specs.Memory.{Agrees};
 ghost use Rattle.records_sql.specs.Props.{state_props, AgreesAt-prop};
 ghost use Rattle.records_sql.specs.SqlTable.{IsSoundAt, IsActive, AgreesAt, IsUsable, HasEnded, Stays};
 ghost use Rattle.records_sql.specs.SqlTable.{rows_of, mismatches};
@@ -62,16 +63,10 @@ impl<S: Alter> SqlRecords<S> {
             return Ok(row);
         }
         let Ok(rows) = statements::get(&mut self.conn, kind, key) else {
-            self.is_active = false;
-            self.failed = true;
-            self.memory.clear();
-            return Err(Fault::Storage);
+            return Err(lost(&mut self.is_active, &mut self.failed, &mut self.memory));
         };
         let Ok(found) = first_row(&rows) else {
-            self.is_active = false;
-            self.failed = true;
-            self.memory.clear();
-            return Err(Fault::Storage);
+            return Err(lost(&mut self.is_active, &mut self.failed, &mut self.memory));
         };
         self.memory.keep(kind, key, found.as_ref());
         Ok(found)
@@ -94,12 +89,7 @@ impl<S: Alter> SqlRecords<S> {
                 self.memory.replace(kind, key, row);
                 Ok(())
             }
-            Err(_) => {
-                self.is_active = false;
-                self.failed = true;
-                self.memory.clear();
-                Err(Fault::Storage)
-            }
+            Err(_) => Err(lost(&mut self.is_active, &mut self.failed, &mut self.memory)),
         }
     }
 
@@ -120,14 +110,23 @@ impl<S: Alter> SqlRecords<S> {
                 self.memory.forget(kind, key);
                 Ok(())
             }
-            Err(_) => {
-                self.is_active = false;
-                self.failed = true;
-                self.memory.clear();
-                Err(Fault::Storage)
-            }
+            Err(_) => Err(lost(&mut self.is_active, &mut self.failed, &mut self.memory)),
         }
     }
+}
+
+/// Marks a transaction lost in which something failed: SQLite may have rolled it back, so nothing more is asked in it,
+/// and nothing is known of its rows. The fault is `Storage`.
+fn lost(is_active: &mut bool, failed: &mut bool, memory: &mut RowMemory) -> Fault
+    ensures inactive { is_active.new ≡ false }
+    ensures failing { failed.new ≡ true }
+    ensures forgets { (rows : Rows) → Agrees memory.new rows }
+    ensures faults { result ≡ Fault.Storage }
+{
+    *is_active = false;
+    *failed = true;
+    memory.clear();
+    Fault::Storage
 }
 
 /// The bytes of a bound.
@@ -156,20 +155,12 @@ impl<S: Alter> SqlRecords<S> {
         }
         let bound = bound_above(self.alloc, prefix)?;
         let Ok(rows) = statements::under(&mut self.conn, kind, prefix, lent(&bound)) else {
-            self.is_active = false;
-            self.failed = true;
-            self.memory.clear();
-            return Err(Fault::Storage);
+            return Err(lost(&mut self.is_active, &mut self.failed, &mut self.memory));
         };
         match entries_under(self.alloc, kind, prefix, &rows) {
             Ok(list) => Ok(list),
             Err(Fault::Memory) => Err(Fault::Memory),
-            Err(_) => {
-                self.is_active = false;
-                self.failed = true;
-                self.memory.clear();
-                Err(Fault::Storage)
-            }
+            Err(_) => Err(lost(&mut self.is_active, &mut self.failed, &mut self.memory)),
         }
     }
 
@@ -196,20 +187,12 @@ impl<S: Alter> SqlRecords<S> {
         let first = later(prefix, from);
         let Ok(rows) = statements::under_from(&mut self.conn, kind, first, lent(&bound), count)
         else {
-            self.is_active = false;
-            self.failed = true;
-            self.memory.clear();
-            return Err(Fault::Storage);
+            return Err(lost(&mut self.is_active, &mut self.failed, &mut self.memory));
         };
         match entries_under(self.alloc, kind, prefix, &rows) {
             Ok(list) => Ok(list),
             Err(Fault::Memory) => Err(Fault::Memory),
-            Err(_) => {
-                self.is_active = false;
-                self.failed = true;
-                self.memory.clear();
-                Err(Fault::Storage)
-            }
+            Err(_) => Err(lost(&mut self.is_active, &mut self.failed, &mut self.memory)),
         }
     }
 
@@ -232,20 +215,12 @@ impl<S: Alter> SqlRecords<S> {
             return Err(Fault::Storage);
         }
         let Ok(rows) = statements::under_upto(&mut self.conn, kind, prefix, last) else {
-            self.is_active = false;
-            self.failed = true;
-            self.memory.clear();
-            return Err(Fault::Storage);
+            return Err(lost(&mut self.is_active, &mut self.failed, &mut self.memory));
         };
         match entries_under(self.alloc, kind, prefix, &rows) {
             Ok(list) => Ok(list),
             Err(Fault::Memory) => Err(Fault::Memory),
-            Err(_) => {
-                self.is_active = false;
-                self.failed = true;
-                self.memory.clear();
-                Err(Fault::Storage)
-            }
+            Err(_) => Err(lost(&mut self.is_active, &mut self.failed, &mut self.memory)),
         }
     }
 
@@ -263,20 +238,12 @@ impl<S: Alter> SqlRecords<S> {
             return Err(Fault::Storage);
         }
         let Ok(rows) = statements::by_owner(&mut self.conn, kind, owner) else {
-            self.is_active = false;
-            self.failed = true;
-            self.memory.clear();
-            return Err(Fault::Storage);
+            return Err(lost(&mut self.is_active, &mut self.failed, &mut self.memory));
         };
         match entries_of(self.alloc, kind, &rows) {
             Ok(list) => Ok(list),
             Err(Fault::Memory) => Err(Fault::Memory),
-            Err(_) => {
-                self.is_active = false;
-                self.failed = true;
-                self.memory.clear();
-                Err(Fault::Storage)
-            }
+            Err(_) => Err(lost(&mut self.is_active, &mut self.failed, &mut self.memory)),
         }
     }
 
@@ -297,10 +264,7 @@ impl<S: Alter> SqlRecords<S> {
             return Ok(none);
         }
         let Ok(rows) = statements::due_until(&mut self.conn, moment) else {
-            self.is_active = false;
-            self.failed = true;
-            self.memory.clear();
-            return Err(Fault::Storage);
+            return Err(lost(&mut self.is_active, &mut self.failed, &mut self.memory));
         };
         match whole_entries(self.alloc, &rows) {
             Ok(list) => {
@@ -308,12 +272,7 @@ impl<S: Alter> SqlRecords<S> {
                 Ok(list)
             }
             Err(Fault::Memory) => Err(Fault::Memory),
-            Err(_) => {
-                self.is_active = false;
-                self.failed = true;
-                self.memory.clear();
-                Err(Fault::Storage)
-            }
+            Err(_) => Err(lost(&mut self.is_active, &mut self.failed, &mut self.memory)),
         }
     }
 }
@@ -349,14 +308,10 @@ impl<S: Alter> SqlRecords<S> {
     {
         self.roll_back();
         let Ok(_) = statements::begin(&mut self.conn) else {
-            self.failed = true;
-            self.memory.clear();
-            return Err(Fault::Storage);
+            return Err(lost(&mut self.is_active, &mut self.failed, &mut self.memory));
         };
         if self.conn.is_autocommit() {
-            self.failed = true;
-            self.memory.clear();
-            return Err(Fault::Storage);
+            return Err(lost(&mut self.is_active, &mut self.failed, &mut self.memory));
         }
         self.is_active = true;
         self.failed = false;
@@ -400,9 +355,7 @@ impl<S: Alter> SqlRecords<S> {
         }
         self.is_active = false;
         let Ok(_) = statements::commit(&mut self.conn) else {
-            self.failed = true;
-            self.memory.clear();
-            return Err(Fault::Storage);
+            return Err(lost(&mut self.is_active, &mut self.failed, &mut self.memory));
         };
         Ok(())
     }

@@ -1,18 +1,22 @@
-//! One function for each statement: what the database does is said of the text and the parameters, and not yet of
-//! rows.
+//! One function for each statement. Of those in a transaction it is said what they do to its rows; of the others, what
+//! the database does with the text and the parameters.
 
-ghost use Rattle.std.specs.Prelude.{◌≡◌, IfOk, IfErr, []};
+ghost use Rattle.std.specs.Prelude.{◌≡◌, ℕ, List, [], map, filter, nat_eq, slice_get, take, option_map};
+ghost use Rattle.std.specs.Prelude.{IfOk, IfErr, OnOk, OnErr};
+ghost use Rattle.std.specs.FinMap as finmap;
+ghost use Rattle.std.specs.List.{starts_with};
 ghost use Rattle.std.specs.Option.{option_copied};
 ghost use Rattle.sqlite_value.specs.Value.{owned};
-ghost use Rattle.records_sql.specs.Bounds.{bound_value};
 ghost use Rattle.sqlite.specs.State.{HasCleanDisk, Executes, Survives, CommitsBy, CommitsShowing, Shown, FailsToQuery};
 ghost use Rattle.sqlite.specs.Held.{state};
 ghost use Rattle.sqlite.specs.Values.{bound};
+ghost use Rattle.records.specs.DueRows.{AreDue};
 ghost use Rattle.records.specs.Kind.{kind_number};
-ghost use Rattle.records_sql.specs.Texts.{get_text, put_text, remove_text, under_text, owner_text, due_text};
-ghost use Rattle.records_sql.specs.Texts.{from_text, upto_text};
-ghost use Rattle.records_sql.specs.Texts.{numbers_text};
-ghost use Rattle.records_sql.specs.Texts.{begin_text, commit_text, rollback_text};
+ghost use Rattle.records.specs.Transaction.{rows_under, rows_from, rows_upto, rows_owned};
+ghost use Rattle.records_sql.specs.Bounds.{bound_value, IsAbove, IsLater};
+ghost use Rattle.records_sql.specs.SqlTable.{IsSoundAt, IsActive, Stays, Read, Changed, Asked, rows_of};
+ghost use Rattle.records_sql.specs.SqlTable.{read_row, entry_in, whole_entry};
+ghost use Rattle.records_sql.specs.Texts.{numbers_text, begin_text, commit_text, rollback_text};
 ghost use Rattle.records_sql.specs.Texts.{create_text, create_owner_text, create_due_text};
 ghost use Rattle.records_sql.specs.Texts.{key_params, put_params, under_params, due_params};
 ghost use Rattle.records_sql.specs.Texts.{from_params, upto_params};
@@ -40,14 +44,13 @@ pub(crate) fn get<S: Alter>(
     kind: Kind,
     key: &str,
 ) -> Result<Vec<SqlRow>, Error>
-    ensures ok { HasCleanDisk (state S.Store conn.new)
-        → IfOk result (λ rows. Shown get_text (key_params (kind, key.now)) (state S.Store conn.old)
-        (state S.Store conn.new) rows.items) }
-    ensures err { HasCleanDisk (state S.Store conn.new)
-        → IfErr result (FailsToQuery get_text (key_params (kind, key.now)) (state S.Store conn.old)
-        (state S.Store conn.new)) }
-    ensures survives { Survives (state S.Store conn.old) (state S.Store conn.new) (CommitsShowing get_text
-        (key_params (kind, key.now)) (state S.Store conn.old)) }
+    ensures reads { IsSoundAt (state S.Store conn.old) → IsActive (state S.Store conn.old) → IfOk result (λ rows.
+        Read (state S.Store conn.old) (state S.Store conn.new)
+        (option_map read_row (slice_get rows.items 0)
+        ≡ finmap.get (rows_of (state S.Store conn.old).now.trees) (kind, key.now))) }
+    ensures asked { IsSoundAt (state S.Store conn.old) → IfOk result (λ _.
+        Asked (state S.Store conn.old) (state S.Store conn.new)) }
+    ensures stays { OnErr result (Stays (state S.Store conn.old) (state S.Store conn.new)) }
 {
     conn.query_all(
         "SELECT owner, due, body FROM broker_rows WHERE kind = ?1 AND key = ?2",
@@ -80,14 +83,15 @@ pub(crate) fn put<S: Alter>(
     key: &str,
     row: &Row,
 ) -> Result<usize, Error>
-    ensures runs { HasCleanDisk (state S.Store conn.new)
-        → Executes put_text (put_params (kind, key.now) row.now) (state S.Store conn.old)
-        (state S.Store conn.new) result }
-    ensures survives { Survives (state S.Store conn.old) (state S.Store conn.new) (CommitsBy put_text (put_params
-        (kind, key.now) row.now) (state S.Store conn.old)) }
+    ensures changes { IsSoundAt (state S.Store conn.old) → IsActive (state S.Store conn.old) → OnOk result
+        (Changed (state S.Store conn.old) (state S.Store conn.new)
+        (rows_of (state S.Store conn.new).now.trees
+        ≡ finmap.insert (rows_of (state S.Store conn.old).now.trees) (kind, key.now) row.now)) }
+    ensures stays { OnErr result (Stays (state S.Store conn.old) (state S.Store conn.new)) }
 {
     conn.execute(
-        "INSERT INTO broker_rows (kind, key, owner, due, body) VALUES (?1, ?2, ?3, ?4, ?5) ON CONFLICT (kind, key) DO UPDATE SET owner = excluded.owner, due = excluded.due, body = excluded.body",
+        "INSERT INTO broker_rows (kind, key, owner, due, body) VALUES (?1, ?2, ?3, ?4, ?5) \
+         ON CONFLICT (kind, key) DO UPDATE SET owner = excluded.owner, due = excluded.due, body = excluded.body",
         &put_params(kind, key, row),
     )
 }
@@ -97,10 +101,11 @@ pub(crate) fn remove<S: Alter>(
     kind: Kind,
     key: &str,
 ) -> Result<usize, Error>
-    ensures runs { HasCleanDisk (state S.Store conn.new)
-        → Executes remove_text (key_params (kind, key.now)) (state S.Store conn.old) (state S.Store conn.new) result }
-    ensures survives { Survives (state S.Store conn.old) (state S.Store conn.new) (CommitsBy remove_text (key_params
-        (kind, key.now)) (state S.Store conn.old)) }
+    ensures changes { IsSoundAt (state S.Store conn.old) → IsActive (state S.Store conn.old) → OnOk result
+        (Changed (state S.Store conn.old) (state S.Store conn.new)
+        (rows_of (state S.Store conn.new).now.trees
+        ≡ finmap.remove (rows_of (state S.Store conn.old).now.trees) (kind, key.now))) }
+    ensures stays { OnErr result (Stays (state S.Store conn.old) (state S.Store conn.new)) }
 {
     conn.execute(
         "DELETE FROM broker_rows WHERE kind = ?1 AND key = ?2",
@@ -113,14 +118,10 @@ pub(crate) fn by_owner<S: Alter>(
     kind: Kind,
     owner: &str,
 ) -> Result<Vec<SqlRow>, Error>
-    ensures ok { HasCleanDisk (state S.Store conn.new)
-        → IfOk result (λ rows. Shown owner_text (key_params (kind, owner.now)) (state S.Store conn.old)
-        (state S.Store conn.new) rows.items) }
-    ensures err { HasCleanDisk (state S.Store conn.new)
-        → IfErr result (FailsToQuery owner_text (key_params (kind, owner.now)) (state S.Store conn.old)
-        (state S.Store conn.new)) }
-    ensures survives { Survives (state S.Store conn.old) (state S.Store conn.new) (CommitsShowing owner_text
-        (key_params (kind, owner.now)) (state S.Store conn.old)) }
+    ensures reads { IsSoundAt (state S.Store conn.old) → IsActive (state S.Store conn.old) → IfOk result (λ rows.
+        Read (state S.Store conn.old) (state S.Store conn.new)
+        (map (entry_in kind) rows.items ≡ rows_owned (rows_of (state S.Store conn.old).now.trees) kind owner.now)) }
+    ensures stays { OnErr result (Stays (state S.Store conn.old) (state S.Store conn.new)) }
 {
     conn.query_all(
         "SELECT key, owner, due, body FROM broker_rows WHERE kind = ?1 AND owner = ?2 ORDER BY key",
@@ -141,13 +142,10 @@ pub(crate) fn due_until<S: Alter>(
     conn: &mut Connection<S>,
     moment: Moment,
 ) -> Result<Vec<SqlRow>, Error>
-    ensures ok { HasCleanDisk (state S.Store conn.new)
-        → IfOk result (λ rows. Shown due_text (due_params moment) (state S.Store conn.old)
-        (state S.Store conn.new) rows.items) }
-    ensures err { HasCleanDisk (state S.Store conn.new)
-        → IfErr result (FailsToQuery due_text (due_params moment) (state S.Store conn.old) (state S.Store conn.new)) }
-    ensures survives { Survives (state S.Store conn.old) (state S.Store conn.new) (CommitsShowing due_text
-        (due_params moment) (state S.Store conn.old)) }
+    ensures reads { IsSoundAt (state S.Store conn.old) → IsActive (state S.Store conn.old) → IfOk result (λ rows.
+        Read (state S.Store conn.old) (state S.Store conn.new)
+        (AreDue (rows_of (state S.Store conn.old).now.trees) moment (map whole_entry rows.items))) }
+    ensures stays { OnErr result (Stays (state S.Store conn.old) (state S.Store conn.new)) }
 {
     conn.query_all(
         "SELECT kind, key, owner, due, body FROM broker_rows WHERE due >= 0 AND due <= ?1 ORDER BY due, kind, key",
@@ -199,14 +197,12 @@ pub(crate) fn under<S: Alter>(
     prefix: &str,
     bound: Option<&[u8]>,
 ) -> Result<Vec<SqlRow>, Error>
-    ensures ok { HasCleanDisk (state S.Store conn.new)
-        → IfOk result (λ rows. Shown under_text (under_params (kind, prefix.now) (option_copied bound.entry))
-        (state S.Store conn.old) (state S.Store conn.new) rows.items) }
-    ensures err { HasCleanDisk (state S.Store conn.new)
-        → IfErr result (FailsToQuery under_text (under_params (kind, prefix.now) (option_copied bound.entry))
-        (state S.Store conn.old) (state S.Store conn.new)) }
-    ensures survives { Survives (state S.Store conn.old) (state S.Store conn.new) (CommitsShowing under_text
-        (under_params (kind, prefix.now) (option_copied bound.entry)) (state S.Store conn.old)) }
+    ensures reads { IsAbove prefix.now (option_copied bound.entry) → IsSoundAt (state S.Store conn.old)
+        → IsActive (state S.Store conn.old) → IfOk result (λ rows.
+        Read (state S.Store conn.old) (state S.Store conn.new)
+        (filter (λ e. starts_with nat_eq e.0.1 prefix.now) (map (entry_in kind) rows.items)
+        ≡ rows_under (rows_of (state S.Store conn.old).now.trees) kind prefix.now)) }
+    ensures stays { OnErr result (Stays (state S.Store conn.old) (state S.Store conn.new)) }
 {
     conn.query_all(
         "SELECT key, owner, due, body FROM broker_rows WHERE kind = ?1 AND key >= ?2 AND key < ?3 ORDER BY key",
@@ -239,17 +235,17 @@ pub(crate) fn under_from<S: Alter>(
     bound: Option<&[u8]>,
     count: u32,
 ) -> Result<Vec<SqlRow>, Error>
-    ensures ok { HasCleanDisk (state S.Store conn.new)
-        → IfOk result (λ rows. Shown from_text (from_params (kind, from.now) (option_copied bound.entry) count)
-        (state S.Store conn.old) (state S.Store conn.new) rows.items) }
-    ensures err { HasCleanDisk (state S.Store conn.new)
-        → IfErr result (FailsToQuery from_text (from_params (kind, from.now) (option_copied bound.entry) count)
-        (state S.Store conn.old) (state S.Store conn.new)) }
-    ensures survives { Survives (state S.Store conn.old) (state S.Store conn.new) (CommitsShowing from_text
-        (from_params (kind, from.now) (option_copied bound.entry) count) (state S.Store conn.old)) }
+    ensures reads { (prefix least : List ℕ) → IsAbove prefix (option_copied bound.entry)
+        → IsLater prefix least from.now → IsSoundAt (state S.Store conn.old)
+        → IsActive (state S.Store conn.old) → IfOk result (λ rows.
+        Read (state S.Store conn.old) (state S.Store conn.new)
+        (filter (λ e. starts_with nat_eq e.0.1 prefix) (map (entry_in kind) rows.items)
+        ≡ take count (rows_from (rows_of (state S.Store conn.old).now.trees) kind prefix least))) }
+    ensures stays { OnErr result (Stays (state S.Store conn.old) (state S.Store conn.new)) }
 {
     conn.query_all(
-        "SELECT key, owner, due, body FROM broker_rows WHERE kind = ?1 AND key >= ?2 AND key < ?3 ORDER BY key LIMIT ?4",
+        "SELECT key, owner, due, body FROM broker_rows WHERE kind = ?1 AND key >= ?2 AND key < ?3 \
+         ORDER BY key LIMIT ?4",
         &from_params(kind, from, bound, count),
     )
 }
@@ -272,14 +268,12 @@ pub(crate) fn under_upto<S: Alter>(
     prefix: &str,
     last: &str,
 ) -> Result<Vec<SqlRow>, Error>
-    ensures ok { HasCleanDisk (state S.Store conn.new)
-        → IfOk result (λ rows. Shown upto_text (upto_params (kind, prefix.now) last.now) (state S.Store conn.old)
-        (state S.Store conn.new) rows.items) }
-    ensures err { HasCleanDisk (state S.Store conn.new)
-        → IfErr result (FailsToQuery upto_text (upto_params (kind, prefix.now) last.now) (state S.Store conn.old)
-        (state S.Store conn.new)) }
-    ensures survives { Survives (state S.Store conn.old) (state S.Store conn.new) (CommitsShowing upto_text
-        (upto_params (kind, prefix.now) last.now) (state S.Store conn.old)) }
+    ensures reads { IsSoundAt (state S.Store conn.old)
+        → IsActive (state S.Store conn.old) → IfOk result (λ rows.
+        Read (state S.Store conn.old) (state S.Store conn.new)
+        (filter (λ e. starts_with nat_eq e.0.1 prefix.now) (map (entry_in kind) rows.items)
+        ≡ rows_upto (rows_of (state S.Store conn.old).now.trees) kind prefix.now last.now)) }
+    ensures stays { OnErr result (Stays (state S.Store conn.old) (state S.Store conn.new)) }
 {
     conn.query_all(
         "SELECT key, owner, due, body FROM broker_rows WHERE kind = ?1 AND key >= ?2 AND key <= ?3 ORDER BY key",
@@ -321,7 +315,8 @@ pub(crate) fn create<S: Alter>(conn: &mut Connection<S>) -> Result<usize, Error>
         (state S.Store conn.old)) }
 {
     conn.execute(
-        "CREATE TABLE broker_rows (kind INTEGER NOT NULL, key TEXT NOT NULL, owner TEXT NOT NULL, due INTEGER, body BLOB NOT NULL, PRIMARY KEY (kind, key)) STRICT",
+        "CREATE TABLE broker_rows (kind INTEGER NOT NULL, key TEXT NOT NULL, owner TEXT NOT NULL, due INTEGER, \
+         body BLOB NOT NULL, PRIMARY KEY (kind, key)) STRICT",
         &[],
     )
 }

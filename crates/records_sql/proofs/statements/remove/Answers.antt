@@ -1,7 +1,11 @@
+use Rattle.records_sql.proofs.StateLemmas.{run_fails}
+use Rattle.records_sql.proofs.TxLemmas.{remove_changes}
 use Rattle.records_sql.proofs.statements.remove.Goals as goal
 
-pub returns-clause-runs : goal.returns-clause-runs
-returns-clause-runs g c = rw c.key_params.ensures at c.execute.ensures.runs
+pub returns-clause-changes : goal.returns-clause-changes
+returns-clause-changes g c sound active =
+    remove_changes _ _ _ c.execute.ensures.survives sound active (c.args.kind, c.args.key.now) c.execute.result
+    (rw c.key_params.ensures at c.execute.ensures.runs)
 
-pub returns-clause-survives : goal.returns-clause-survives
-returns-clause-survives g c = rw c.key_params.ensures at c.execute.ensures.survives
+pub returns-clause-stays : goal.returns-clause-stays
+returns-clause-stays g c = run_fails _ _ _ c.execute.ensures.survives _ _ c.execute.result c.execute.ensures.runs
