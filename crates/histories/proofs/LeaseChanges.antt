@@ -27,7 +27,7 @@ use Rattle.broker_types.specs.declared.refusal.Reason.TheVariants as reason
 use Rattle.records.specs.Parts.{Part}
 use Rattle.records.specs.ValueLaws.{ok_inj}
 use Rattle.records.specs.declared.kind.Kind.TheVariants as kind
-use Rattle.leases.specs.Roles.{Issued, first_ttl, is_last_use, longest, new_lease}
+use Rattle.leases.specs.Roles.{Issued, is_last_use, longest, new_lease}
 use Rattle.leases.specs.Leases as leases
 use Rattle.leases.specs.Roles as roles
 use Rattle.mounts.specs.Mounts.{disabled}

@@ -21,7 +21,6 @@ use Rattle.hub.specs.Steps.{IsStepOf, Step, answered, answers_of, closed, conn_o
 use Rattle.hub.specs.StepsLaws.{answers_each, fed_answers, fed_stopped, steps_none, steps_on, steps_proceeding}
 use Rattle.hub.specs.StepsLaws.{steps_stopping, stops_each}
 use Rattle.hub.specs.Turning.{Passes, TurnsLink}
-use Rattle.hub.specs.World.{Connections}
 use Rattle.hub.specs.declared.event.Event.{Event}
 use Rattle.hub.specs.declared.hub.Hub.{Hub}
 use Rattle.hub.specs.declared.link.Link.{Link}

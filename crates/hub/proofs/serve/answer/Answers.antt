@@ -1,4 +1,4 @@
-use Rattle.std.proofs.Common.{◌≡◌, ◌∙◌, Err, Ok, ap, refl}
+use Rattle.std.proofs.Common.{◌∙◌, Err, Ok, ap, refl}
 use Rattle.std.proofs.lemmas.Result.{err_from_is_err_and}
 use Rattle.std.proofs.KnownBytes.{Appends-trans}
 use Rattle.hub.specs.Representing.{hub_waiting}

@@ -1,4 +1,4 @@
-use Rattle.std.proofs.Common.{◌≡◌, ap, sym, ◌∙◌, subst, Err, Some, is_some, is_ok, rules}
+use Rattle.std.proofs.Common.{ap, sym, ◌∙◌, subst, Err, Some, is_some, is_ok, rules}
 use Rattle.std.proofs.lemmas.Bool.{false≢true}
 use Rattle.std.proofs.lemmas.Option.{same_Some}
 use Rattle.std.proofs.lemmas.Result.{err_from_is_err_and}
