@@ -10,7 +10,7 @@ use Rattle.broker_types.specs.Text.{Text}
 use Rattle.broker_types.specs.declared.ask.Verb.{Verb}
 use Rattle.policies.specs.declared.capability.Capability.{Capability}
 use Rattle.policies.specs.declared.pattern.Pattern.{Pattern}
-use Rattle.policies.specs.Words.{is_grant, is_deny}
+use Rattle.policies.specs.CapabilityWords.{is_grant, is_deny}
 use Rattle.policies.specs.Patterns.{same_pattern, tried}
 use Rattle.policies.specs.Rules.{Rule, Rules}
 use Rattle.policies.specs.Allows.{is_named, is_granted, allows}

@@ -23,7 +23,7 @@ use Rattle.policies.specs.Patterns.{same_pattern, tried}
 use Rattle.policies.specs.Policies.{is_root}
 use Rattle.policies.specs.PolicyTexts.{policy_of}
 use Rattle.policies.specs.Rules.{Rule}
-use Rattle.policies.specs.Words.{is_grant, is_deny}
+use Rattle.policies.specs.CapabilityWords.{is_grant, is_deny}
 
 any_flat : {X Y : Type 0} (p : Y → Bool) (f : X → List Y) (xs : List X)
     → list_any p (flat_map f xs) ≡ list_any (λ x. list_any p (f x)) xs

@@ -26,7 +26,7 @@ use Rattle.policies.specs.Policies.{is_root, set, deleted}
 use Rattle.policies.specs.PolicyRows.{ArePolicies}
 use Rattle.policies.specs.PolicyTexts.{is_policy, policy_forms}
 use Rattle.policies.specs.Rules.{Rules}
-use Rattle.policies.specs.Words.{is_grant, is_deny}
+use Rattle.policies.specs.CapabilityWords.{is_grant, is_deny}
 
 -- ---- what is granted
 

@@ -7,7 +7,7 @@ use Rattle.broker_types.specs.declared.ask.Verb.TheVariants as verb
 use Rattle.policies.specs.declared.allowing.Best.{Best}
 use Rattle.policies.specs.declared.capability.Capability.{Capability}
 use Rattle.policies.specs.declared.pattern.Pattern.{Pattern}
-use Rattle.policies.specs.Words.{is_grant, is_deny}
+use Rattle.policies.specs.CapabilityWords.{is_grant, is_deny}
 use Rattle.policies.specs.Patterns.{same_pattern, with_slash, tried}
 use Rattle.policies.specs.Rules.{Rule}
 

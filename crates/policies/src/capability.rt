@@ -1,7 +1,7 @@
 //! Capabilities, and the other words of policies.
 
 ghost use Rattle.std.specs.Prelude.{◌≡◌};
-ghost use Rattle.policies.specs.Words.{is_grant, is_deny};
+ghost use Rattle.policies.specs.CapabilityWords.{is_grant, is_deny};
 
 /// What a request asks for at a path (Vault's documentation, "Policies", capabilities).
 #[derive(Clone, Copy, Debug, PartialEq, Eq)]
