@@ -1,21 +1,14 @@
 -- What is sent for a command asks what the command means.
-use Rattle.std.proofs.Common.{◌≡◌, ◌&&◌, ◌==◌, ◌<◌, ℕ, Bool, true, false, cond, List, [], ◌∷◌, ◌++◌, length, drop, map}
-use Rattle.std.proofs.Common.{Option, Some, None, Ok, Err, codes, option_map, unwrap_or, refl, ap, ◌∙◌, subst, arith}
-use Rattle.std.specs.Option.{option_or}
-use Rattle.std.specs.Str.{is_utf8}
-use Rattle.std.proofs.lemmas.Bool.Decides.{nat_tests}
-use Rattle.std.proofs.lemmas.Str.{is_utf8-from_IsUtf8}
+use Rattle.std.proofs.Common.{◌≡◌, ◌&&◌, ◌==◌, ◌<◌, ◌∷◌, ◌++◌, ℕ, Bool, true, false, cond, List, [], length, drop, map}
+use Rattle.broker_types.specs.Words.{Option, Some, None, Ok, Err, codes, option_map, unwrap_or, refl, ap, ◌∙◌, subst}
+use Rattle.broker_types.specs.Words.{arith, option_or, is_utf8, nat_tests, is_utf8-from_IsUtf8, is_path, without_slash}
 use Rattle.httparse.specs.Grammar.{trim_ows}
 use Rattle.httparse.specs.Spans.{name_and_value}
 use Rattle.percent_encoding.specs.Percent.{percent_decode}
-use Rattle.broker_types.specs.Path.{is_path, without_slash}
 use Rattle.broker_types.specs.declared.refusal.Reason.TheVariants as reason
-use Rattle.http_layer.specs.Asked.{asked, bad_request, client_token, path_asked, path_read, token_asked, value_asked}
-use Rattle.http_layer.specs.Asked.{verb_asked, wrap_ttl_asked}
-use Rattle.http_layer.specs.Front.{IsFront, whole}
-use Rattle.http_layer.specs.HeadParts.{HeadField, parts_of, same_in_any_case}
-use Rattle.http_layer.specs.Laws.{PrintedLengthIsRead, PrintedRequestIsFront}
-use Rattle.http_layer.specs.Printed.{printed_head}
+use Rattle.http_layer.specs.Words.{asked, bad_request, client_token, path_asked, path_read, token_asked, value_asked}
+use Rattle.http_layer.specs.Words.{verb_asked, wrap_ttl_asked, IsFront, whole, HeadField, parts_of, same_in_any_case}
+use Rattle.http_layer.specs.Words.{PrintedLengthIsRead, PrintedRequestIsFront, printed_head}
 use Rattle.api_client.specs.Asking.{Asks, IsOptionalField, IsPathText, IsSendable, verb_of}
 use Rattle.api_client.specs.Commands.{is_field_text}
 use Rattle.api_client.specs.Requests.{body_of, method_of, path_of, sent}

@@ -1,11 +1,7 @@
 -- The bytes that a client escapes.
-use Rattle.std.proofs.Common.{◌≡◌, ◌≢◌, ℕ, ◌<◌, ◌≤◌, ◌==◌, ◌&&◌, not, Bool, true, false, List, [], ◌∷◌, refl, arith}
-use Rattle.std.proofs.Common.{inl, inr, if◌then◌else◌}
-use Rattle.std.specs.Char.{is_ascii}
-use Rattle.std.specs.List.{flat_map}
-use Rattle.std.proofs.lemmas.List.Concat.{flat_map-cons}
-use Rattle.std.proofs.lemmas.Bool.{agree_below, agree_below_at, cases_lt}
-use Rattle.std.proofs.lemmas.Bool.Decides.{eqb_tells, nat_tests}
+use Rattle.std.proofs.Common.{◌≡◌, ◌≢◌, ◌<◌, ◌≤◌, ◌==◌, ◌&&◌, ◌∷◌, if◌then◌else◌, ℕ, not, Bool, true, false, List, []}
+use Rattle.broker_types.specs.Words.{refl, arith, inl, inr, is_ascii, flat_map, flat_map-cons, agree_below}
+use Rattle.broker_types.specs.Words.{agree_below_at, cases_lt, eqb_tells, nat_tests}
 use Rattle.percent_encoding.specs.declared.ascii_set.AsciiSet.{AsciiSet}
 use Rattle.percent_encoding.specs.declared.ascii_set.TheConstants.{NON_ALPHANUMERIC}
 use Rattle.percent_encoding.specs.AsciiSet.{contains, should_percent_encode}

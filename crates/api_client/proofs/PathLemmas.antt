@@ -1,19 +1,14 @@
 -- Paths as they are sent in a target.
-use Rattle.std.proofs.Common.{◌≡◌, ◌≢◌, ℕ, suc, ◌+◌, ◌-◌, ◌*◌, ◌<◌, ◌≤◌, ◌&&◌, Bool, true, false, not, cond, List}
-use Rattle.std.proofs.Common.{[], ◌∷◌, ◌++◌, length, take, drop, All, refl, ap, ◌∙◌, subst, arith, length-append}
-use Rattle.std.proofs.Common.{nat_lt, nat_le}
-use Rattle.std.specs.List.{list_all, position_or_len}
-use Rattle.std.proofs.Math.ListN.{drop_of_length-le}
-use Rattle.std.proofs.lemmas.Bool.{and_parts, leb-true, ltb-true, false≢true}
-use Rattle.std.proofs.lemmas.Bool.Decides.{nat_tests}
-use Rattle.std.proofs.lemmas.List.{take_all}
-use Rattle.std.proofs.lemmas.List.Elements.{All-append, All-cons, All-head, All-nil, All-tail, All-weaker}
+use Rattle.std.proofs.Common.{◌≡◌, ◌≢◌, ◌+◌, ◌-◌, ◌*◌, ◌<◌, ◌≤◌, ◌&&◌, ◌∷◌, ◌++◌, ℕ, suc, Bool, true, false, not, cond}
+use Rattle.broker_types.specs.Words.{List, [], length, take, drop, All, refl, ap, ◌∙◌, subst, arith, length-append}
+use Rattle.broker_types.specs.Words.{nat_lt, nat_le, list_all, position_or_len, drop_of_length-le, and_parts, leb-true}
+use Rattle.broker_types.specs.Words.{ltb-true, false≢true, nat_tests, take_all, All-append, All-cons, All-head, All-nil}
+use Rattle.broker_types.specs.Words.{All-tail, All-weaker, is_path, is_path_byte, is_segment, segments, without_slash}
 use Rattle.percent_encoding.specs.Percent.{percent_decode, percent_encode_byte}
 use Rattle.percent_encoding.proofs.PercentLemmas.{All-percent_encode_byte, IsEscapeByte, percent_decode-nil}
 use Rattle.percent_encoding.proofs.PercentLemmas.{percent_decode_not_percent, percent_decode-percent_encode_byte}
-use Rattle.broker_types.specs.Path.{is_path, is_path_byte, is_segment, segments, without_slash}
 use Rattle.broker_types.specs.PathLaws.{slash_not_last}
-use Rattle.http_layer.specs.Query.{is_query_mark, target_path, target_query}
+use Rattle.http_layer.specs.Words.{is_query_mark, target_path, target_query}
 use Rattle.api_client.specs.Commands.{is_visible}
 use Rattle.api_client.specs.Escaping.{escaped, escaped_byte, is_plain}
 use Rattle.api_client.proofs.TextLemmas.{AreVisible}

@@ -1,28 +1,17 @@
 -- What is sent for a command is a request of the grammar of HTTP, with its body.
-use Rattle.std.proofs.Common.{◌≡◌, ℕ, ◌+◌, ◌*◌, ◌/◌, ◌%◌, nat_lt, ◌<◌, ◌≤◌, Bool, true, false, cond, List, [], ◌∷◌}
-use Rattle.std.proofs.Common.{◌++◌, length, map, All, IfSome, Option, Some, None, Ok, codes, decimal, option_map}
-use Rattle.std.proofs.Common.{unwrap_or, refl, sym, ap, ap₂, ◌∙◌, subst, arith, lit<, append_assoc, append-nil}
-use Rattle.std.proofs.Common.{length-append}
-use Rattle.std.specs.Prelude.{filter}
-use Rattle.std.specs.List.{flat_map}
-use Rattle.std.proofs.lemmas.List.{map-append}
-use Rattle.std.proofs.lemmas.List.Elements.{filter-append, All-append, All-cons, All-nil, All-weaker}
-use Rattle.std.proofs.lemmas.List.Sums.{AllPass-from_list_all}
-use Rattle.std.proofs.lemmas.Bool.Decides.{nat_tests}
-use Rattle.std.proofs.lemmas.Fmt.{length-decimal-le}
-use Rattle.std.proofs.lemmas.Grind.{flat_map-append}
+use Rattle.std.proofs.Common.{◌≡◌, ◌+◌, ◌*◌, ◌/◌, ◌%◌, ◌<◌, ◌≤◌, ◌∷◌, ◌++◌, ℕ, nat_lt, Bool, true, false, cond, List}
+use Rattle.broker_types.specs.Words.{[], length, map, All, IfSome, Option, Some, None, Ok, codes, decimal, option_map}
+use Rattle.broker_types.specs.Words.{unwrap_or, refl, sym, ap, ap₂, ◌∙◌, subst, arith, lit<, append_assoc, append-nil}
+use Rattle.broker_types.specs.Words.{length-append, filter, flat_map, map-append, filter-append, All-append, All-cons}
+use Rattle.broker_types.specs.Words.{All-nil, All-weaker, AllPass-from_list_all, nat_tests, length-decimal-le}
+use Rattle.broker_types.specs.Words.{flat_map-append, digit_char, leb-true, longest_body}
 use Rattle.httparse.specs.Grammar.{Field, IsField, IsToken, crlf, is_token_byte, is_uri_byte, print_field}
 use Rattle.httparse.specs.Grammar.{print_request, trim_ows}
 use Rattle.httparse.specs.Spans.{name_and_value}
-use Rattle.std.specs.Char.{digit_char}
-use Rattle.std.proofs.lemmas.Bool.{leb-true}
 use Rattle.json.specs.Print.{escape, escape_byte, escape_letter}
 use Rattle.serde_json.specs.Written.{compact_text}
-use Rattle.broker_types.specs.Limits.{longest_body}
-use Rattle.http_layer.specs.Front.{content_length, longest_head}
-use Rattle.http_layer.specs.HeadParts.{HeadField, is_named, same_in_any_case, values_named}
-use Rattle.http_layer.specs.Laws.{PrintedLengthIsRead}
-use Rattle.http_layer.specs.Printed.{CanBeSent, printed_head}
+use Rattle.http_layer.specs.Words.{content_length, longest_head, HeadField, is_named, same_in_any_case, values_named}
+use Rattle.http_layer.specs.Words.{PrintedLengthIsRead, CanBeSent, printed_head}
 use Rattle.api_client.specs.Asking.{IsOptionalField, IsPathText, IsSendable}
 use Rattle.api_client.specs.Commands.{is_field_text, is_short_text, is_visible}
 use Rattle.api_client.specs.Escaping.{escaped}

@@ -1,16 +1,8 @@
 -- Texts of visible characters, as values of fields.
-use Rattle.std.proofs.Common.{◌≡◌, ℕ, ◌^◌, ◌<◌, ◌≤◌, ◌&&◌, true, false, List, [], ◌∷◌, length, reverse, All, IsUtf8}
-use Rattle.std.proofs.Common.{decimal, refl, arith, nat_lt, nat_le}
-use Rattle.std.specs.List.{list_all}
-use Rattle.std.specs.Char.{digit_value}
-use Rattle.std.specs.Str.Parse.{AllDigits}
-use Rattle.std.proofs.lemmas.Bool.{and_parts, leb-true, ltb-true}
-use Rattle.std.proofs.lemmas.Bool.Decides.{nat_tests}
-use Rattle.std.proofs.lemmas.Fmt.{decimal_is_IsNumeral}
-use Rattle.std.proofs.lemmas.List.Elements.{All-cons, All-head, All-nil, All-weaker}
-use Rattle.std.proofs.lemmas.List.Sums.{AllPass-from_list_all}
-use Rattle.std.proofs.lemmas.Str.{IsUtf8-from_ascii}
-use Rattle.std.proofs.lemmas.Str.Ascii.{IsAscii-from_all}
+use Rattle.std.proofs.Common.{◌≡◌, ◌^◌, ◌<◌, ◌≤◌, ◌&&◌, ◌∷◌, ℕ, true, false, List, [], length, reverse, All, IsUtf8}
+use Rattle.broker_types.specs.Words.{decimal, refl, arith, nat_lt, nat_le, list_all, digit_value, AllDigits, and_parts}
+use Rattle.broker_types.specs.Words.{leb-true, ltb-true, nat_tests, decimal_is_IsNumeral, All-cons, All-head, All-nil}
+use Rattle.broker_types.specs.Words.{All-weaker, AllPass-from_list_all, IsUtf8-from_ascii, IsAscii-from_all}
 use Rattle.httparse.specs.Grammar.{is_ows, is_value_byte, skip_ows, trim_ows}
 use Rattle.httparse.proofs.TrimLemmas.{AllPass-reverse, trim_ows_space}
 use Rattle.api_client.specs.Commands.{is_field_text, is_visible, longest_argument}

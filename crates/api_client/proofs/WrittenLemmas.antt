@@ -1,22 +1,16 @@
 -- The bytes that a server writes for a response, as the client reads them.
-use Rattle.std.proofs.Common.{◌≡◌, ℕ, zero, suc, ◌+◌, ◌-◌, ◌/◌, ◌%◌, ◌^◌, ◌<◌, ◌≤◌, ◌==◌, ◌&&◌, ◌||◌, nat_le, nat_lt}
-use Rattle.std.proofs.Common.{Bool, true, false, cond, List, [], ◌∷◌, ◌++◌, length, take, map, All, Some, None, codes}
-use Rattle.std.proofs.Common.{decimal, refl, sym, ap, ap₂, ◌∙◌, subst, arith, lit<, append_assoc, append-nil}
-use Rattle.std.proofs.Common.{length-append}
-use Rattle.std.specs.List.{flat_map, list_all, slice_index_or}
-use Rattle.std.specs.Char.{is_ascii_digit}
-use Rattle.std.specs.Str.Parse.{digits_value}
-use Rattle.std.proofs.lemmas.Bool.{and_from, and_parts, le-leb, leb-true}
-use Rattle.std.proofs.lemmas.Option.{same_Some}
-use Rattle.std.proofs.Math.Seq.{take-append_seam}
-use Rattle.http_layer.specs.Front.{is_number}
+use Rattle.std.proofs.Common.{◌≡◌, ◌+◌, ◌-◌, ◌/◌, ◌%◌, ◌^◌, ◌<◌, ◌≤◌, ◌==◌, ◌&&◌, ◌||◌, ◌∷◌, ◌++◌, ℕ, zero, suc, nat_le}
+use Rattle.broker_types.specs.Words.{nat_lt, Bool, true, false, cond, List, [], length, take, map, All, Some, None}
+use Rattle.broker_types.specs.Words.{codes, decimal, refl, sym, ap, ap₂, ◌∙◌, subst, arith, lit<, append_assoc}
+use Rattle.broker_types.specs.Words.{append-nil, length-append, flat_map, list_all, slice_index_or, is_ascii_digit}
+use Rattle.broker_types.specs.Words.{digits_value, and_from, and_parts, le-leb, leb-true, same_Some, take-append_seam}
+use Rattle.broker_types.specs.Words.{nat_tests, decimal_is_IsNumeral, length-decimal-le, flat_map-append, All-append}
+use Rattle.broker_types.specs.Words.{All-cons, All-head, All-nil, All-tail, All-weaker, AllPass-from_list_all, Response}
+use Rattle.broker_types.specs.Words.{status_code}
+use Rattle.http_layer.specs.Words.{is_number, allow_line, body_lines, cache_line, comma_joined, connection_line}
+use Rattle.http_layer.specs.Words.{date_line, method_names, phrase_of, reply_body, reply_head, status_line}
 use Rattle.httparse.proofs.GrammarLemmas.{response_unique}
 use Rattle.api_client.specs.Commands.{is_visible}
-use Rattle.std.proofs.lemmas.Bool.Decides.{nat_tests}
-use Rattle.std.proofs.lemmas.Fmt.{decimal_is_IsNumeral, length-decimal-le}
-use Rattle.std.proofs.lemmas.Grind.{flat_map-append}
-use Rattle.std.proofs.lemmas.List.Elements.{All-append, All-cons, All-head, All-nil, All-tail, All-weaker}
-use Rattle.std.proofs.lemmas.List.Sums.{AllPass-from_list_all}
 use Rattle.http.specs.StatusCode.{code_digits}
 use Rattle.httpdate.specs.Calendar.{days_in_month, is_leap_year}
 use Rattle.httpdate.specs.Date.{date_text}
@@ -25,14 +19,10 @@ use Rattle.httpdate.specs.declared.date.HttpDate.{HttpDate}
 use Rattle.httparse.specs.Grammar.{Field, IsField, IsResponseHead, ResponseHead, crlf, is_token_byte, is_value_byte}
 use Rattle.httparse.specs.Grammar.{print_field, print_response, status_code as head_code}
 use Rattle.httparse.specs.Spans.{name_and_value}
-use Rattle.broker_types.specs.Answer.{Response}
-use Rattle.broker_types.specs.Status.{status_code}
 use Rattle.broker_types.specs.declared.status.Methods.{Methods}
 use Rattle.broker_types.specs.declared.status.Status.{Status}
 use Rattle.broker_types.specs.declared.status.Status.TheVariants as status
 use Rattle.broker_types.specs.DecimalLaws.{digits_all}
-use Rattle.http_layer.specs.Reply.{allow_line, body_lines, cache_line, comma_joined, connection_line, date_line}
-use Rattle.http_layer.specs.Reply.{method_names, phrase_of, reply_body, reply_head, status_line}
 use Rattle.api_client.specs.Laws.{ReplyIsUnique, WrittenReplyIsRead}
 use Rattle.api_client.specs.Replies.{first_length, length_told, longest_reply_body, longest_reply_head, most_fields}
 use Rattle.api_client.specs.Replies.{reply_length}

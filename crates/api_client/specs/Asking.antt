@@ -1,16 +1,10 @@
 -- What the requests of the client ask (Vault's documentation, "HTTP API" and "Response wrapping").
-use Rattle.std.specs.Prelude.{◌≡◌, ℕ, ◌<◌, ◌≤◌, true, List, [], length, unwrap_or, Option, IfSome, All, IsUtf8}
-use Rattle.std.specs.Prelude.{Result, Ok}
-use Rattle.broker_types.specs.Limits.{longest_body}
-use Rattle.broker_types.specs.Path.{is_path}
-use Rattle.broker_types.specs.Text.{Text}
+use Rattle.std.specs.Prelude.{◌≡◌, ◌<◌, ◌≤◌, ℕ, true, List, [], length, unwrap_or, Option, IfSome, All, IsUtf8, Result}
+use Rattle.broker_types.specs.Words.{Ok, longest_body, is_path, Text}
 use Rattle.broker_types.specs.declared.ask.Ask.{Ask}
 use Rattle.broker_types.specs.declared.ask.Verb.{Verb}
 use Rattle.broker_types.specs.declared.ask.Verb.TheVariants as verb
-use Rattle.http_layer.specs.Asked.{asked, wrap_ttl_read}
-use Rattle.http_layer.specs.Front.{IsFront, whole}
-use Rattle.http_layer.specs.HeadParts.{HeadParts}
-use Rattle.http_layer.specs.Refusing.{RefusalParts, ◌>>=◌}
+use Rattle.http_layer.specs.Words.{asked, wrap_ttl_read, IsFront, whole, HeadParts, RefusalParts, ◌>>=◌}
 use Rattle.api_client.specs.Commands.{is_field_text, is_short_text}
 use Rattle.api_client.specs.Requests.{body_of, path_of}
 use Rattle.api_client.specs.declared.command.Command.{Command}

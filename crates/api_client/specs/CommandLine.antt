@@ -1,5 +1,5 @@
 -- The command line of the client, as `clap` sees it (this project's).
-use Rattle.std.specs.Prelude.{codes, Some, true}
+use Rattle.broker_types.specs.Words.{codes, Some, true}
 use Rattle.clap.specs.Words.{App, Rule, Text, new_app, new_rule, with_rule, with_subcommand}
 
 -- ---- arguments

@@ -1,7 +1,6 @@
 -- The parts of a command of the client (the limits are this project's).
-use Rattle.std.specs.Prelude.{ℕ, ◌&&◌, nat_le, nat_lt, Bool, length}
-use Rattle.std.specs.List.{list_all}
-use Rattle.broker_types.specs.Text.{Text}
+use Rattle.std.specs.Prelude.{◌&&◌, ℕ, nat_le, nat_lt, Bool, length}
+use Rattle.broker_types.specs.Words.{list_all, Text}
 
 -- the longest argument that is sent in a field or as a token, in bytes
 abbrev pub longest_argument : ℕ

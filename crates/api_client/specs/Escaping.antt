@@ -1,7 +1,6 @@
 -- Paths as they are sent in a target (RFC 3986, sections 2.1, 2.3 and 3.3).
-use Rattle.std.specs.Prelude.{ℕ, ◌==◌, ◌||◌, List, [], ◌∷◌, Bool, if◌then◌else◌}
-use Rattle.std.specs.List.{flat_map}
-use Rattle.std.specs.Char.{is_ascii_alphanumeric}
+use Rattle.std.specs.Prelude.{◌==◌, ◌||◌, ◌∷◌, if◌then◌else◌, ℕ, List, [], Bool}
+use Rattle.broker_types.specs.Words.{flat_map, is_ascii_alphanumeric}
 use Rattle.percent_encoding.specs.Percent.{percent_encode_byte}
 
 -- a letter, a digit, `-`, `.`, `_` or `~` (RFC 3986, section 2.3), or the `/` between segments

@@ -1,8 +1,6 @@
 -- What an exchange with a server sends, prints and answers (this project's definition).
-use Rattle.std.specs.Prelude.{◌≡◌, ◌⊎◌, ◌==◌, ◌||◌, ℕ, Bool, IsTrue, List, [], ◌∷◌, ◌++◌, codes, if◌then◌else◌}
-use Rattle.std.specs.Prelude.{Option, Some, Result, Ok, Err, ⊤}
-use Rattle.std.specs.Io.KnownBytes.{Appends}
-use Rattle.broker_types.specs.Text.{Text}
+use Rattle.std.specs.Prelude.{◌≡◌, ◌⊎◌, ◌==◌, ◌||◌, ◌∷◌, ◌++◌, if◌then◌else◌, ℕ, Bool, IsTrue, List, [], codes, Option}
+use Rattle.broker_types.specs.Words.{Some, Result, Ok, Err, ⊤, Appends, Text}
 use Rattle.api_client.specs.Replies.{BeginsWithReply}
 use Rattle.api_client.specs.ReplyReads.{HasNoReply}
 use Rattle.api_client.specs.Requests.{sent}

@@ -1,8 +1,7 @@
 -- Laws of the definitions (this project's). Each is a clause of a function of `src/laws.rt` that does nothing.
-use Rattle.std.specs.Prelude.{◌≡◌, ℕ, ◌≤◌, ◌++◌, Bool, List, length}
-use Rattle.broker_types.specs.Answer.{Response}
-use Rattle.broker_types.specs.Status.{status_code}
-use Rattle.http_layer.specs.Reply.{IsReply, reply_body}
+use Rattle.std.specs.Prelude.{◌≡◌, ◌≤◌, ◌++◌, ℕ, Bool, List, length}
+use Rattle.broker_types.specs.Words.{Response, status_code}
+use Rattle.http_layer.specs.Words.{IsReply, reply_body}
 use Rattle.api_client.specs.Replies.{BeginsWithReply, longest_reply_body}
 use Rattle.api_client.specs.declared.reply.Reply.{Reply}
 

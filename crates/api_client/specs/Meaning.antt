@@ -1,11 +1,8 @@
 -- What a command line of the client means (this project's).
-use Rattle.std.specs.Prelude.{◌≡◌, ◌≢◌, codes, List, [], ◌∷◌, length, if◌then◌else◌, bytes_eq, nat_le}
-use Rattle.std.specs.Prelude.{Option, Some, None, Result, Ok, Err}
+use Rattle.std.specs.Prelude.{◌≡◌, ◌≢◌, ◌∷◌, if◌then◌else◌, codes, List, [], length, bytes_eq, nat_le, Option, Some, Ok}
+use Rattle.broker_types.specs.Words.{None, Result, Err, longest_body, is_path, without_slash, Text}
 use Rattle.clap.specs.Words.{Kinds, Row, first_of, fault_of, kind_of, matches_of, subcommand_of}
 use Rattle.clap.specs.declared.error.kind.ErrorKind.TheVariants.{OutOfMemory}
-use Rattle.broker_types.specs.Limits.{longest_body}
-use Rattle.broker_types.specs.Path.{is_path, without_slash}
-use Rattle.broker_types.specs.Text.{Text}
 use Rattle.broker_types.specs.declared.fault.Fault.TheVariants.{Memory}
 use Rattle.api_client.specs.CommandLine.{client_app}
 use Rattle.api_client.specs.Commands.{is_field_text, is_short_text}

@@ -1,11 +1,9 @@
 -- Replies as the client reads them (RFC 9112, sections 4 to 6). The limits are this project's.
-use Rattle.std.specs.Prelude.{◌≡◌, ℕ, ◌≤◌, ◌++◌, List, [], ◌∷◌, length, map, codes, nat_le, if◌then◌else◌, Option, Some}
-use Rattle.std.specs.Prelude.{None, ◌&&◌}
-use Rattle.std.specs.Str.Parse.{digits_value}
+use Rattle.std.specs.Prelude.{◌≡◌, ◌≤◌, ◌++◌, ◌∷◌, if◌then◌else◌, ◌&&◌, ℕ, List, [], length, map, codes, nat_le, Option}
+use Rattle.broker_types.specs.Words.{Some, None, digits_value}
 use Rattle.httparse.specs.Grammar.{ResponseHead, ReadsResponse, print_response, status_code}
 use Rattle.httparse.specs.Spans.{name_and_value}
-use Rattle.http_layer.specs.Front.{is_number}
-use Rattle.http_layer.specs.HeadParts.{HeadField, values_named}
+use Rattle.http_layer.specs.Words.{is_number, HeadField, values_named}
 use Rattle.api_client.specs.declared.reply.Reply.{Reply}
 
 -- how many bytes the head of a reply has at most, with the empty lines before and after it

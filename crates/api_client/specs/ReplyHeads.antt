@@ -1,5 +1,5 @@
 -- What the first bytes of a reply show of its head (this project's definition).
-use Rattle.std.specs.Prelude.{◌≡◌, ℕ, ◌≤◌, List, length, map, drop}
+use Rattle.std.specs.Prelude.{◌≡◌, ◌≤◌, ℕ, List, length, map, drop}
 use Rattle.httparse.specs.Grammar.{ResponseHead, ReadsResponse, print_response, status_code, HasNoResponse}
 use Rattle.httparse.specs.Spans.{name_and_value, ResponseOverflows}
 use Rattle.api_client.specs.Replies.{most_fields, reply_length}

@@ -1,6 +1,6 @@
 -- What the reading of a reply gives (this project's definition).
-use Rattle.std.specs.Prelude.{◌≡◌, ◌⊎◌, ℕ, ◌<◌, ◌≤◌, ◌++◌, Bool, IsTrue, List, Option, Some, length, take}
-use Rattle.std.specs.Io.KnownBytes.{Consumes}
+use Rattle.std.specs.Prelude.{◌≡◌, ◌⊎◌, ◌<◌, ◌≤◌, ◌++◌, ℕ, Bool, IsTrue, List, Option, Some, length, take}
+use Rattle.broker_types.specs.Words.{Consumes}
 use Rattle.httparse.specs.Grammar.{ResponseHead, ReadsResponse, print_response}
 use Rattle.broker_types.specs.declared.fault.Fault.TheVariants.{Memory}
 use Rattle.api_client.specs.Replies.{longest_reply_head, most_fields, BeginsWithReply}

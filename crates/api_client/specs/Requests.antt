@@ -1,12 +1,11 @@
 -- The bytes of the client's requests (RFC 9112, sections 2.1, 3 and 5; Vault's documentation, "HTTP API" and "Response
 -- wrapping"). Which fields are sent, and their order, are this project's.
-use Rattle.std.specs.Prelude.{◌≡◌, ⊤, ℕ, List, [], ◌++◌, Option, Some, None, codes, decimal, length}
-use Rattle.std.specs.Prelude.{option_map, unwrap_or}
+use Rattle.std.specs.Prelude.{◌≡◌, ◌++◌, ⊤, ℕ, List, [], Option, Some, None, codes, decimal, length, option_map}
+use Rattle.broker_types.specs.Words.{unwrap_or, Text}
 use Rattle.serde_json.specs.Data.{Data, object, member, no_members, string}
 use Rattle.serde_json.specs.Read.{read}
 use Rattle.serde_json.specs.Written.{compact_text}
-use Rattle.broker_types.specs.Text.{Text}
-use Rattle.http_layer.specs.Reply.{crlf}
+use Rattle.http_layer.specs.Words.{crlf}
 use Rattle.api_client.specs.Escaping.{escaped}
 use Rattle.api_client.specs.declared.command.Command.{Command}
 use Rattle.api_client.specs.declared.command.Request.{Request}

@@ -1,14 +1,12 @@
 -- The value and the object that bytes are.
-use Rattle.std.specs.Prelude.{◌≡◌, ◌≤◌, ℕ, List, Bool, true, false, if◌then◌else◌, Option, Some, None, option_and_then}
-use Rattle.std.specs.Str.{is_utf8, IsUtf8}
-use Rattle.std.proofs.Common.{refl, sym, subst}
-use Rattle.std.proofs.lemmas.Option.{same_Some}
-use Rattle.std.proofs.lemmas.Str.{IsUtf8-from_is_utf8}
+use Rattle.std.proofs.Common.{◌≡◌, ◌≤◌, if◌then◌else◌, ℕ, List, Bool, true, false, Option, Some, None, option_and_then}
+use Rattle.broker_types.specs.Words.{is_utf8, refl, sym, subst, same_Some, IsUtf8-from_is_utf8}
+use Rattle.std.specs.Str.{IsUtf8}
 use Rattle.serde_json.specs.Data.{Data, depth}
 use Rattle.serde_json.specs.Read.{read, max_depth}
 use Rattle.serde_json.proofs.Nesting.{depth-read}
 use Rattle.serde_json.specs.Written.{has_float}
-use Rattle.api_json.specs.Json.{json_value, tree, without_floats}
+use Rattle.api_json.specs.Words.{json_value, tree, without_floats}
 
 pub refused_value : (bytes : List ℕ) → (IsUtf8 bytes → read bytes ≡ None) → None ≡ json_value bytes
 refused_value bytes h =

@@ -1,19 +1,10 @@
 -- What a body brings as custom metadata of a secret can be kept.
-use Rattle.std.specs.Prelude.{◌≡◌, ◌≤◌, ℕ, List, [], length, nat_le, true, Option, Some, Ok, unwrap_or}
-use Rattle.std.specs.List.{AllByRecursion, list_all}
-use Rattle.std.proofs.Common.{sym, ap, ◌∙◌, subst}
-use Rattle.std.proofs.lemmas.Bool.{and_parts, leb-true}
-use Rattle.std.proofs.lemmas.List.Elements.{All-from_recursion}
+use Rattle.std.proofs.Common.{◌≡◌, ◌≤◌, ℕ, List, [], length, nat_le, true, Option, Some, Ok, unwrap_or, sym, ap, ◌∙◌}
+use Rattle.broker_types.specs.Words.{AllByRecursion, list_all, subst, and_parts, leb-true, All-from_recursion}
+use Rattle.broker_types.specs.Words.{longest_body, most_custom_metadata, IsCustomPair, Text}
 use Rattle.serde_json.specs.Data.{Members}
-use Rattle.broker_types.specs.Limits.{longest_body, most_custom_metadata}
-use Rattle.broker_types.specs.Sound.{IsCustomPair}
-use Rattle.broker_types.specs.Text.{Text}
-use Rattle.broker_types.specs.declared.refusal.Field.{Field}
-use Rattle.api_json.specs.Json.{read_body}
-use Rattle.api_json.specs.KeptBodies.{IsKeptMeta, IsKeptCustom}
+use Rattle.api_json.specs.Words.{Field, read_body, IsKeptMeta, IsKeptCustom, optional, is_custom, is_custom_pair}
 use Rattle.api_json.specs.Kinds as kind
-use Rattle.api_json.specs.Members.{optional}
-use Rattle.api_json.specs.Readers.{is_custom, is_custom_pair}
 use Rattle.api_json.proofs.KeptMeta.{meta_kept}
 
 -- accepted custom metadata are few, and their names ascend as those of all metadata that a body brings

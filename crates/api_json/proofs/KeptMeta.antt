@@ -1,37 +1,21 @@
 -- What a body brings for a token and for a policy can be kept.
-use Rattle.std.specs.Prelude.{◌≡◌, ◌<◌, ◌≤◌, ◌^◌, ◌+◌, ◌⊎◌, ◌==◌, ℕ, List, [], ◌∷◌, length, map, Bool, true, false}
-use Rattle.std.specs.Prelude.{Option, Some, None, Result, Ok, Err, IfOk, option_map, unwrap_or, All}
-use Rattle.std.specs.List.{slice_split}
-use Rattle.std.specs.Cmp.Lexicographic.{slice_cmp}
-use Rattle.std.specs.Ordering.{nat_cmp, ordering_reverse, is_lt}
-use Rattle.std.specs.declared.cmp.Ordering.TheVariants.{Greater}
-use Rattle.std.proofs.Common.{refl, sym, ap, ◌∙◌, subst, inl, inr, arith, lit<, length-append}
-use Rattle.std.proofs.lemmas.List.{length-map}
-use Rattle.std.proofs.lemmas.List.Elements.{All-nil, All-cons}
-use Rattle.std.proofs.lemmas.List.Splits.{length-slice_split}
-use Rattle.std.proofs.lemmas.List.Sums.{length-filter, count_by-le-length}
+use Rattle.std.proofs.Common.{◌≡◌, ◌<◌, ◌≤◌, ◌^◌, ◌+◌, ◌⊎◌, ◌==◌, ◌∷◌, ℕ, List, [], length, map, Bool, true, false, Ok}
+use Rattle.broker_types.specs.Words.{Option, Some, None, Result, Err, IfOk, option_map, unwrap_or, All, slice_split}
+use Rattle.broker_types.specs.Words.{slice_cmp, nat_cmp, ordering_reverse, is_lt, Greater, refl, sym, ap, ◌∙◌, subst}
+use Rattle.broker_types.specs.Words.{inl, inr, arith, lit<, length-append, length-map, All-nil, All-cons}
+use Rattle.broker_types.specs.Words.{length-slice_split, length-filter, count_by-le-length, same_Some, longest_body}
+use Rattle.broker_types.specs.Words.{◌>>=◌, some_or, field_name, is_ascending, Text, text_cmp}
 use Rattle.std.proofs.lemmas.Cmp.{nat_list_cmp_total}
-use Rattle.std.proofs.lemmas.Option.{same_Some}
 use Rattle.json.specs.Print.{escape_byte, escape, quoted}
 use Rattle.serde_json.specs.Data.{Data, null, boolean, number, string, array, object, Items, no_items, item, Members}
 use Rattle.serde_json.specs.Data.{no_members, member}
 use Rattle.serde_json.specs.Find.{get_member}
 use Rattle.serde_json.specs.Written.{compact_text, items_text, members_text}
-use Rattle.broker_types.specs.Limits.{longest_body}
-use Rattle.broker_types.specs.Refuse.{◌>>=◌, some_or}
-use Rattle.broker_types.specs.Refusal.{field_name}
-use Rattle.broker_types.specs.Sound.{is_ascending}
-use Rattle.broker_types.specs.Text.{Text, text_cmp}
-use Rattle.broker_types.specs.declared.refusal.Field.{Field}
-use Rattle.broker_types.specs.declared.refusal.Refusal.{Refusal}
+use Rattle.api_json.specs.Words.{Field, Refusal, IsRead, read_body, IsKeptMeta, each_item, each_text, comma_parts}
+use Rattle.api_json.specs.Words.{is_part, without_spaces, optional, required, of_kind, given, invalid, missing, IsAfter}
+use Rattle.api_json.specs.Words.{with_last, Ascends, IsCanonical}
 use Rattle.broker_types.specs.declared.request_error.RequestError.{RequestError}
-use Rattle.api_json.specs.Reads.{IsRead}
-use Rattle.api_json.specs.Json.{read_body}
-use Rattle.api_json.specs.KeptBodies.{IsKeptMeta}
 use Rattle.api_json.specs.Kinds as kind
-use Rattle.api_json.specs.Kinds.{each_item, each_text, comma_parts, is_part, without_spaces}
-use Rattle.api_json.specs.Members.{optional, required, of_kind, given, invalid, missing}
-use Rattle.api_json.specs.Canonical.{IsAfter, with_last, Ascends, IsCanonical}
 use Rattle.api_json.proofs.KeptObjects.{body_stays}
 use Rattle.api_json.proofs.Lengths.{length-body, short_object}
 use Rattle.api_json.proofs.LengthsPrinted.{length-member}

@@ -1,25 +1,17 @@
 -- The objects of bodies are kept as compact texts, which are read again as what they were.
-use Rattle.std.specs.Prelude.{◌≡◌, ◌≤◌, ℕ, List, [], ◌∷◌, length, false, if◌then◌else◌, Option, Some, None, Ok}
-use Rattle.std.specs.Prelude.{option_and_then, codes}
-use Rattle.std.specs.Option.{option_map_or}
-use Rattle.std.proofs.Common.{refl, ◌∙◌, ap, subst, lit≤, arith, true}
-use Rattle.std.proofs.lemmas.Option.{same_Some}
+use Rattle.std.proofs.Common.{◌≡◌, ◌≤◌, ◌∷◌, if◌then◌else◌, ℕ, List, [], length, false, Option, Some, None, Ok, codes}
+use Rattle.broker_types.specs.Words.{option_and_then, option_map_or, refl, ◌∙◌, ap, subst, lit≤, arith, true, same_Some}
+use Rattle.broker_types.specs.Words.{Text, same, longest_body, some_or}
 use Rattle.serde_json.specs.Data.{Data, null, boolean, number, string, array, object, Members, no_members, depth}
 use Rattle.serde_json.specs.Read.{read, max_depth}
 use Rattle.serde_json.specs.Find.{get_member}
 use Rattle.serde_json.specs.Written.{has_float, members_have_float, compact_text}
 use Rattle.serde_json.proofs.Nesting.{depth-read}
-use Rattle.broker_types.specs.Text.{Text, same}
-use Rattle.broker_types.specs.Limits.{longest_body}
 use Rattle.broker_types.specs.TextLaws.{same_self}
-use Rattle.broker_types.specs.Refuse.{some_or}
-use Rattle.api_json.specs.Json.{tree, members_in, without_floats, read_body, body_members, no_object}
-use Rattle.api_json.specs.Kinds.{as_object_text}
-use Rattle.api_json.specs.Members.{payload}
-use Rattle.api_json.specs.KeptBodies.{is_object, IsKept}
-use Rattle.api_json.specs.Laws.{BodiesReadBack, BodiesAreKept, PayloadsAreKept}
+use Rattle.api_json.specs.Words.{tree, members_in, without_floats, read_body, body_members, no_object, as_object_text}
+use Rattle.api_json.specs.Words.{payload, is_object, IsKept, BodiesReadBack, BodiesAreKept, PayloadsAreKept}
+use Rattle.api_json.specs.Words.{IsCanonical}
 use Rattle.api_json.proofs.Bodies.{tree_read}
-use Rattle.api_json.specs.Canonical.{IsCanonical}
 use Rattle.api_json.proofs.TextsReadBack.{read-compact_text}
 use Rattle.api_json.proofs.ReadCanonical.{read-canonical, via_then}
 use Rattle.api_json.proofs.Lengths.{short_object}

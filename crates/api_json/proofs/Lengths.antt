@@ -1,7 +1,6 @@
 -- The compact text of the object that a body is, is no longer than the body.
-use Rattle.std.specs.Prelude.{◌≡◌, ℕ, ◌+◌, ◌^◌, ◌<◌, ◌≤◌, false, List, [], ◌∷◌, length, Some, option_and_then}
-use Rattle.std.proofs.Common.{ap, ◌∙◌, subst, arith}
-use Rattle.std.proofs.lemmas.Option.{same_Some}
+use Rattle.std.proofs.Common.{◌≡◌, ◌+◌, ◌^◌, ◌<◌, ◌≤◌, ◌∷◌, ℕ, false, List, [], length, Some, option_and_then, ap, ◌∙◌}
+use Rattle.broker_types.specs.Words.{subst, arith, same_Some, longest_body}
 use Rattle.json.specs.Token.{Token}
 use Rattle.json.specs.Lex.{tokens}
 use Rattle.json.specs.Json as json
@@ -9,9 +8,7 @@ use Rattle.json.proofs.Unique.Spelling.{value-json_tokens_back}
 use Rattle.serde_json.specs.Data.{Data, null, boolean, number, string, array, object, Members}
 use Rattle.serde_json.specs.Read.{of_json, read, max_depth}
 use Rattle.serde_json.specs.Written.{compact_text}
-use Rattle.broker_types.specs.Limits.{longest_body}
-use Rattle.api_json.specs.Json.{tree, members_in, read_body}
-use Rattle.api_json.specs.Laws.{CompactIsNoLonger}
+use Rattle.api_json.specs.Words.{tree, members_in, read_body, CompactIsNoLonger}
 use Rattle.api_json.proofs.Bodies.{tree_read}
 use Rattle.api_json.proofs.LengthsTokens.{printed_length, length-tokens}
 use Rattle.api_json.proofs.LengthsPrinted.{value_below, length-value}

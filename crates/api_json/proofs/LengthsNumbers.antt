@@ -1,19 +1,10 @@
 -- What is written for a number is no longer than the text that it was read from.
-use Rattle.std.proofs.Common.{◌≡◌, ℕ, zero, suc, ◌+◌, ◌-◌, ◌<◌, ◌≤◌, ◌^◌, ◌&&◌, ◌==◌, nat_lt, nat_le, Bool, true, false}
-use Rattle.std.proofs.Common.{cond, List, [], ◌∷◌, ◌++◌, length}
-use Rattle.std.proofs.Common.{drop, slice_index, Option, Some, None, refl, subst, arith, length-take, length-drop}
-use Rattle.std.proofs.lemmas.Bool.{and_parts}
-use Rattle.std.proofs.lemmas.Bool.Decides.{nat_tests}
-use Rattle.std.proofs.lemmas.Fmt.{length-decimal-le}
-use Rattle.std.proofs.lemmas.Int.Digits.{digits_value-lt}
-use Rattle.std.proofs.lemmas.List.{length-append}
-use Rattle.std.proofs.lemmas.List.Sums.{prefix_len-le-length}
-use Rattle.std.proofs.lemmas.Option.{same_Some}
-use Rattle.std.specs.Char.{is_ascii_digit}
-use Rattle.std.specs.Prelude.{decimal}
+use Rattle.std.proofs.Common.{◌≡◌, ◌+◌, ◌-◌, ◌<◌, ◌≤◌, ◌^◌, ◌&&◌, ◌==◌, ◌∷◌, ◌++◌, ℕ, zero, suc, nat_lt, nat_le, Bool}
+use Rattle.broker_types.specs.Words.{true, false, cond, List, [], length, drop, slice_index, Option, Some, None, refl}
+use Rattle.broker_types.specs.Words.{subst, arith, length-take, length-drop, and_parts, nat_tests, length-decimal-le}
+use Rattle.broker_types.specs.Words.{digits_value-lt, length-append, prefix_len-le-length, same_Some, is_ascii_digit}
+use Rattle.broker_types.specs.Words.{decimal, binary64, float_is_finite, AllDigits}
 use Rattle.std.specs.List.{slice_range}
-use Rattle.std.specs.Float.{binary64, float_is_finite}
-use Rattle.std.specs.Str.Parse.{AllDigits}
 use Rattle.fast_float.specs.Text.{minus, dot, Parts, scan, digits_end, digits_of, nearest, with_sign}
 use Rattle.fast_float.proofs.Reading.{scan_numeral-AllDigits}
 use Rattle.serde_json.specs.Data.{Num, unsigned, negative, float}

@@ -1,19 +1,13 @@
 -- A number or a literal is no longer than what the lexer passes until the word has ended.
-use Rattle.std.proofs.Common.{◌≡◌, ℕ, suc, ◌+◌, ◌-◌, ◌≤◌, Bool, true, false, cond, ◌&&◌, ◌||◌, ◌==◌, List, [], ◌∷◌}
-use Rattle.std.proofs.Common.{◌++◌, length, take, drop}
-use Rattle.std.proofs.Common.{Option, Some, None, option_and_then, inl, inr, ◌⊎◌, refl, ap, ◌∙◌, subst, arith}
-use Rattle.std.proofs.Common.{length-take}
-use Rattle.std.proofs.lemmas.Bool.{eqb-true, leb-true, ne_eqb, and_parts, or_cases}
-use Rattle.std.proofs.lemmas.List.{take-append-drop}
-use Rattle.std.proofs.lemmas.Slice.Eq.{bytes_eq-Decides}
-use Rattle.std.specs.Prelude.{⊤, nat_eq}
-use Rattle.std.specs.List.{prefix_len, starts_with}
-use Rattle.std.specs.Char.{is_ascii_digit}
+use Rattle.std.proofs.Common.{◌≡◌, ◌+◌, ◌-◌, ◌≤◌, ◌&&◌, ◌||◌, ◌==◌, ◌∷◌, ◌++◌, ◌⊎◌, ℕ, suc, Bool, true, false, cond, []}
+use Rattle.broker_types.specs.Words.{List, length, take, drop, Option, Some, None, option_and_then, inl, inr, refl, ap}
+use Rattle.broker_types.specs.Words.{◌∙◌, subst, arith, length-take, eqb-true, leb-true, ne_eqb, and_parts, or_cases}
+use Rattle.broker_types.specs.Words.{take-append-drop, bytes_eq-Decides, ⊤, nat_eq, prefix_len, starts_with}
+use Rattle.broker_types.specs.Words.{is_ascii_digit}
 use Rattle.json.specs.Token.{Token, number, boolean, null, bad}
 use Rattle.json.specs.Print.{token_text}
 use Rattle.json.specs.Word.{head, ends_word, after_digits, after_minus, after_sign, after_whole, after_fraction}
-use Rattle.json.specs.Word.{after_exponent, after_number}
-use Rattle.json.specs.Word.{number_before, literal, word}
+use Rattle.json.specs.Word.{after_exponent, after_number, number_before, literal, word}
 use Rattle.json.specs.Lex.{other, class, in_word}
 use Rattle.api_json.proofs.LengthsContent.{rest_of_byte, rest_of_token}
 

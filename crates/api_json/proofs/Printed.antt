@@ -1,16 +1,12 @@
 -- Printed objects, from the front.
-use Rattle.std.proofs.Common.{◌≡◌, ◌≤◌, ◌==◌, List, [], ◌∷◌, ◌++◌, true, false, length, fold, map, refl, sym, ap, ◌∙◌}
-use Rattle.std.proofs.Common.{arith, append_assoc, append-nil}
-use Rattle.std.proofs.Common.{length-append}
-use Rattle.std.proofs.lemmas.Bool.Decides.{nat_tests}
+use Rattle.std.proofs.Common.{◌≡◌, ◌≤◌, ◌==◌, ◌∷◌, ◌++◌, List, [], true, false, length, fold, map, refl, sym, ap, ◌∙◌}
+use Rattle.broker_types.specs.Words.{arith, append_assoc, append-nil, length-append, nat_tests, Text}
 use Rattle.serde_json.specs.Data.{Data, object}
 use Rattle.serde_json.specs.Read.{read}
 use Rattle.serde_json.specs.Written as written
 use Rattle.serde_json.specs.Written.{compact_text}
-use Rattle.broker_types.specs.Text.{Text}
-use Rattle.api_json.specs.Printing.{with_item, with_member, quoted}
-use Rattle.api_json.specs.Laws.{behind_comma, members_from_front, members_of_list, printed, PrintsFromTheFront}
-use Rattle.api_json.specs.Laws.{PrintsJson, PrintsReadBack}
+use Rattle.api_json.specs.Words.{with_item, with_member, quoted, behind_comma, members_from_front, members_of_list}
+use Rattle.api_json.specs.Words.{printed, PrintsFromTheFront, PrintsJson, PrintsReadBack}
 use Rattle.api_json.proofs.TextsReadBack.{read-compact_text}
 
 not_one : (b : Text) → 2 ≤ length b → (length b == 1) ≡ false

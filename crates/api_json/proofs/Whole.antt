@@ -1,17 +1,13 @@
 -- The members of objects.
-use Rattle.std.proofs.Common.{◌≡◌, ◌↔◌, List, [], ◌∷◌, ℕ, Bool, true, false, not, length, IsTrue, Some, refl, String}
-use Rattle.std.proofs.Common.{Global}
-use Rattle.std.proofs.lemmas.Bool.{or_parts}
-use Rattle.std.specs.Ordering.{nat_cmp, match_ordering}
-use Rattle.std.specs.Cmp.Lexicographic.{slice_cmp}
-use Rattle.std.specs.declared.cmp.Ordering.{Ordering}
-use Rattle.std.specs.declared.cmp.Ordering.TheVariants.{Less, Equal, Greater}
+use Rattle.std.proofs.Common.{◌≡◌, ◌↔◌, ◌∷◌, List, [], ℕ, Bool, true, false, not, length, IsTrue, Some, refl, String}
+use Rattle.broker_types.specs.Words.{Global, or_parts, nat_cmp, match_ordering, slice_cmp, Ordering, Less, Equal}
+use Rattle.broker_types.specs.Words.{Greater}
 use Rattle.serde_json.specs.Data.{Data, Members, no_members, member}
 use Rattle.serde_json.specs.Find.{get_member}
 use Rattle.serde_json.specs.View.{members_view}
 use Rattle.serde_json.specs.Written.{has_float, members_have_float}
 use Rattle.serde_json.specs.declared.value.Value.{Value}
-use Rattle.api_json.specs.Json.{has_members}
+use Rattle.api_json.specs.Words.{has_members}
 
 pub member_whole : (k : List ℕ) (ms : Members) (d : Data) → get_member k ms ≡ Some d → members_have_float ms ≡ false
     → has_float d ≡ false

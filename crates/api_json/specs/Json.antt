@@ -1,12 +1,10 @@
 -- The JSON values and objects that bytes are (RFC 8259).
-use Rattle.std.specs.Prelude.{ℕ, List, [], ◌∷◌, Bool, true, false, if◌then◌else◌, Option, Some, None, Result}
-use Rattle.std.specs.Prelude.{option_and_then}
-use Rattle.std.specs.Str.{is_utf8}
+use Rattle.std.specs.Prelude.{◌∷◌, if◌then◌else◌, ℕ, List, [], Bool, true, false, Option, Some, None, Result}
+use Rattle.broker_types.specs.Words.{option_and_then, is_utf8, some_or}
 use Rattle.serde_json.specs.Data.{Data, null, Members, no_members, member}
 use Rattle.serde_json.specs.Find.{as_object}
 use Rattle.serde_json.specs.Read.{read}
 use Rattle.serde_json.specs.Written.{has_float}
-use Rattle.broker_types.specs.Refuse.{some_or}
 use Rattle.broker_types.specs.declared.refusal.Refusal.{Refusal}
 use Rattle.broker_types.specs.declared.refusal.Refusal.TheVariants as refusal
 use Rattle.broker_types.specs.declared.refusal.Reason.TheVariants as reason

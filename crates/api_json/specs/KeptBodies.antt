@@ -1,12 +1,9 @@
 -- What is kept of bodies: objects, as compact texts (RFC 8259, section 4), and the metadata of tokens and of secrets.
 use Rattle.std.specs.Prelude.{◌≡◌, ◌<◌, ◌≤◌, ◌^◌, ◌+◌, List, Bool, true, false, length, map, Some, option_and_then, All}
-use Rattle.std.specs.Option.{option_map_or}
+use Rattle.broker_types.specs.Words.{option_map_or, most_custom_metadata, is_ascending, IsCustomPair, Text, same}
 use Rattle.serde_json.specs.Data.{object}
 use Rattle.serde_json.specs.Read.{read}
 use Rattle.serde_json.specs.Written.{compact_text}
-use Rattle.broker_types.specs.Limits.{most_custom_metadata}
-use Rattle.broker_types.specs.Sound.{is_ascending, IsCustomPair}
-use Rattle.broker_types.specs.Text.{Text, same}
 use Rattle.api_json.specs.Json.{without_floats, members_in}
 use Rattle.api_json.specs.declared.secret_bodies.KeySettings.{KeySettings}
 use Rattle.api_json.specs.declared.token_bodies.TokenCreation.{TokenCreation}

@@ -1,14 +1,12 @@
 -- What a member of a body may hold (RFC 8259, section 3), and the texts that are accepted in its place (this
 -- profile's).
-use Rattle.std.specs.Prelude.{ℕ, ◌+◌, ◌-◌, ◌*◌, ◌&&◌, ◌==◌, nat_le, List, [], ◌∷◌, length, not, map, filter, reverse}
-use Rattle.std.specs.Prelude.{Bool, true, false, if◌then◌else◌, Option, Some, None, option_map, option_and_then, codes}
-use Rattle.std.specs.List.{slice_split}
-use Rattle.std.specs.Char.{is_ascii_digit}
+use Rattle.std.specs.Prelude.{◌+◌, ◌-◌, ◌*◌, ◌&&◌, ◌==◌, ◌∷◌, if◌then◌else◌, ℕ, nat_le, List, [], length, not, map}
+use Rattle.broker_types.specs.Words.{filter, reverse, Bool, true, false, Option, Some, None, option_map}
+use Rattle.broker_types.specs.Words.{option_and_then, codes, slice_split, is_ascii_digit, Text, same, duration_of}
+use Rattle.broker_types.specs.Words.{at_most}
 use Rattle.serde_json.specs.Data.{Data, string, object, Items, no_items, item, Members, no_members, member}
 use Rattle.serde_json.specs.Find.{as_bool, as_number, as_str, as_array, as_object, as_u64}
 use Rattle.serde_json.specs.Written.{compact_text}
-use Rattle.broker_types.specs.Text.{Text, same}
-use Rattle.broker_types.specs.Duration.{duration_of, at_most}
 use Rattle.api_json.specs.declared.from_member.DeletionTime.{DeletionTime}
 use Rattle.api_json.specs.declared.from_member.DeletionTime.TheVariants.{Never}
 

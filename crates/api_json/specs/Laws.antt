@@ -1,10 +1,9 @@
 -- Laws of objects that are printed and of objects that are kept, as statements (this project's; RFC 8259, section 4).
-use Rattle.std.specs.Prelude.{◌≡◌, ◌≤◌, ◌<◌, ℕ, List, [], ◌∷◌, ◌++◌, length, map, Some}
+use Rattle.std.specs.Prelude.{◌≡◌, ◌≤◌, ◌<◌, ◌∷◌, ◌++◌, ℕ, List, [], length, map, Some}
 use Rattle.serde_json.specs.Data.{Data, object, Members, no_members, member, depth}
 use Rattle.serde_json.specs.Read.{read, max_depth}
 use Rattle.serde_json.specs.Written.{compact_text}
-use Rattle.broker_types.specs.Limits.{longest_body}
-use Rattle.broker_types.specs.Text.{Text}
+use Rattle.broker_types.specs.Words.{longest_body, Text}
 use Rattle.api_json.specs.Canonical.{IsCanonical}
 use Rattle.api_json.specs.Json.{read_body}
 use Rattle.api_json.specs.KeptBodies.{IsKept}

@@ -12,3 +12,4 @@ pub mod Printing
 pub mod Readers
 pub mod Reads
 pub mod Reply
+pub mod Words

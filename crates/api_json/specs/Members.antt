@@ -1,14 +1,12 @@
 -- The members of a body by name: null is absent, and a member of another kind is refused (this profile's readings).
-use Rattle.std.specs.Prelude.{Option, Some, None, Result, Ok, codes, option_and_then}
+use Rattle.broker_types.specs.Words.{Option, Some, None, Result, Ok, codes, option_and_then, field_name, ◌>>=◌, some_or}
+use Rattle.broker_types.specs.Words.{Text}
 use Rattle.serde_json.specs.Data.{Data, null, Members}
 use Rattle.serde_json.specs.Find.{get_member}
-use Rattle.broker_types.specs.Refusal.{field_name}
-use Rattle.broker_types.specs.Refuse.{◌>>=◌, some_or}
 use Rattle.broker_types.specs.declared.refusal.Refusal.{Refusal}
 use Rattle.broker_types.specs.declared.refusal.Refusal.TheVariants as refusal
 use Rattle.broker_types.specs.declared.refusal.Reason.TheVariants as reason
 use Rattle.broker_types.specs.declared.refusal.Field.{Field}
-use Rattle.broker_types.specs.Text.{Text}
 use Rattle.api_json.specs.Kinds.{as_object_text}
 
 -- `invalid field: NAME`

@@ -1,6 +1,5 @@
 -- The names of members of printed objects (Vault's documentation, "HTTP API").
-use Rattle.std.specs.Prelude.{codes}
-use Rattle.broker_types.specs.Text.{Text}
+use Rattle.broker_types.specs.Words.{codes, Text}
 use Rattle.api_json.specs.declared.name.Name.{Name}
 use Rattle.api_json.specs.declared.name.Name.TheVariants as name
 

@@ -1,8 +1,7 @@
 -- The objects that replies have: the members are in the order of the bytes of their names, times are texts (RFC 3339),
 -- and lengths of time are seconds.
-use Rattle.std.specs.Prelude.{ℕ, [], ◌∷◌, ◌==◌, List, Bool, true, codes, Option, Some, None, is_some, map}
-use Rattle.std.specs.Prelude.{if◌then◌else◌}
-use Rattle.broker_types.specs.Text.{Text}
+use Rattle.std.specs.Prelude.{◌∷◌, ◌==◌, if◌then◌else◌, ℕ, [], List, Bool, true, codes, Option, Some, None, is_some}
+use Rattle.broker_types.specs.Words.{map, Text}
 use Rattle.api_json.specs.Names.{◌⟼◌}
 use Rattle.api_json.specs.Printing.{quoted, whole_number, object_of, null_text, bool_text, or_null, time, time_or}
 use Rattle.api_json.specs.Printing.{texts, pairs, by_name}

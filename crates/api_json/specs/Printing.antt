@@ -1,11 +1,8 @@
 -- Objects and arrays as compact JSON text (RFC 8259, sections 4, 5 and 7), of parts that are JSON texts already.
-use Rattle.std.specs.Prelude.{ℕ, ◌==◌, ◌∷◌, ◌++◌, List, [], length, if◌then◌else◌, map, fold, Bool, true, false}
-use Rattle.std.specs.Prelude.{Option, Some, None, codes, decimal, unwrap_or}
+use Rattle.std.specs.Prelude.{◌==◌, ◌∷◌, ◌++◌, if◌then◌else◌, ℕ, List, [], length, map, fold, Bool, true, false, Option}
+use Rattle.broker_types.specs.Words.{Some, None, codes, decimal, unwrap_or, insert_entry, Text, text_cmp, time_text}
 use Rattle.serde_json.specs.Data.{string}
 use Rattle.serde_json.specs.Written.{compact_text}
-use Rattle.std.specs.BTreeMap.{insert_entry}
-use Rattle.broker_types.specs.Text.{Text, text_cmp}
-use Rattle.broker_types.specs.Time.{time_text}
 
 -- a text as JSON
 unfoldable pub quoted : Text → Text

@@ -1,15 +1,12 @@
 -- What the body of each route brings, member by member: the first bad member is refused (this profile's members).
-use Rattle.std.specs.Prelude.{ℕ, List, [], ◌∷◌, ◌==◌, ◌||◌, ◌&&◌, Bool, true, false, length, nat_le, codes}
-use Rattle.std.specs.Prelude.{Option, Some, None, unwrap_or, Result, Ok, Err, if◌then◌else◌}
-use Rattle.std.specs.List.{list_all}
+use Rattle.std.specs.Prelude.{◌∷◌, ◌==◌, ◌||◌, ◌&&◌, if◌then◌else◌, ℕ, List, [], Bool, true, false, length, nat_le, Ok}
+use Rattle.broker_types.specs.Words.{codes, Option, Some, None, unwrap_or, Result, Err, list_all, most_custom_metadata}
+use Rattle.broker_types.specs.Words.{longest_custom_name, longest_custom_value, Text, same, ◌>>=◌, some_or, unless}
 use Rattle.serde_json.specs.Data.{Members}
-use Rattle.broker_types.specs.Limits.{most_custom_metadata, longest_custom_name, longest_custom_value}
-use Rattle.broker_types.specs.Text.{Text, same}
 use Rattle.broker_types.specs.declared.refusal.Refusal.{Refusal}
 use Rattle.broker_types.specs.declared.refusal.Field.TheVariants as field
 use Rattle.broker_types.specs.declared.refusal.Refusal.TheVariants as refusal
 use Rattle.broker_types.specs.declared.refusal.Reason.TheVariants as reason
-use Rattle.broker_types.specs.Refuse.{◌>>=◌, some_or, unless}
 use Rattle.api_json.specs.Kinds as kind
 use Rattle.api_json.specs.Members.{optional, required, within, payload, invalid, missing}
 use Rattle.api_json.specs.declared.token_bodies.TokenCreation.{TokenCreation}

@@ -1,6 +1,6 @@
 -- The bodies of replies (Vault's documentation, "HTTP API").
-use Rattle.std.specs.Prelude.{ℕ, [], ◌∷◌, ◌++◌, List, true, false, Option, Some, None}
-use Rattle.broker_types.specs.Text.{Text}
+use Rattle.std.specs.Prelude.{◌∷◌, ◌++◌, ℕ, [], List, true, false, Option, Some, None}
+use Rattle.broker_types.specs.Words.{Text}
 use Rattle.broker_types.specs.declared.reply.Reply.{Reply}
 use Rattle.api_json.specs.Names.{◌⟼◌}
 use Rattle.api_json.specs.Printing.{object_of, quoted, whole_number, bool_text, or_null, null_text}

@@ -1,11 +1,7 @@
 -- Who asks, from one time in a request to another.
-use Rattle.std.specs.Prelude.{◌≡◌, Option, Some, None}
-use Rattle.std.proofs.Common.{sym, subst}
-use Rattle.broker_types.specs.Broker.{Broker}
-use Rattle.records.specs.Transaction.{Rows}
-use Rattle.broker_rows.specs.Caller.{Asker}
-use Rattle.broker_rows.specs.Context.{Context}
-use Rattle.broker_rows.specs.Representing.{Represents}
+use Rattle.std.proofs.Common.{◌≡◌, Option, Some, None, sym, subst}
+use Rattle.broker_model.specs.Words.{Broker, Rows}
+use Rattle.broker_rows.specs.Words.{Asker, Context, Represents}
 use Rattle.broker.specs.Askers.{BeginsFor, who_of}
 
 -- the rows that a command starts from represent the broker

@@ -1,24 +1,10 @@
 -- The routes to operations of engines lead to mounts that are there.
-use Rattle.std.specs.Prelude.{◌≡◌, if◌then◌else◌, Bool, true, false, not, Option, Some, None, Ok, codes}
-use Rattle.std.specs.List.{list_all}
-use Rattle.std.proofs.Common.{refl, sym, ◌∙◌, ap}
-use Rattle.std.proofs.lemmas.Bool.{false≢true}
-use Rattle.std.proofs.lemmas.Option.{none-some, same_Some}
-use Rattle.broker_types.specs.Broker.{Broker, Mount}
-use Rattle.broker_types.specs.Map.{get}
-use Rattle.broker_types.specs.Name.{is_mount_name}
-use Rattle.broker_types.specs.Sound.{SoundMounts}
-use Rattle.broker_types.specs.Text.{Text, same}
-use Rattle.broker_types.specs.declared.ask.Verb.{Verb}
-use Rattle.records.specs.Rows.{or_else}
-use Rattle.mounts.specs.Route.{Route, cut, route_of}
-use Rattle.mounts.specs.RouteRow.{RouteRow}
-use Rattle.mounts.specs.RouteTable.{route_rows}
-use Rattle.mounts.specs.Types.{fixed_type, type_at}
-use Rattle.mounts.specs.declared.mount_type.MountType.{MountType}
+use Rattle.std.proofs.Common.{◌≡◌, if◌then◌else◌, Bool, true, false, not, Option, Some, None, Ok, codes, refl, sym, ◌∙◌}
+use Rattle.broker_model.specs.Words.{list_all, ap, false≢true, none-some, same_Some, Broker, Mount, get, is_mount_name}
+use Rattle.broker_model.specs.Words.{SoundMounts, Text, same, Verb, or_else, Route, cut, route_of, RouteRow, route_rows}
+use Rattle.broker_model.specs.Words.{fixed_type, type_at, MountType, Operation}
 use Rattle.mounts.specs.declared.mount_type.MountType.TheVariants as mount
-use Rattle.mounts.specs.declared.operation.Operation.{Operation}
-use Rattle.broker_rows.specs.Operating.{is_of_engine}
+use Rattle.broker_rows.specs.Words.{is_of_engine}
 use Rattle.broker.proofs.RoutedBy.{routed_by}
 
 -- whether the mounts of a type are those of an engine

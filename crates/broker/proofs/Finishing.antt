@@ -1,16 +1,8 @@
 -- The end of a request: from what was served or refused to the outcome.
-use Rattle.std.specs.Prelude.{◌≡◌, Option, Some, None, Result, Ok, Err}
-use Rattle.std.proofs.Common.{◌∙◌, ap}
-use Rattle.broker_types.specs.Text.{Text}
-use Rattle.broker_types.specs.Answer.{response_of, refused}
-use Rattle.broker_types.specs.Broker.{Broker}
-use Rattle.broker_types.specs.Spending.{end_spent}
-use Rattle.broker_types.specs.declared.answer.Answer.{Answer}
-use Rattle.broker_types.specs.declared.refusal.Refusal.{Refusal}
-use Rattle.records.specs.Transaction.{Rows}
-use Rattle.broker_model.specs.Order.{Wrapped, finish, response_to}
-use Rattle.broker_rows.specs.Representing.{Represents, Gives}
-use Rattle.broker_rows.specs.Done.{answered_of, counted}
+use Rattle.std.proofs.Common.{◌≡◌, Option, Some, None, Result, Ok, Err, ◌∙◌, ap}
+use Rattle.broker_model.specs.Words.{Text, response_of, refused, Broker, end_spent, Answer, Refusal, Rows, Wrapped}
+use Rattle.broker_model.specs.Words.{finish, response_to}
+use Rattle.broker_rows.specs.Words.{Represents, Gives, answered_of, counted}
 use Rattle.broker_rows.specs.declared.answered.Answered.{Answered}
 use Rattle.broker.specs.Stages.{HasServed}
 

@@ -1,35 +1,13 @@
 -- A reply that is kept: its identifiers, its rows, and the broker that they represent.
-use Rattle.std.specs.Prelude.{◌≡◌, List, false, Option, None}
-use Rattle.std.specs.List.{list_any}
-use Rattle.std.proofs.Common.{sym, ◌∙◌, subst}
-use Rattle.broker_types.specs.Broker.{Broker, Waiting}
-use Rattle.broker_types.specs.Evolves.{IsNew}
-use Rattle.broker_types.specs.Map.{get}
-use Rattle.broker_types.specs.Names.{Names, names_of}
+use Rattle.std.proofs.Common.{◌≡◌, List, false, Option, None, sym, ◌∙◌, subst}
+use Rattle.broker_model.specs.Words.{list_any, Broker, Waiting, IsNew, get, Names, names_of, Done, IsSoundWaiting, Text}
+use Rattle.broker_model.specs.Words.{same, token_text, Reply, joined_rows, rows_of-other_waiting, Tells, KeepsOthers}
+use Rattle.broker_model.specs.Words.{of_waiting, used_row, rows_of, table_of, with_row, Rows, with_response}
+use Rattle.broker_model.specs.Words.{with_waiting, reply_text, wrap_reply, forms, WrappingKeepsSoundness, AreTwo}
+use Rattle.broker_model.specs.Words.{new_after, two_of, kept_entry, wrap, wrap_info}
 use Rattle.broker_types.specs.Operation as operation
-use Rattle.broker_types.specs.Operation.{Done}
-use Rattle.broker_types.specs.Sound.{IsSoundWaiting}
-use Rattle.broker_types.specs.Text.{Text, same}
-use Rattle.broker_types.specs.TokenText.{token_text}
-use Rattle.broker_types.specs.declared.reply.Reply.{Reply}
 use Rattle.records.specs.declared.kind.Kind.TheVariants as kind
-use Rattle.records.specs.PartLaws.{joined_rows, rows_of-other_waiting}
-use Rattle.records.specs.Parts.{Tells, KeepsOthers, of_waiting}
-use Rattle.records.specs.RowForms.{used_row}
-use Rattle.records.specs.Rows.{rows_of}
-use Rattle.records.specs.Table.{table_of, with_row}
-use Rattle.records.specs.Transaction.{Rows}
-use Rattle.wrapping.specs.WaitingRows.{with_response}
-use Rattle.wrapping.specs.Wrapping.{with_waiting}
-use Rattle.api_json.specs.Reply.{reply_text, wrap_reply}
-use Rattle.broker_model.specs.Forms.{forms}
-use Rattle.broker_model.specs.Laws.{WrappingKeepsSoundness}
-use Rattle.broker_model.specs.NewIdentifierLaws.{AreTwo, new_after, two_of}
-use Rattle.broker_model.specs.Order.{kept_entry, wrap, wrap_info}
-use Rattle.broker_rows.specs.Context.{Context}
-use Rattle.broker_rows.specs.Done.{answered_of, counted}
-use Rattle.broker_rows.specs.MarkLaws.{marks_joined}
-use Rattle.broker_rows.specs.Representing.{Represents}
+use Rattle.broker_rows.specs.Words.{Context, answered_of, counted, marks_joined, Represents}
 use Rattle.broker_rows.specs.declared.answered.Answered.{Answered}
 use Rattle.broker.specs.Stages.{IsServed}
 use Rattle.broker.specs.Wraps.{MayWrap, Wrapping, kept_in, waiting_from, with_kept}

@@ -1,19 +1,8 @@
 -- The identifiers that a command needs: its own, and those of a wrapping.
-use Rattle.std.specs.Prelude.{◌≡◌, if◌then◌else◌, List, ◌∷◌, drop, All, true}
-use Rattle.std.specs.Prelude.{⊤}
-use Rattle.std.proofs.Common.{sym, ◌∙◌, ap, subst}
-use Rattle.std.proofs.lemmas.List.Elements.{All-cons, All-head, All-tail}
-use Rattle.broker_types.specs.Map.{Map}
-use Rattle.broker_types.specs.Names.{Names}
-use Rattle.broker_types.specs.Sound.{IsIdentifier}
-use Rattle.broker_types.specs.Text.{Text}
-use Rattle.broker_types.specs.Used.{are_new}
-use Rattle.broker_types.specs.declared.ask.Ask.{Ask}
-use Rattle.broker_types.specs.UsedLaws.{rest_new}
-use Rattle.broker_model.specs.Command.{Command}
-use Rattle.broker_model.specs.ServedAsks.{is_wrapped, needed_by}
-use Rattle.broker_model.specs.Step.{traits}
-use Rattle.broker_rows.specs.Operating.{ArePrinted}
+use Rattle.std.proofs.Common.{◌≡◌, if◌then◌else◌, ◌∷◌, List, drop, All, true, sym, ◌∙◌, ap, subst}
+use Rattle.broker_model.specs.Words.{⊤, All-cons, All-head, All-tail, Map, Names, IsIdentifier, Text, are_new, Ask}
+use Rattle.broker_model.specs.Words.{rest_new, Command, is_wrapped, needed_by, traits}
+use Rattle.broker_rows.specs.Words.{ArePrinted}
 
 -- ---- what is wrapped
 

@@ -1,21 +1,9 @@
 -- From the rows of the caller and of its policies to what it may ask.
-use Rattle.std.specs.Prelude.{◌≡◌, Bool, false, List, Option, Some, None, option_map}
-use Rattle.std.specs.Option.{option_map_or}
-use Rattle.std.proofs.Common.{refl, sym, ◌∙◌, ap, subst}
-use Rattle.std.proofs.lemmas.Option.{none-some, same_Some}
-use Rattle.broker_types.specs.Broker.{Broker}
-use Rattle.broker_types.specs.Map.{get}
-use Rattle.broker_types.specs.Text.{Text}
-use Rattle.broker_types.specs.Token.{Token}
-use Rattle.broker_types.specs.declared.ask.Verb.{Verb}
-use Rattle.records.specs.TokenEntry.{TokenEntry, token_entry}
-use Rattle.records.specs.Transaction.{Rows}
-use Rattle.policies.specs.Grants.{rules_of}
-use Rattle.policies.specs.Rules.{Rules}
-use Rattle.policies.specs.declared.capability.Capability.{Capability}
+use Rattle.std.proofs.Common.{◌≡◌, Bool, false, List, Option, Some, None, option_map, refl, sym, ◌∙◌, ap, subst}
+use Rattle.broker_model.specs.Words.{option_map_or, none-some, same_Some, Broker, get, Text, Token, Verb, TokenEntry}
+use Rattle.broker_model.specs.Words.{token_entry, Rows, rules_of, Rules, Capability, may, permits}
 use Rattle.broker_model.specs.Capabilities as capabilities
-use Rattle.broker_model.specs.Permission.{may, permits}
-use Rattle.broker_rows.specs.Caller.{AreRulesAt, Caller, IsCallerOf}
+use Rattle.broker_rows.specs.Words.{AreRulesAt, Caller, IsCallerOf}
 
 -- ---- the policies
 

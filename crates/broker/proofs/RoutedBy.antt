@@ -1,24 +1,9 @@
 -- By which row of which table a path has its route.
-use Rattle.std.specs.Prelude.{◌≡◌, List, [], ◌∷◌, cond, Bool, true, false, Option, Some, Ok}
-use Rattle.std.specs.List.{find, list_all}
-use Rattle.std.proofs.Common.{sym, ◌∙◌, ap}
-use Rattle.std.proofs.lemmas.Bool.{and_parts}
-use Rattle.std.proofs.lemmas.Option.{none-some, same_Some}
-use Rattle.broker_types.specs.Broker.{Mount}
-use Rattle.broker_types.specs.OptionLaws.{mapped}
-use Rattle.broker_types.specs.Refuse.{some_or}
-use Rattle.broker_types.specs.RefuseLaws.{ok_step, some_ok}
-use Rattle.broker_types.specs.Text.{Text}
-use Rattle.broker_types.specs.declared.ask.Verb.{Verb}
+use Rattle.std.proofs.Common.{◌≡◌, ◌∷◌, List, [], cond, Bool, true, false, Option, Some, Ok, sym, ◌∙◌, ap}
+use Rattle.broker_model.specs.Words.{find, list_all, and_parts, none-some, same_Some, Mount, mapped, some_or, ok_step}
+use Rattle.broker_model.specs.Words.{some_ok, Text, Verb, ok_inj, pattern_found, is_row, Route, cut, methods_of}
+use Rattle.broker_model.specs.Words.{operation_for, route_at, RouteRow, route_rows, type_at, MountType, Operation}
 use Rattle.broker_types.specs.declared.refusal.Refusal.TheVariants as refusal
-use Rattle.records.specs.ValueLaws.{ok_inj}
-use Rattle.mounts.specs.Patterns.{pattern_found, is_row}
-use Rattle.mounts.specs.Route.{Route, cut, methods_of, operation_for, route_at}
-use Rattle.mounts.specs.RouteRow.{RouteRow}
-use Rattle.mounts.specs.RouteTable.{route_rows}
-use Rattle.mounts.specs.Types.{type_at}
-use Rattle.mounts.specs.declared.mount_type.MountType.{MountType}
-use Rattle.mounts.specs.declared.operation.Operation.{Operation}
 
 -- what passes in all elements passes in the one that is found
 found_passes : (p q : RouteRow → Bool) (rows : List RouteRow) (r : RouteRow) → list_all q rows ≡ true

@@ -1,54 +1,23 @@
 -- No operation takes a token's last use: where no token had spent it when a caller began to be served, none has then.
-use Rattle.std.specs.Prelude.{◌≡◌, ◌≢◌, ◌==◌, ◌||◌, ℕ, Bool, true, false, not, nat_lt, cond, is_some, if◌then◌else◌}
-use Rattle.std.specs.Prelude.{Option, Some, None, option_map, Result, Ok, Err}
-use Rattle.std.specs.Option.{option_map_or}
-use Rattle.std.proofs.Common.{refl, sym, ◌∙◌, ap, subst}
-use Rattle.std.proofs.lemmas.Bool.{eqb-true, true≢false}
-use Rattle.std.proofs.lemmas.Option.{none-some, same_Some}
-use Rattle.broker_types.specs.Broker.{Broker, revoke}
-use Rattle.broker_types.specs.EditLaws.{unspent_still}
-use Rattle.broker_types.specs.Map.{get}
-use Rattle.broker_types.specs.MapLaws.{get-put}
-use Rattle.broker_types.specs.Names.{Names, names_of}
-use Rattle.broker_types.specs.Operation.{Answered, nothing, reply, kept_text, missing, Done}
-use Rattle.broker_types.specs.Refuse.{unless}
-use Rattle.broker_types.specs.RefuseLaws.{ok_step}
-use Rattle.broker_types.specs.RemovalLaws.{revoke_orphan_sound, revoke_sound}
-use Rattle.broker_types.specs.Sound.{Sound, Unspent}
-use Rattle.broker_types.specs.Spending.{end_spent, is_spent}
-use Rattle.broker_types.specs.SpendingLaws.{end_spent_sound}
-use Rattle.broker_types.specs.Text.{Text, same}
-use Rattle.broker_types.specs.Token.{Token}
-use Rattle.broker_types.specs.TokenText.{token_text}
-use Rattle.broker_types.specs.Used.{are_new}
-use Rattle.broker_types.specs.declared.ask.Ask.{Ask}
+use Rattle.std.proofs.Common.{◌≡◌, ◌≢◌, ◌==◌, ◌||◌, if◌then◌else◌, ℕ, Bool, true, false, not, nat_lt, cond, is_some, Ok}
+use Rattle.broker_model.specs.Words.{Option, Some, None, option_map, Result, Err, option_map_or, refl, sym, ◌∙◌, ap}
+use Rattle.broker_model.specs.Words.{subst, eqb-true, true≢false, none-some, same_Some, Broker, revoke, unspent_still}
+use Rattle.broker_model.specs.Words.{get, get-put, Names, names_of, Answered, nothing, reply, kept_text, missing, Done}
+use Rattle.broker_model.specs.Words.{unless, ok_step, revoke_orphan_sound, revoke_sound, Sound, Unspent, end_spent}
+use Rattle.broker_model.specs.Words.{is_spent, end_spent_sound, Text, same, Token, token_text, are_new, Ask, Refusal}
+use Rattle.broker_model.specs.Words.{Words, TokenEntry, token_entry, Rows, ok_inj, TokenCreation, act, Command, Both}
+use Rattle.broker_model.specs.Words.{Does, IsFated, Stay, StaysAt, forms, OperationsDoAsTold, Wrapped, counted}
+use Rattle.broker_model.specs.Words.{permission_denied, unwrapped, wrap_200, permits, is_open, is_wrapped, needed_by}
+use Rattle.broker_model.specs.Words.{served, request_of, traits, Fate, make, orphan, renew, stay, is_privileged}
+use Rattle.broker_model.specs.Words.{making_path, may_make, new_parent, new_policies, new_token, use_limit, known}
+use Rattle.broker_model.specs.Words.{new_end}
 use Rattle.broker_types.specs.declared.refusal.Reason.TheVariants as reason
-use Rattle.broker_types.specs.declared.refusal.Refusal.{Refusal}
 use Rattle.broker_types.specs.declared.refusal.Refusal.TheVariants as refusal
-use Rattle.broker_types.specs.declared.words.Words.{Words}
-use Rattle.records.specs.TokenEntry.{TokenEntry, token_entry}
-use Rattle.records.specs.Transaction.{Rows}
-use Rattle.records.specs.ValueLaws.{ok_inj}
 use Rattle.token_tree.specs.Tokens as tree
-use Rattle.api_json.specs.declared.token_bodies.TokenCreation.{TokenCreation}
-use Rattle.broker_model.specs.Act.{act}
-use Rattle.broker_model.specs.Command.{Command}
-use Rattle.broker_model.specs.Effects.{Both, Does, IsFated, Stay, StaysAt}
-use Rattle.broker_model.specs.Forms.{forms}
-use Rattle.broker_model.specs.Laws.{OperationsDoAsTold}
-use Rattle.broker_model.specs.Order.{Wrapped, counted, permission_denied, unwrapped, wrap_200}
-use Rattle.broker_model.specs.Permission.{permits}
-use Rattle.broker_model.specs.ServedAsks.{is_open, is_wrapped, needed_by, served}
-use Rattle.broker_model.specs.Step.{request_of, traits}
-use Rattle.broker_model.specs.Traits.{Fate, make, orphan, renew, revoke as ends, stay}
+use Rattle.broker_model.specs.Traits.{revoke as ends}
 use Rattle.broker_model.specs.declared.making.Making.{Making}
-use Rattle.broker_model.specs.parts.TokenCreation.{is_privileged, making_path, may_make, new_parent, new_policies}
-use Rattle.broker_model.specs.parts.TokenCreation.{new_token, use_limit}
 use Rattle.broker_model.specs.parts.Tokens as tokens
-use Rattle.broker_model.specs.parts.Tokens.{known, new_end}
-use Rattle.broker_rows.specs.Caller.{Caller, IsCallerOf}
-use Rattle.broker_rows.specs.Ending.{has_no_uses}
-use Rattle.broker_rows.specs.Representing.{Represents}
+use Rattle.broker_rows.specs.Words.{Caller, IsCallerOf, has_no_uses, Represents}
 use Rattle.broker_rows.specs.declared.answered.Answered.{Answered as Given}
 use Rattle.broker.specs.Stages.{HasServed, may_be_spent}
 

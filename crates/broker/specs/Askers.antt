@@ -1,13 +1,6 @@
 -- Who asks: a caller that may, or nobody, for an open ask (this project's definition).
-use Rattle.std.specs.Prelude.{Option, Some, None, option_map}
-use Rattle.broker_types.specs.Broker.{Broker}
-use Rattle.broker_types.specs.Text.{Text}
-use Rattle.records.specs.Ranges.{IsTokenInRange}
-use Rattle.records.specs.RowReaders.{IsSomeIn}
-use Rattle.records.specs.Transaction.{Rows}
-use Rattle.broker_rows.specs.Caller.{Asker, AreItsRules}
-use Rattle.broker_rows.specs.Context.{Context}
-use Rattle.broker_rows.specs.Operating.{Begins, BeginsBy}
+use Rattle.broker_model.specs.Words.{Option, Some, None, option_map, Broker, Text, IsTokenInRange, IsSomeIn, Rows}
+use Rattle.broker_rows.specs.Words.{Asker, AreItsRules, Context, Begins, BeginsBy}
 
 -- the token of the caller, if there is one
 abbrev pub who_of : Option Asker → Option Text

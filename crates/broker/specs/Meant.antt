@@ -1,18 +1,15 @@
 -- What a command of the code means (this project's definition).
 use Rattle.std.specs.Prelude.{◌≡◌, true, ⊤}
-use Rattle.broker_types.specs.Name.{is_mount_name}
-use Rattle.broker_types.specs.Path.{is_path}
+use Rattle.broker_model.specs.Words.{is_mount_name, is_path, on_cubbyhole, on_token, on_secret, on_policy, on_mount}
+use Rattle.broker_model.specs.Words.{on_lease, on_issued, on_wrapping}
 use Rattle.broker_model.specs.Command as model
-use Rattle.broker_model.specs.Command.{on_cubbyhole, on_token, on_secret, on_policy, on_mount, on_lease, on_issued}
-use Rattle.broker_model.specs.Command.{on_wrapping}
-use Rattle.secret_operations.specs.InRange.{IsCubbyholeCommandInRange, IsSecretCommandInRange}
-use Rattle.secret_operations.specs.InRange.{IsIssuedCommandInRange}
+use Rattle.secret_operations.specs.InRange.{IsCubbyholeCommandInRange, IsSecretCommandInRange, IsIssuedCommandInRange}
 use Rattle.secret_operations.specs.Paths.{needs_path, needs_object_path}
 use Rattle.system_operations.specs.InRange.{IsPolicyCommandInRange}
 use Rattle.token_operations.specs.TokenRanges.{IsTokenCommandInRange}
 use Rattle.broker.specs.declared.command.Command.{Command}
-use Rattle.broker.specs.declared.command.Command.TheVariants.{OnCubbyhole, OnToken, OnSecret, OnPolicy}
-use Rattle.broker.specs.declared.command.Command.TheVariants.{OnMount, OnLease, OnIssued, OnWrapping}
+use Rattle.broker.specs.declared.command.Command.TheVariants.{OnCubbyhole, OnToken, OnSecret, OnPolicy, OnMount}
+use Rattle.broker.specs.declared.command.Command.TheVariants.{OnLease, OnIssued, OnWrapping}
 
 -- the command, in the words of the definition
 abbrev pub meant : Command → model.Command

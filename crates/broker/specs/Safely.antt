@@ -1,17 +1,7 @@
 -- What holds of every answer over a transaction, whatever is asked (this project's definition).
-use Rattle.std.specs.Prelude.{ℕ, None, Result, IfOk, IfErr}
-use Rattle.broker_types.specs.Answer.{HasRoom, response_of}
-use Rattle.broker_types.specs.Broker.{Broker}
-use Rattle.broker_types.specs.Fault.{IsMemoryOrStorage}
-use Rattle.broker_types.specs.declared.answer.Answer.{Answer}
-use Rattle.broker_types.specs.declared.ask.Ask.{Ask}
-use Rattle.broker_types.specs.declared.fault.Fault.{Fault}
-use Rattle.broker_types.specs.declared.words.Words.{Words}
-use Rattle.records.specs.Transaction.{Seen, IsHonest, GoesOn, is_storage}
-use Rattle.broker_model.specs.ListedResponses.{IsListed}
-use Rattle.broker_model.specs.Step.{step}
-use Rattle.broker_rows.specs.ClockRow.{NeedsClock}
-use Rattle.broker_rows.specs.Representing.{Gives, Represents}
+use Rattle.broker_model.specs.Words.{ℕ, None, Result, IfOk, IfErr, HasRoom, response_of, Broker, IsMemoryOrStorage}
+use Rattle.broker_model.specs.Words.{Answer, Ask, Fault, Words, Seen, IsHonest, GoesOn, is_storage, IsListed, step}
+use Rattle.broker_rows.specs.Words.{NeedsClock, Gives, Represents}
 
 -- P is what is known of the broker and of the request, among others that the rows represent the broker
 pub record AnswersSafely (old new : Seen) (P : Broker → Type 0) (result : Result Answer Fault) : Type 0 where

@@ -1,18 +1,9 @@
 -- What the steps of a request leave (this project's definition).
-use Rattle.std.specs.Prelude.{◌≡◌, Bool, if◌then◌else◌, Option, Some, None, Result, Ok, Err}
-use Rattle.broker_types.specs.Text.{Text}
-use Rattle.broker_types.specs.Broker.{Broker}
-use Rattle.broker_types.specs.RequestError.{EndsOk, EndsRefused}
-use Rattle.broker_types.specs.Spending.{spend}
-use Rattle.broker_types.specs.declared.refusal.Refusal.{Refusal}
-use Rattle.records.specs.Ranges.{IsTokenInRange}
-use Rattle.records.specs.RowReaders.{IsSomeIn}
-use Rattle.records.specs.Transaction.{Rows}
-use Rattle.broker_model.specs.Order.{Outcome, Wrapped, for_caller, denied}
-use Rattle.broker_rows.specs.Caller.{Caller, IsCallerOf}
-use Rattle.broker_rows.specs.Representing.{Represents}
+use Rattle.std.specs.Prelude.{◌≡◌, if◌then◌else◌, Bool, Option, Some, None, Result, Ok, Err}
+use Rattle.broker_model.specs.Words.{Text, Broker, EndsOk, EndsRefused, spend, Refusal, IsTokenInRange, IsSomeIn, Rows}
+use Rattle.broker_model.specs.Words.{Outcome, Wrapped, for_caller, denied}
+use Rattle.broker_rows.specs.Words.{Caller, IsCallerOf, Represents, IsDone}
 use Rattle.broker_rows.specs.declared.answered.Answered.{Answered}
-use Rattle.broker_rows.specs.Done.{IsDone}
 
 -- The client token is looked for. It is that of the caller, which has spent a use, and the rows represent a broker
 -- then; or there is no caller, and the ask is denied.

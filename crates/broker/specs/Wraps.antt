@@ -1,20 +1,9 @@
 -- When a reply may be wrapped, and which rows that puts (this project's definition).
 use Rattle.std.specs.Prelude.{◌≡◌, ◌<◌, ◌∷◌, ℕ, List, true}
-use Rattle.broker_types.specs.Broker.{Broker, Waiting}
-use Rattle.broker_types.specs.Names.{names_of}
-use Rattle.broker_types.specs.Operation.{reply, Done}
-use Rattle.broker_types.specs.Path.{is_path}
-use Rattle.broker_types.specs.Sound.{IsIdentifier}
-use Rattle.broker_types.specs.Text.{Text}
-use Rattle.broker_types.specs.Used.{are_new}
+use Rattle.broker_model.specs.Words.{Broker, Waiting, names_of, reply, Done, is_path, IsIdentifier, Text, are_new}
+use Rattle.broker_model.specs.Words.{used_row, Table, with_row, with_response, with_waiting, IsProper}
 use Rattle.records.specs.declared.kind.Kind.TheVariants as kind
-use Rattle.records.specs.RowForms.{used_row}
-use Rattle.records.specs.Table.{Table, with_row}
-use Rattle.wrapping.specs.WaitingRows.{with_response}
-use Rattle.wrapping.specs.Wrapping.{with_waiting}
-use Rattle.broker_model.specs.Order.{IsProper}
-use Rattle.broker_rows.specs.Context.{Context}
-use Rattle.broker_rows.specs.MarkLaws.{marked}
+use Rattle.broker_rows.specs.Words.{Context, marked}
 
 -- how the reply to a request is to be wrapped: the path of the request, how many seconds the response waits, and the
 -- identifiers of the wrapping token and of its accessor

@@ -1,20 +1,11 @@
 -- What commands on policies leave.
-use Rattle.std.specs.Prelude.{◌≡◌, Some, Ok}
-use Rattle.std.proofs.Common.{refl, subst}
-use Rattle.broker_types.specs.Broker.{Broker}
-use Rattle.broker_types.specs.Names.{Names}
-use Rattle.broker_types.specs.Operation.{Done}
-use Rattle.broker_types.specs.Refuse.{some_or}
-use Rattle.broker_types.specs.RefuseLaws.{ok_step}
-use Rattle.broker_types.specs.Text.{Text}
+use Rattle.std.proofs.Common.{◌≡◌, Some, Ok, refl, subst}
+use Rattle.broker_model.specs.Words.{Broker, Names, Done, some_or, ok_step, Text, ok_inj, on_policy, Does}
+use Rattle.broker_model.specs.Words.{act_on_policies}
 use Rattle.broker_types.specs.declared.refusal.Refusal.TheVariants as refusal
-use Rattle.records.specs.ValueLaws.{ok_inj}
 use Rattle.policies.specs.Policies as policies
-use Rattle.broker_model.specs.Command.{on_policy}
-use Rattle.broker_model.specs.Effects.{Does}
 use Rattle.broker_model.specs.declared.commands.PolicyCommand.{PolicyCommand}
 use Rattle.broker_model.specs.declared.commands.PolicyCommand.TheVariants as command
-use Rattle.broker_model.specs.parts.AclPolicies.{act_on_policies}
 use Rattle.broker_model.proofs.Operations.{leaves_policies, shown_does, silent_does}
 
 module _ (b : Broker) (c : Text) (names : Names) (name : Text) where

@@ -1,24 +1,12 @@
 -- What commands on cubbyholes leave.
-use Rattle.std.specs.Prelude.{◌≡◌, Some, Ok}
-use Rattle.std.proofs.Common.{refl, subst}
-use Rattle.broker_types.specs.Text.{Text}
-use Rattle.broker_types.specs.Map.{Map, put, without}
-use Rattle.broker_types.specs.Broker.{Broker}
-use Rattle.broker_types.specs.Names.{Names}
-use Rattle.broker_types.specs.Operation.{Done}
-use Rattle.broker_types.specs.Refuse.{some_or}
-use Rattle.broker_types.specs.RefuseLaws.{ok_step}
+use Rattle.std.proofs.Common.{◌≡◌, Some, Ok, refl, subst}
+use Rattle.broker_model.specs.Words.{Text, Map, put, without, Broker, Names, Done, some_or, ok_step, of_cubbyholes}
+use Rattle.broker_model.specs.Words.{ok_inj, on_cubbyhole, secrets_same, Does, act_on_cubbyhole}
 use Rattle.broker_types.specs.declared.refusal.Reason.TheVariants as reason
 use Rattle.broker_types.specs.declared.refusal.Refusal.TheVariants as refusal
-use Rattle.records.specs.Parts.{of_cubbyholes}
-use Rattle.records.specs.ValueLaws.{ok_inj}
 use Rattle.cubbyhole.specs.Cubbyhole as cubbyhole
-use Rattle.broker_model.specs.Command.{on_cubbyhole}
-use Rattle.broker_model.specs.EffectLaws.{secrets_same}
-use Rattle.broker_model.specs.Effects.{Does}
 use Rattle.broker_model.specs.declared.commands.CubbyholeCommand.{CubbyholeCommand}
 use Rattle.broker_model.specs.declared.commands.CubbyholeCommand.TheVariants as command
-use Rattle.broker_model.specs.parts.Cubbyholes.{act_on_cubbyhole}
 use Rattle.broker_model.proofs.Operations.{Leaves, listed_does, shown_does, silent_does}
 use Rattle.broker_model.proofs.Staying.{stay_cubbyhole}
 

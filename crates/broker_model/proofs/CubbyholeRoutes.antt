@@ -1,25 +1,12 @@
 -- The paths below `cubbyhole/` have the routes of cubbyholes.
-use Rattle.std.specs.Prelude.{◌≡◌, ◌≢◌, ◌++◌, [], ◌∷◌, Option, Some, Ok, Err, codes}
-use Rattle.std.proofs.Common.{refl, sym, ◌∙◌, ap}
-use Rattle.std.proofs.lemmas.Option.{none-some}
-use Rattle.broker_types.specs.Broker.{Mount}
-use Rattle.broker_types.specs.Refuse.{◌>>=◌, some_or}
-use Rattle.broker_types.specs.Text.{Text, same}
-use Rattle.broker_types.specs.declared.ask.Verb.{Verb}
+use Rattle.std.proofs.Common.{◌≡◌, ◌≢◌, ◌++◌, ◌∷◌, [], Option, Some, Ok, Err, codes, refl, sym, ◌∙◌, ap}
+use Rattle.broker_model.specs.Words.{none-some, Mount, ◌>>=◌, some_or, Text, same, Verb, Table, found_alone, AreInOrder}
+use Rattle.broker_model.specs.Words.{FoundByForm, NoneFoundByForm, IsKnownAt, pattern_found, cut, methods_of}
+use Rattle.broker_model.specs.Words.{operation_for, route_at, route_by, route_rows, CubbyholeOperation, Operation}
+use Rattle.broker_model.specs.Words.{Cubbyholes, MeansBelowCubbyhole, ListsTheWhole, AllowsListAlone, list_alone}
 use Rattle.broker_types.specs.declared.ask.Verb.TheVariants as verb
 use Rattle.broker_types.specs.declared.refusal.Refusal.TheVariants as refusal
-use Rattle.records.specs.Table.{Table}
-use Rattle.mounts.specs.FoundLaws.{found_alone}
-use Rattle.mounts.specs.Laws.{AreInOrder, FoundByForm, NoneFoundByForm}
-use Rattle.mounts.specs.MountRows.{IsKnownAt}
-use Rattle.mounts.specs.Patterns.{pattern_found}
-use Rattle.mounts.specs.Route.{cut, methods_of, operation_for, route_at, route_by}
-use Rattle.mounts.specs.RouteTable.{route_rows}
 use Rattle.mounts.specs.declared.mount_type.MountType.TheVariants as mount
-use Rattle.mounts.specs.declared.operation.CubbyholeOperation.{CubbyholeOperation}
-use Rattle.mounts.specs.declared.operation.Operation.{Operation}
-use Rattle.mounts.specs.declared.operation.Operation.TheVariants.{Cubbyholes}
-use Rattle.broker_model.specs.Laws.{MeansBelowCubbyhole, ListsTheWhole, AllowsListAlone, list_alone}
 
 module _ (found : FoundByForm) (none : NoneFoundByForm) where
   -- ---- the routes of cubbyholes

@@ -1,28 +1,11 @@
 -- Wrapping, computed on a small broker; and which paths ask for `sudo`.
-use Rattle.std.specs.Prelude.{◌≡◌, [], ◌∷◌, None, Some, true, false, codes}
-use Rattle.std.specs.Fmt.{digits}
-use Rattle.std.proofs.Common.{refl}
+use Rattle.std.proofs.Common.{◌≡◌, ◌∷◌, [], None, Some, true, false, codes, refl}
+use Rattle.broker_model.specs.Words.{digits, same, get, get-put, Broker, Waiting, first_broker, Names, nothing, reply}
+use Rattle.broker_model.specs.Words.{plainly, civil, day_from_year, day_from_month, Ask, Reply, asks_sudo, name_text}
+use Rattle.broker_model.specs.Words.{wrap_object, reply_text, act, Command, wrap_info, wraps, wrap_200, Wrapped}
+use Rattle.broker_model.specs.Words.{unwrapped, permits, request_of, traits, unwrapped_ask}
 use Rattle.json.specs.Print.{escape_byte}
-use Rattle.broker_types.specs.Text.{same}
-use Rattle.broker_types.specs.Map.{get}
-use Rattle.broker_types.specs.MapLaws.{get-put}
-use Rattle.broker_types.specs.Broker.{Broker, Waiting}
-use Rattle.broker_types.specs.First.{first_broker}
-use Rattle.broker_types.specs.Names.{Names}
-use Rattle.broker_types.specs.Operation.{nothing, reply, plainly}
-use Rattle.broker_types.specs.Time.{civil, day_from_year, day_from_month}
-use Rattle.broker_types.specs.declared.ask.Ask.{Ask}
-use Rattle.broker_types.specs.declared.reply.Reply.{Reply}
-use Rattle.mounts.specs.Route.{asks_sudo}
-use Rattle.api_json.specs.Names.{name_text}
-use Rattle.api_json.specs.Objects.{wrap_object}
 use Rattle.api_json.specs.Printing as printing
-use Rattle.api_json.specs.Reply.{reply_text}
-use Rattle.broker_model.specs.Act.{act}
-use Rattle.broker_model.specs.Command.{Command}
-use Rattle.broker_model.specs.Order.{wrap_info, wraps, wrap_200, Wrapped, unwrapped}
-use Rattle.broker_model.specs.Permission.{permits}
-use Rattle.broker_model.specs.Step.{request_of, traits, unwrapped_ask}
 
 abbrev broker : Broker
 broker = first_broker 100 1 2

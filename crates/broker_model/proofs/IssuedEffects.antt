@@ -1,38 +1,17 @@
 -- What commands on roles and credentials leave: what is issued has its own identifiers, the others give out none.
-use Rattle.std.specs.Prelude.{◌≡◌, ◌⊎◌, ◌++◌, ◌∷◌, ◌+◌, ◌-◌, Bool, true, false, [], drop, length, not, codes, Some, Ok}
-use Rattle.std.specs.Prelude.{if◌then◌else◌}
-use Rattle.std.specs.List.{list_any}
-use Rattle.std.proofs.Common.{refl, sym, ◌∙◌, ap, subst, inl, inr, length-append}
-use Rattle.std.proofs.Math.Nat.{add-sub_cancel}
-use Rattle.std.proofs.Math.Seq.{drop-append_seam}
-use Rattle.broker_types.specs.Broker.{Broker, Role}
-use Rattle.broker_types.specs.Map.{get, put, without}
-use Rattle.broker_types.specs.Names.{Names}
-use Rattle.broker_types.specs.Name.{is_name}
-use Rattle.broker_types.specs.Operation.{nothing, plainly, Done}
-use Rattle.broker_types.specs.IdentifierPlaces.{lease_identifier}
-use Rattle.broker_types.specs.PutLaws.{put_is}
-use Rattle.broker_types.specs.Refuse.{some_or, unless}
-use Rattle.broker_types.specs.RefuseLaws.{ok_step}
-use Rattle.broker_types.specs.Text.{Text, same}
-use Rattle.broker_types.specs.TextLaws.{same_true}
-use Rattle.broker_types.specs.Token.{Token, Lease}
+use Rattle.std.proofs.Common.{◌≡◌, ◌⊎◌, ◌++◌, ◌∷◌, ◌+◌, ◌-◌, if◌then◌else◌, Bool, true, false, [], drop, length, not}
+use Rattle.broker_model.specs.Words.{codes, Some, Ok, list_any, refl, sym, ◌∙◌, ap, subst, inl, inr, length-append}
+use Rattle.broker_model.specs.Words.{add-sub_cancel, drop-append_seam, Broker, Role, get, put, without, Names, is_name}
+use Rattle.broker_model.specs.Words.{nothing, plainly, Done, lease_identifier, put_is, some_or, unless, ok_step, Text}
+use Rattle.broker_model.specs.Words.{same, same_true, Token, Lease, RoleSettings, ok_inj, Issued, lease_id, new_lease}
+use Rattle.broker_model.specs.Words.{is_last_use, on_issued, secrets_same, Does, IsNewTo, Stay, first_in, later_in}
+use Rattle.broker_model.specs.Words.{lease_names, act_on_issued, issued_reply, of_issued, set_role, Place}
 use Rattle.broker_types.specs.declared.refusal.Refusal.TheVariants as refusal
 use Rattle.broker_types.specs.declared.refusal.Reason.TheVariants as reason
-use Rattle.api_json.specs.declared.issued_bodies.RoleSettings.{RoleSettings}
-use Rattle.records.specs.ValueLaws.{ok_inj}
 use Rattle.leases.specs.Leases as leases
 use Rattle.leases.specs.Roles as roles
-use Rattle.leases.specs.Roles.{Issued, lease_id, new_lease, is_last_use}
-use Rattle.broker_model.specs.Command.{on_issued}
-use Rattle.broker_model.specs.EffectLaws.{secrets_same}
-use Rattle.broker_model.specs.Effects.{Does, IsNewTo, Stay}
-use Rattle.broker_model.specs.NewIdentifierLaws.{first_in, later_in}
-use Rattle.broker_model.specs.Traits.{lease_names}
 use Rattle.broker_model.specs.declared.commands.IssuedCommand.{IssuedCommand}
 use Rattle.broker_model.specs.declared.commands.IssuedCommand.TheVariants as command
-use Rattle.broker_model.specs.parts.Issued.{act_on_issued, issued_reply, of_issued, set_role}
-use Rattle.broker_model.specs.parts.Place.{Place}
 use Rattle.broker_model.proofs.Operations.{leaves_roles, shown_does, silent_does}
 use Rattle.broker_model.proofs.Staying.{stay_edited}
 

@@ -1,26 +1,11 @@
 -- What commands on leases leave.
-use Rattle.std.specs.Prelude.{◌≡◌, ◌-◌, ℕ, Bool, true, false, not, None, Some, Ok, if◌then◌else◌}
-use Rattle.std.proofs.Common.{refl, sym, ◌∙◌, ap, subst}
-use Rattle.broker_types.specs.Text.{Text, same}
-use Rattle.broker_types.specs.Map.{Map, get, change, keep, without}
-use Rattle.broker_types.specs.MapLaws.{get-change, without_is}
-use Rattle.broker_types.specs.Token.{Lease}
-use Rattle.broker_types.specs.Broker.{Broker}
-use Rattle.broker_types.specs.Names.{Names}
-use Rattle.broker_types.specs.Operation.{reply, plainly, Done}
-use Rattle.broker_types.specs.OptionLaws.{mapped}
-use Rattle.broker_types.specs.RefuseLaws.{ok_step}
-use Rattle.broker_types.specs.SearchLaws.{kept_get}
-use Rattle.api_json.specs.Reply.{lease_reply}
-use Rattle.records.specs.Parts.{of_leases}
-use Rattle.records.specs.ValueLaws.{ok_inj}
+use Rattle.std.proofs.Common.{◌≡◌, ◌-◌, if◌then◌else◌, ℕ, Bool, true, false, not, None, Some, Ok, refl, sym, ◌∙◌, ap}
+use Rattle.broker_model.specs.Words.{subst, Text, same, Map, get, change, keep, without, get-change, without_is, Lease}
+use Rattle.broker_model.specs.Words.{Broker, Names, reply, plainly, Done, mapped, ok_step, kept_get, lease_reply}
+use Rattle.broker_model.specs.Words.{of_leases, ok_inj, on_lease, secrets_same, Does, act_on_leases}
 use Rattle.leases.specs.Leases as leases
-use Rattle.broker_model.specs.Command.{on_lease}
-use Rattle.broker_model.specs.EffectLaws.{secrets_same}
-use Rattle.broker_model.specs.Effects.{Does}
 use Rattle.broker_model.specs.declared.commands.LeaseCommand.{LeaseCommand}
 use Rattle.broker_model.specs.declared.commands.LeaseCommand.TheVariants as command
-use Rattle.broker_model.specs.parts.Leases.{act_on_leases}
 use Rattle.broker_model.proofs.Operations.{Leaves, shown_does, silent_does, told_does}
 use Rattle.broker_model.proofs.Staying.{stay_leases}
 

@@ -1,22 +1,11 @@
 -- What commands on mounts leave.
-use Rattle.std.specs.Prelude.{◌≡◌, Bool, true, false, not, is_some, nat_eq, [], Some, Ok, if◌then◌else◌}
-use Rattle.std.specs.List.{starts_with}
-use Rattle.std.proofs.Common.{refl, subst}
-use Rattle.broker_types.specs.Broker.{Broker, Mount}
-use Rattle.broker_types.specs.Map.{Map, get, keep}
-use Rattle.broker_types.specs.Names.{Names}
-use Rattle.broker_types.specs.Operation.{nothing, plainly, Done}
-use Rattle.broker_types.specs.RefuseLaws.{ok_step}
-use Rattle.broker_types.specs.Text.{Text}
-use Rattle.records.specs.ValueLaws.{ok_inj}
-use Rattle.kv2.specs.Secrets.{secret_name}
+use Rattle.std.proofs.Common.{◌≡◌, if◌then◌else◌, Bool, true, false, not, is_some, nat_eq, [], Some, Ok, refl, subst}
+use Rattle.broker_model.specs.Words.{starts_with, Broker, Mount, Map, get, keep, Names, nothing, plainly, Done, ok_step}
+use Rattle.broker_model.specs.Words.{Text, ok_inj, secret_name, enabled, disabled, on_mount, Does, act_on_mounts}
+use Rattle.broker_model.specs.Words.{of_mounts_and_kept, without_kept}
 use Rattle.leases.specs.Leases as leases
-use Rattle.mounts.specs.Mounts.{enabled, disabled}
-use Rattle.broker_model.specs.Command.{on_mount}
-use Rattle.broker_model.specs.Effects.{Does}
 use Rattle.broker_model.specs.declared.commands.MountCommand.{MountCommand}
 use Rattle.broker_model.specs.declared.commands.MountCommand.TheVariants as command
-use Rattle.broker_model.specs.parts.Mounts.{act_on_mounts, of_mounts_and_kept, without_kept}
 use Rattle.broker_model.proofs.LeaseEffects.{under_out}
 use Rattle.broker_model.proofs.Operations.{Leaves, leaves_mounts, leaves_self, shown_does, silent_does}
 use Rattle.broker_model.proofs.Staying.{stay_leases}

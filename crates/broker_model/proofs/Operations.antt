@@ -1,24 +1,10 @@
 -- What operations leave that give out no identifier and hand out nothing, by the kind of their effect.
-use Rattle.std.specs.Prelude.{◌≡◌, List, [], not, Option, Some, None, Ok}
-use Rattle.std.proofs.Common.{refl, sym, ◌∙◌, ap, subst, inl}
-use Rattle.broker_types.specs.Text.{Text}
-use Rattle.broker_types.specs.Map.{Map, get}
-use Rattle.broker_types.specs.Broker.{Broker, Mount, Role, Waiting}
-use Rattle.broker_types.specs.Names.{Names}
-use Rattle.broker_types.specs.Operation.{reply, missing, nothing, plainly, Done}
-use Rattle.broker_types.specs.Refuse.{unless}
-use Rattle.broker_types.specs.RefuseLaws.{ok_step}
-use Rattle.broker_types.specs.Secret.{Key}
+use Rattle.std.proofs.Common.{◌≡◌, List, [], not, Option, Some, None, Ok, refl, sym, ◌∙◌, ap, subst, inl}
+use Rattle.broker_model.specs.Words.{Text, Map, get, Broker, Mount, Role, Waiting, Names, reply, missing, nothing}
+use Rattle.broker_model.specs.Words.{plainly, Done, unless, ok_step, Key, Reply, Part, of_mounts, of_policies, of_roles}
+use Rattle.broker_model.specs.Words.{of_secrets, ok_inj, Command, secrets_same, AllGiven, Does, IsFated, KeepsMaps}
+use Rattle.broker_model.specs.Words.{SecretsStay, Stay, traits, Fate, stay, are_none, list_reply, listed}
 use Rattle.broker_types.specs.declared.refusal.Refusal.TheVariants as refusal
-use Rattle.broker_types.specs.declared.reply.Reply.{Reply}
-use Rattle.records.specs.Parts.{Part, of_mounts, of_policies, of_roles, of_secrets}
-use Rattle.records.specs.ValueLaws.{ok_inj}
-use Rattle.broker_model.specs.Command.{Command}
-use Rattle.broker_model.specs.EffectLaws.{secrets_same}
-use Rattle.broker_model.specs.Effects.{AllGiven, Does, IsFated, KeepsMaps, SecretsStay, Stay}
-use Rattle.broker_model.specs.Step.{traits}
-use Rattle.broker_model.specs.Traits.{Fate, stay}
-use Rattle.broker_model.specs.parts.Lists.{are_none, list_reply, listed}
 use Rattle.broker_model.proofs.Staying.{keeps_self, stay_same}
 
 -- ---- brokers that follow

@@ -1,33 +1,18 @@
 -- What commands on secrets leave.
-use Rattle.std.specs.Prelude.{◌≡◌, ℕ, ◌∷◌, [], true, false, None, Some, is_some, if◌then◌else◌, Ok}
-use Rattle.std.proofs.Common.{refl, sym, subst}
-use Rattle.broker_types.specs.Broker.{Broker}
-use Rattle.broker_types.specs.Names.{Names}
-use Rattle.broker_types.specs.Operation.{reply, missing, Done, plainly}
-use Rattle.broker_types.specs.Refuse.{some_or}
-use Rattle.broker_types.specs.RefuseLaws.{ok_step}
-use Rattle.broker_types.specs.Text.{Text}
+use Rattle.std.proofs.Common.{◌≡◌, ◌∷◌, if◌then◌else◌, ℕ, [], true, false, None, Some, is_some, Ok, refl, sym, subst}
+use Rattle.broker_model.specs.Words.{Broker, Names, reply, missing, Done, plainly, some_or, ok_step, Text, SecretWrite}
+use Rattle.broker_model.specs.Words.{of_secrets, ok_inj, Written, secret_name, write_is, Found, destroyed, restored}
+use Rattle.broker_model.specs.Words.{soft_deleted, with_changed, on_secret, AllGiven, Does, SecretsStay, Place}
+use Rattle.broker_model.specs.Words.{object_left, version_reply, version_answered, written_reply, act_on_secrets}
+use Rattle.broker_model.specs.Words.{given_settings}
 use Rattle.broker_types.specs.declared.refusal.Refusal.TheVariants as refusal
-use Rattle.api_json.specs.declared.secret_bodies.SecretWrite.{SecretWrite}
-use Rattle.records.specs.Parts.{of_secrets}
-use Rattle.records.specs.ValueLaws.{ok_inj}
 use Rattle.kv2.specs.Secrets as secrets
-use Rattle.kv2.specs.Secrets.{Written, secret_name}
-use Rattle.kv2.specs.SoundLaws.{write_is}
-use Rattle.kv2.specs.Versions.{Found, destroyed, restored, soft_deleted, with_changed}
-use Rattle.broker_model.specs.Command.{on_secret}
-use Rattle.broker_model.specs.Effects.{AllGiven, Does, SecretsStay}
 use Rattle.broker_model.specs.declared.commands.SecretCommand.{SecretCommand}
 use Rattle.broker_model.specs.declared.commands.SecretCommand.TheVariants as command
-use Rattle.broker_model.specs.parts.Place.{Place}
-use Rattle.broker_model.specs.parts.SecretReplies.{object_left, version_reply, version_answered, written_reply}
-use Rattle.broker_model.specs.parts.Secrets.{act_on_secrets, given_settings}
 use Rattle.broker_model.proofs.Operations.{Leaves, leaves_mounts, leaves_secrets, listed_does, missing_does, shown_does}
-use Rattle.broker_model.proofs.Operations.{silent_does}
-use Rattle.broker_model.proofs.Operations.{told_does}
+use Rattle.broker_model.proofs.Operations.{silent_does, told_does}
 use Rattle.broker_model.proofs.VersionsStay.{all_but, changed_stay, destroyed_holds, metadata_stays, one_changed}
-use Rattle.broker_model.proofs.VersionsStay.{restored_holds}
-use Rattle.broker_model.proofs.VersionsStay.{soft_holds, write_stays}
+use Rattle.broker_model.proofs.VersionsStay.{restored_holds, soft_holds, write_stays}
 
 module _ (b : Broker) (c : Text) (names : Names) (p : Place) where
   abbrev DoesIt : SecretCommand → Done → Type 0

@@ -1,22 +1,11 @@
 -- Maps and tokens that stay as they are, or change by an edit.
-use Rattle.std.specs.Prelude.{◌≡◌, ◌⊎◌, ◌||◌, List, [], Bool, true, false, Option, Some, None, option_map}
-use Rattle.std.specs.Prelude.{option_and_then}
-use Rattle.std.specs.Prelude.{if◌then◌else◌}
-use Rattle.std.proofs.Common.{refl, sym, ◌∙◌, ap, subst, inl, inr}
-use Rattle.broker_types.specs.Text.{Text, same}
-use Rattle.broker_types.specs.TextLaws.{same_true}
-use Rattle.broker_types.specs.Map.{Map, get, map_values}
-use Rattle.broker_types.specs.MapLaws.{get-map_values, valued_is}
-use Rattle.broker_types.specs.Token.{Token, Tokens, Lease}
-use Rattle.broker_types.specs.Broker.{Broker}
-use Rattle.broker_types.specs.IdentifierPlaces.{lease_of}
-use Rattle.records.specs.Parts.{Part}
+use Rattle.std.proofs.Common.{◌≡◌, ◌⊎◌, ◌||◌, if◌then◌else◌, List, [], Bool, true, false, Option, Some, None, refl, sym}
+use Rattle.broker_model.specs.Words.{option_map, option_and_then, ◌∙◌, ap, subst, inl, inr, Text, same, same_true, Map}
+use Rattle.broker_model.specs.Words.{get, map_values, get-map_values, valued_is, Token, Tokens, Lease, Broker, lease_of}
+use Rattle.broker_model.specs.Words.{Part, chained, Both, IsNewTo, KeepsMaps, SameUnless, Stay, StaysAt, may_change}
 use Rattle.records.specs.declared.kind.Kind.TheVariants as kind
 use Rattle.cubbyhole.specs.Cubbyhole as cubbyhole
 use Rattle.leases.specs.Leases as leases
-use Rattle.broker_model.specs.EffectLaws.{chained}
-use Rattle.broker_model.specs.Effects.{Both, IsNewTo, KeepsMaps, SameUnless, Stay, StaysAt}
-use Rattle.broker_model.specs.Traits.{may_change}
 
 -- ---- maps
 

@@ -1,34 +1,17 @@
 -- What commands on tokens leave.
-use Rattle.std.specs.Prelude.{◌≡◌, ℕ, [], is_some, Option, Some, None, Ok}
-use Rattle.std.proofs.Common.{refl, sym, ap, subst, inl, inr}
-use Rattle.broker_types.specs.Text.{Text}
-use Rattle.broker_types.specs.Map.{Map, get}
-use Rattle.broker_types.specs.MapLaws.{without_is}
+use Rattle.std.proofs.Common.{◌≡◌, ℕ, [], is_some, Option, Some, None, Ok, refl, sym, ap, subst, inl, inr}
+use Rattle.broker_model.specs.Words.{Text, Map, get, without_is, Broker, Waiting, Names, Done, nothing, plainly}
+use Rattle.broker_model.specs.Words.{some_or, unless, ok_step, drop_waiting, TokenCreation, Part, of_tokens}
+use Rattle.broker_model.specs.Words.{token_entry, ok_inj, on_token, secrets_same, Does, IsFated, KeepsMaps, by_accessor}
+use Rattle.broker_model.specs.Words.{stay, text_named, Making, of_ended, token_changes, token_fate, is_privileged}
+use Rattle.broker_model.specs.Words.{making_path, may_make, new_policies, act_on_tokens, create, holder, known, look_up}
+use Rattle.broker_model.specs.Words.{named, new_end, renew_token, revoke_token, revoke_alone}
 use Rattle.broker_types.specs.Broker as broker
-use Rattle.broker_types.specs.Broker.{Broker, Waiting}
-use Rattle.broker_types.specs.Names.{Names}
-use Rattle.broker_types.specs.Operation.{Done, nothing, plainly}
-use Rattle.broker_types.specs.Refuse.{some_or, unless}
-use Rattle.broker_types.specs.RefuseLaws.{ok_step}
-use Rattle.broker_types.specs.Spending.{drop_waiting}
 use Rattle.broker_types.specs.declared.refusal.Refusal.TheVariants as refusal
 use Rattle.broker_types.specs.declared.refusal.Reason.TheVariants as reason
-use Rattle.api_json.specs.declared.token_bodies.TokenCreation.{TokenCreation}
-use Rattle.records.specs.Parts.{Part, of_tokens}
-use Rattle.records.specs.TokenEntry.{token_entry}
-use Rattle.records.specs.ValueLaws.{ok_inj}
 use Rattle.token_tree.specs.Tokens as tree
-use Rattle.broker_model.specs.Command.{on_token}
-use Rattle.broker_model.specs.EffectLaws.{secrets_same}
-use Rattle.broker_model.specs.Effects.{Does, IsFated, KeepsMaps}
-use Rattle.broker_model.specs.Traits.{by_accessor, stay, text_named}
 use Rattle.broker_model.specs.declared.commands.TokenCommand.{TokenCommand}
 use Rattle.broker_model.specs.declared.commands.TokenCommand.TheVariants as command
-use Rattle.broker_model.specs.declared.making.Making.{Making}
-use Rattle.broker_model.specs.parts.TokenCommands.{of_ended, token_changes, token_fate}
-use Rattle.broker_model.specs.parts.TokenCreation.{is_privileged, making_path, may_make, new_policies}
-use Rattle.broker_model.specs.parts.Tokens.{act_on_tokens, create, holder, known, look_up, named, new_end, renew_token}
-use Rattle.broker_model.specs.parts.Tokens.{revoke_token, revoke_alone}
 use Rattle.broker_model.proofs.Operations.{shown_does}
 
 -- the text that an accessor names, if it names one

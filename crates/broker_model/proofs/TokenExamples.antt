@@ -1,52 +1,25 @@
 -- The part of tokens, computed.
-use Rattle.std.specs.Prelude.{◌≡◌, ◌++◌, ℕ, List, [], ◌∷◌, Bool, true, false, Option, Some, None, Ok, Err, codes, map}
-use Rattle.std.specs.Prelude.{⊤}
-use Rattle.std.specs.Cmp.Lexicographic.{nat_list_cmp_total}
-use Rattle.std.specs.Fmt.{digits}
+use Rattle.std.proofs.Common.{◌≡◌, ◌++◌, ◌∷◌, ℕ, List, [], Bool, true, false, Option, Some, None, Ok, Err, codes, map}
+use Rattle.broker_model.specs.Words.{⊤, nat_list_cmp_total, digits, entries-insert, refl, ◌∙◌, ap, Text, text_cmp, same}
+use Rattle.broker_model.specs.Words.{get, empty, entries, keys, entries-empty, get-put_self, ParentsExist, root_token}
+use Rattle.broker_model.specs.Words.{first_broker, id, token_text, Token, Broker, Names, drop_waiting, nothing, plainly}
+use Rattle.broker_model.specs.Words.{civil, day_from_year, day_from_month, revoke_unknown, orphan_unknown, Reason}
+use Rattle.broker_model.specs.Words.{set_of, token_entry, optional, name_text, reply_text, TokenCreation, allows}
+use Rattle.broker_model.specs.Words.{rules_of, Making, new_token, new_policies, may_make, seconds_left, looked_up}
+use Rattle.broker_model.specs.Words.{auth_reply, token_command, drop_unknown, act_on_tokens, made, look_up, new_end}
+use Rattle.broker_model.specs.Words.{revoke_token, revoke_alone}
 use Rattle.std.specs.FinMap as fin
-use Rattle.std.specs.FinMap.{entries-insert}
-use Rattle.std.proofs.Common.{refl, ◌∙◌, ap}
 use Rattle.json.specs.Print.{escape_byte}
-use Rattle.broker_types.specs.Text.{Text, text_cmp, same}
-use Rattle.broker_types.specs.Map.{get, empty, entries, keys}
-use Rattle.broker_types.specs.MapLaws.{entries-empty, get-put_self}
-use Rattle.broker_types.specs.Lineage.{ParentsExist}
-use Rattle.broker_types.specs.First.{root_token, first_broker}
-use Rattle.broker_types.specs.Identifier.{id}
-use Rattle.broker_types.specs.TokenText.{token_text}
-use Rattle.broker_types.specs.Token.{Token}
-use Rattle.broker_types.specs.Broker.{Broker}
-use Rattle.broker_types.specs.Names.{Names}
-use Rattle.broker_types.specs.Spending.{drop_waiting}
-use Rattle.broker_types.specs.Operation.{nothing, plainly}
-use Rattle.broker_types.specs.Time.{civil, day_from_year, day_from_month}
-use Rattle.broker_types.specs.LineageLaws.{revoke_unknown}
-use Rattle.broker_types.specs.TreeLaws.{orphan_unknown}
 use Rattle.broker_types.specs.declared.refusal.Refusal.TheVariants as refusal
-use Rattle.broker_types.specs.declared.refusal.Reason.{Reason}
 use Rattle.broker_types.specs.declared.refusal.Reason.TheVariants as reason
 use Rattle.broker_types.specs.declared.refusal.Denial.TheVariants as denial
-use Rattle.records.specs.Children.{set_of}
-use Rattle.records.specs.TokenEntry.{token_entry}
 use Rattle.broker_types.specs.declared.refusal.Field.TheVariants as field
-use Rattle.api_json.specs.Members.{optional}
 use Rattle.api_json.specs.Readers as reader
-use Rattle.api_json.specs.Names.{name_text}
 use Rattle.api_json.specs.Objects as object
 use Rattle.api_json.specs.Printing as printing
-use Rattle.api_json.specs.Reply.{reply_text}
-use Rattle.api_json.specs.declared.token_bodies.TokenCreation.{TokenCreation}
-use Rattle.policies.specs.Allows.{allows}
-use Rattle.policies.specs.Grants.{rules_of}
-use Rattle.broker_model.specs.declared.making.Making.{Making}
 use Rattle.broker_model.specs.declared.making.Making.TheVariants.{OfCaller, WithoutParent}
-use Rattle.broker_model.specs.parts.TokenCreation.{new_token, new_policies, may_make}
-use Rattle.broker_model.specs.parts.TokenReplies.{seconds_left, looked_up, auth_reply}
 use Rattle.mounts.specs.declared.operation.TokenOperation.TheVariants as operation
 use Rattle.broker_model.specs.declared.commands.TokenCommand.TheVariants as command
-use Rattle.broker_model.specs.parts.TokenCommands.{token_command}
-use Rattle.wrapping.specs.ResponseLaws.{drop_unknown}
-use Rattle.broker_model.specs.parts.Tokens.{act_on_tokens, made, look_up, new_end, revoke_token, revoke_alone}
 
 -- ---- times
 

@@ -1,27 +1,14 @@
 -- Why the versions of each secret stay so, by what changes it.
-use Rattle.std.specs.Prelude.{◌≡◌, ◌≢◌, ◌<◌, ◌⊎◌, ◌+◌, ◌-◌, ◌==◌, ℕ, List, Bool, true, false, cond, nat_lt}
-use Rattle.std.specs.Prelude.{is_none, if◌then◌else◌, Option, Some, None, Ok, option_map}
+use Rattle.std.proofs.Common.{◌≡◌, ◌≢◌, ◌<◌, ◌⊎◌, ◌+◌, ◌-◌, ◌==◌, if◌then◌else◌, ℕ, List, Bool, true, false, cond, Some}
+use Rattle.broker_model.specs.Words.{nat_lt, is_none, Option, None, Ok, option_map, refl, sym, ◌∙◌, ap, subst, inl, inr}
+use Rattle.broker_model.specs.Words.{arith, eqb-true, none-some, same_Some, Text, same, Map, get, keep, change, without}
+use Rattle.broker_model.specs.Words.{valued_is, without_is, put_is, Broker, mapped, kept_get, Key, Version, Written}
+use Rattle.broker_model.specs.Words.{secret_name, write_is, get-change_versions, next_versions, Settings, described}
+use Rattle.broker_model.specs.Words.{destroyed, is_among, key_or_new, new_version, restored, soft_deleted}
+use Rattle.broker_model.specs.Words.{versions_kept, with_changed, with_version, it_stays, versions_self, AllGiven}
+use Rattle.broker_model.specs.Words.{AreGiven, SecretsStay, VersionsStay}
 use Rattle.std.specs.FinMap as fin
-use Rattle.std.proofs.Common.{refl, sym, ◌∙◌, ap, subst, inl, inr, arith}
-use Rattle.std.proofs.lemmas.Bool.{eqb-true}
-use Rattle.std.proofs.lemmas.Option.{none-some, same_Some}
-use Rattle.broker_types.specs.Text.{Text, same}
-use Rattle.broker_types.specs.Map.{Map, get, keep, change, without}
-use Rattle.broker_types.specs.MapLaws.{valued_is, without_is}
-use Rattle.broker_types.specs.PutLaws.{put_is}
-use Rattle.broker_types.specs.Broker.{Broker}
-use Rattle.broker_types.specs.OptionLaws.{mapped}
-use Rattle.broker_types.specs.SearchLaws.{kept_get}
-use Rattle.broker_types.specs.Secret.{Key, Version}
 use Rattle.kv2.specs.Secrets as secrets
-use Rattle.kv2.specs.Secrets.{Written, secret_name}
-use Rattle.kv2.specs.SoundLaws.{write_is}
-use Rattle.kv2.specs.VersionLaws.{get-change_versions, next_versions}
-use Rattle.kv2.specs.Versions.{Settings, described, destroyed, is_among, key_or_new, new_version, restored}
-use Rattle.kv2.specs.Versions.{soft_deleted, versions_kept, with_changed}
-use Rattle.kv2.specs.Versions.{with_version}
-use Rattle.broker_model.specs.EffectLaws.{it_stays, versions_self}
-use Rattle.broker_model.specs.Effects.{AllGiven, AreGiven, SecretsStay, VersionsStay}
 
 -- ---- versions
 

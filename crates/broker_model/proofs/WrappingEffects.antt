@@ -1,36 +1,14 @@
 -- What commands on responses that wait leave.
-use Rattle.std.specs.Prelude.{◌≡◌, ◌⊎◌, [], ◌∷◌, Option, Some, None, Ok, option_map}
-use Rattle.std.specs.Option.{option_map_or}
-use Rattle.std.proofs.Common.{refl, sym, ap, subst, inl, inr, ◌∙◌}
-use Rattle.std.proofs.lemmas.Option.{none-some, same_Some}
-use Rattle.std.specs.List.{list_any}
-use Rattle.broker_types.specs.Text.{Text, same}
-use Rattle.broker_types.specs.Map.{get}
-use Rattle.broker_types.specs.MapLaws.{without_is}
-use Rattle.broker_types.specs.PutLaws.{put_is}
-use Rattle.broker_types.specs.Broker.{Broker, Waiting}
-use Rattle.broker_types.specs.Evolves.{WaitedBefore}
-use Rattle.broker_types.specs.Names.{Names}
-use Rattle.broker_types.specs.Operation.{Done}
-use Rattle.broker_types.specs.IdentifierPlaces.{token_identifier}
-use Rattle.broker_types.specs.Refuse.{some_or}
-use Rattle.broker_types.specs.RefuseLaws.{ok_step}
-use Rattle.broker_types.specs.Spending.{drop_waiting}
-use Rattle.broker_types.specs.TokenText.{token_text}
+use Rattle.std.proofs.Common.{◌≡◌, ◌⊎◌, ◌∷◌, [], Option, Some, None, Ok, option_map, refl, sym, ap, subst, inl, inr}
+use Rattle.broker_model.specs.Words.{option_map_or, ◌∙◌, none-some, same_Some, list_any, Text, same, get, without_is}
+use Rattle.broker_model.specs.Words.{put_is, Broker, Waiting, WaitedBefore, Names, Done, token_identifier, some_or}
+use Rattle.broker_model.specs.Words.{ok_step, drop_waiting, token_text, ok_inj, with_waiting, moved, on_wrapping}
+use Rattle.broker_model.specs.Words.{secrets_same, Does, IsGiven, KeepsMaps, Stay, first_in, later_in, wrapping_names}
+use Rattle.broker_model.specs.Words.{WrappingCommand, of_moved, FoundResponse, found_under, found, rewrapped}
+use Rattle.broker_model.specs.Words.{handed_out, act_on_wrappings}
 use Rattle.broker_types.specs.declared.refusal.Refusal.TheVariants as refusal
 use Rattle.broker_types.specs.declared.refusal.Reason.TheVariants as reason
-use Rattle.records.specs.ValueLaws.{ok_inj}
-use Rattle.wrapping.specs.Wrapping.{with_waiting, moved}
-use Rattle.broker_model.specs.Command.{on_wrapping}
-use Rattle.broker_model.specs.EffectLaws.{secrets_same}
-use Rattle.broker_model.specs.Effects.{Does, IsGiven, KeepsMaps, Stay}
-use Rattle.broker_model.specs.NewIdentifierLaws.{first_in, later_in}
-use Rattle.broker_model.specs.Traits.{wrapping_names}
-use Rattle.broker_model.specs.declared.commands.WrappingCommand.{WrappingCommand}
 use Rattle.broker_model.specs.declared.commands.WrappingCommand.TheVariants as command
-use Rattle.broker_model.specs.parts.WrappingCommands.{of_moved}
-use Rattle.broker_model.specs.parts.Wrappings.{FoundResponse, found_under, found, rewrapped, handed_out}
-use Rattle.broker_model.specs.parts.Wrappings.{act_on_wrappings}
 use Rattle.broker_model.proofs.Operations.{shown_does}
 use Rattle.broker_model.proofs.Staying.{stay_same}
 

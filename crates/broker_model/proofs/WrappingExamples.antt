@@ -1,18 +1,12 @@
 -- The part of responses that wait, computed.
-use Rattle.std.specs.Prelude.{◌≡◌, [], Bool, true, false, Option, Some, None, Ok, Err, codes}
-use Rattle.std.proofs.Common.{refl}
-use Rattle.broker_types.specs.Text.{Text, same}
-use Rattle.broker_types.specs.declared.ask.Verb.{Verb}
+use Rattle.std.proofs.Common.{◌≡◌, [], Bool, true, false, Option, Some, None, Ok, Err, codes, refl}
+use Rattle.broker_model.specs.Words.{Text, same, Verb, operation_at, optional, unwrap_meant, token_meant, is_own, opens}
+use Rattle.broker_model.specs.Words.{found, Broker}
 use Rattle.broker_types.specs.declared.ask.Verb.TheVariants as verb
 use Rattle.broker_types.specs.declared.refusal.Refusal.TheVariants as refusal
 use Rattle.broker_types.specs.declared.refusal.Reason.TheVariants as reason
-use Rattle.mounts.specs.Route.{operation_at}
-use Rattle.api_json.specs.Members.{optional}
 use Rattle.api_json.specs.Readers as reader
 use Rattle.broker_model.specs.declared.commands.WrappingCommand.TheVariants as command
-use Rattle.broker_model.specs.parts.WrappingCommands.{unwrap_meant, token_meant, is_own, opens}
-use Rattle.broker_model.specs.parts.Wrappings.{found}
-use Rattle.broker_types.specs.Broker.{Broker}
 
 -- ---- which wrapping token is meant
 

@@ -1,44 +1,19 @@
 -- Commands on responses that wait are proper, and so is the wrapping of a reply.
-use Rattle.std.specs.Prelude.{◌≡◌, ◌≢◌, ◌⊎◌, ℕ, List, [], ◌∷◌, true, false, ⊤, Option, Some, None, Ok, option_map}
-use Rattle.std.specs.Option.{option_map_or}
-use Rattle.std.proofs.Common.{refl, sym, ◌∙◌, ap, subst, inl, inr}
-use Rattle.std.proofs.lemmas.Bool.{false≢true}
-use Rattle.std.proofs.lemmas.Option.{none-some}
-use Rattle.broker_types.specs.Text.{Text, same}
-use Rattle.broker_types.specs.TextLaws.{same_true}
-use Rattle.broker_types.specs.Map.{Map, get}
-use Rattle.broker_types.specs.Broker.{Broker, Waiting}
-use Rattle.broker_types.specs.Evolves.{Evolves, IsNew, IsTakenOut, OriginIsGone, WaitedBefore}
-use Rattle.broker_types.specs.EvolvesLaws.{evolves_trans}
-use Rattle.broker_types.specs.Names.{Names}
-use Rattle.broker_types.specs.Operation.{Done, kept_text}
-use Rattle.broker_types.specs.IdentifierPlaces.{wrapping_token, token_identifier}
-use Rattle.broker_types.specs.Refuse.{some_or}
-use Rattle.broker_types.specs.RefuseLaws.{ok_step}
-use Rattle.broker_types.specs.Sound.{Forms, Sound, SoundIdentifiers, SoundWaiting, IsSoundWaiting}
-use Rattle.broker_types.specs.Spending.{drop_waiting}
-use Rattle.broker_types.specs.SpendingLaws.{drop_sound, drop_takes_out, drop_ends_origin}
-use Rattle.broker_types.specs.TokenText.{token_text}
-use Rattle.broker_types.specs.Used.{are_new, use_up}
+use Rattle.std.specs.Prelude.{◌≡◌, ◌≢◌, ◌⊎◌, ◌∷◌, ℕ, List, [], true, false, ⊤, Option, Some, None, Ok, option_map, refl}
+use Rattle.broker_model.specs.Words.{option_map_or, sym, ◌∙◌, ap, subst, inl, inr, false≢true, none-some, Text, same}
+use Rattle.broker_model.specs.Words.{same_true, Map, get, Broker, Waiting, Evolves, IsNew, IsTakenOut, OriginIsGone}
+use Rattle.broker_model.specs.Words.{WaitedBefore, evolves_trans, Names, Done, kept_text, wrapping_token}
+use Rattle.broker_model.specs.Words.{token_identifier, some_or, ok_step, Forms, Sound, SoundIdentifiers, SoundWaiting}
+use Rattle.broker_model.specs.Words.{IsSoundWaiting, drop_waiting, drop_sound, drop_takes_out, drop_ends_origin}
+use Rattle.broker_model.specs.Words.{token_text, are_new, use_up, Reply, ok_inj, store_adds_one, moved_waits}
+use Rattle.broker_model.specs.Words.{moved_is_taken_out, store_evolves, store_sound, rewrap_sound, AddsNone}
+use Rattle.broker_model.specs.Words.{with_waiting, moved, on_wrapping, IsProper, counted, kept_entry, wrap}
+use Rattle.broker_model.specs.Words.{AreWrappingNames, new_after, two_of, proper_of, wrapping_names, WrappingCommand}
+use Rattle.broker_model.specs.Words.{token_meant, is_own, wrapping_traits, FoundResponse, found_under, found, rewrapped}
+use Rattle.broker_model.specs.Words.{handed_out, act_on_wrappings}
 use Rattle.broker_types.specs.declared.refusal.Refusal.TheVariants as refusal
 use Rattle.broker_types.specs.declared.refusal.Reason.TheVariants as reason
-use Rattle.broker_types.specs.declared.reply.Reply.{Reply}
-use Rattle.records.specs.ValueLaws.{ok_inj}
-use Rattle.wrapping.specs.ResponseLaws.{store_adds_one}
-use Rattle.wrapping.specs.ResponseLaws.{moved_waits, moved_is_taken_out}
-use Rattle.wrapping.specs.SoundLaws.{store_evolves, store_sound, rewrap_sound}
-use Rattle.wrapping.specs.Wrapping.{AddsNone, with_waiting, moved}
-use Rattle.broker_model.specs.Command.{on_wrapping}
-use Rattle.broker_model.specs.Order.{IsProper, counted, kept_entry, wrap}
-use Rattle.broker_model.specs.Laws.{AreWrappingNames}
-use Rattle.broker_model.specs.NewIdentifierLaws.{new_after, two_of}
-use Rattle.broker_model.specs.ProperLaws.{proper_of}
-use Rattle.broker_model.specs.Traits.{wrapping_names}
-use Rattle.broker_model.specs.declared.commands.WrappingCommand.{WrappingCommand}
 use Rattle.broker_model.specs.declared.commands.WrappingCommand.TheVariants as command
-use Rattle.broker_model.specs.parts.WrappingCommands.{token_meant, is_own, wrapping_traits}
-use Rattle.broker_model.specs.parts.Wrappings.{FoundResponse, found_under, found, rewrapped, handed_out}
-use Rattle.broker_model.specs.parts.Wrappings.{act_on_wrappings}
 use Rattle.broker_model.proofs.WrappingEffects as effects
 use Rattle.broker_model.proofs.WrappingEffects.{found_is}
 

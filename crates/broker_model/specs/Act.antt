@@ -1,12 +1,7 @@
 -- What each command does to the maps, part by part (this project's definition).
-use Rattle.std.specs.Prelude.{Option, Some, None, Result, Err}
-use Rattle.broker_types.specs.Text.{Text}
-use Rattle.broker_types.specs.Broker.{Broker}
-use Rattle.broker_types.specs.Names.{Names}
-use Rattle.broker_types.specs.Operation.{Done}
-use Rattle.broker_types.specs.declared.refusal.Refusal.{Refusal}
-use Rattle.broker_model.specs.Command.{Command, on_cubbyhole, on_token, on_secret, on_policy}
-use Rattle.broker_model.specs.Command.{on_mount, on_lease, on_issued, on_wrapping}
+use Rattle.records.specs.Words.{Option, Some, None, Result, Err, Text, Broker, Names, Done, Refusal}
+use Rattle.broker_model.specs.Command.{Command, on_cubbyhole, on_token, on_secret, on_policy, on_mount, on_lease}
+use Rattle.broker_model.specs.Command.{on_issued, on_wrapping}
 use Rattle.broker_model.specs.parts.Cubbyholes.{act_on_cubbyhole}
 use Rattle.broker_model.specs.parts.AclPolicies.{act_on_policies}
 use Rattle.broker_model.specs.parts.Issued.{act_on_issued}

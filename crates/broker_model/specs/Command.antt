@@ -1,15 +1,9 @@
 -- What a request means: by its route, then by its body or its version (this project's definition).
-use Rattle.std.specs.Prelude.{Result, Ok}
-use Rattle.broker_types.specs.Text.{Text}
-use Rattle.broker_types.specs.Map.{Map}
-use Rattle.broker_types.specs.Broker.{Mount}
-use Rattle.broker_types.specs.Refuse.{◌>>=◌}
-use Rattle.broker_types.specs.declared.ask.Ask.{Ask}
-use Rattle.broker_types.specs.declared.refusal.Refusal.{Refusal}
+use Rattle.records.specs.Words.{Result, Ok, Text, Map, Mount, ◌>>=◌, Ask, Refusal}
 use Rattle.mounts.specs.declared.operation.Operation.{Operation}
-use Rattle.mounts.specs.declared.operation.Operation.TheVariants.{Cubbyholes, Tokens, Secrets, Policies}
-use Rattle.mounts.specs.declared.operation.Operation.TheVariants.{Mounts, Leases, Issued, Wrappings}
-use Rattle.mounts.specs.Route.{Route, route_of}
+use Rattle.mounts.specs.declared.operation.Operation.TheVariants.{Cubbyholes, Tokens, Secrets, Policies, Mounts, Leases}
+use Rattle.mounts.specs.declared.operation.Operation.TheVariants.{Issued, Wrappings}
+use Rattle.mounts.specs.Words.{Route, route_of}
 use Rattle.broker_model.specs.declared.commands.CubbyholeCommand.{CubbyholeCommand}
 use Rattle.broker_model.specs.declared.commands.IssuedCommand.{IssuedCommand}
 use Rattle.broker_model.specs.declared.commands.LeaseCommand.{LeaseCommand}

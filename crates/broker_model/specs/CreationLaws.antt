@@ -1,25 +1,13 @@
 -- What the rules of creation come to: a caller without privileges passes on no policy that it has not, and `root` is
 -- passed on by a token that has it.
-use Rattle.std.specs.Prelude.{◌≡◌, ◌==◌, ◌||◌, List, [], ◌∷◌, filter, map, codes, Bool, true, false, not, cond}
-use Rattle.std.specs.Prelude.{if◌then◌else◌, Some, None, is_none, is_some, Ok, ⊤}
-use Rattle.std.specs.Cmp.Lexicographic.{nat_list_cmp_total}
-use Rattle.std.specs.FinMap.{get-from_entries, find, contains_key-keys}
-use Rattle.std.specs.List.{list_all, list_any}
-use Rattle.std.proofs.Common.{refl, sym, ◌∙◌, ap, inl, inr}
-use Rattle.std.proofs.lemmas.Bool.{false≢true, and_parts, or_cases, or_right}
-use Rattle.broker_types.specs.Text.{Text, text_cmp, same}
-use Rattle.broker_types.specs.Map.{get, keys}
-use Rattle.broker_types.specs.Name.{is_name}
-use Rattle.broker_types.specs.OptionLaws.{is_nothing}
-use Rattle.broker_types.specs.Refuse.{unless}
-use Rattle.broker_types.specs.RefuseLaws.{ok_step}
-use Rattle.broker_types.specs.TextLaws.{same-text_cmp, same_true}
-use Rattle.broker_types.specs.Token.{Token}
-use Rattle.broker_types.specs.declared.refusal.Refusal.{Refusal}
+use Rattle.std.specs.Prelude.{◌≡◌, ◌==◌, ◌||◌, ◌∷◌, if◌then◌else◌, List, [], filter, map, codes, Bool, true, false, not}
+use Rattle.records.specs.Words.{cond, Some, None, is_none, is_some, Ok, ⊤, nat_list_cmp_total, get-from_entries, find}
+use Rattle.records.specs.Words.{contains_key-keys, list_all, list_any, refl, sym, ◌∙◌, ap, inl, inr, false≢true}
+use Rattle.records.specs.Words.{and_parts, or_cases, or_right, Text, text_cmp, same, get, keys, is_name, is_nothing}
+use Rattle.records.specs.Words.{unless, ok_step, same-text_cmp, same_true, Token, Refusal, has, member, set_of}
 use Rattle.broker_types.specs.declared.refusal.Refusal.TheVariants as refusal
 use Rattle.broker_types.specs.declared.refusal.Reason.TheVariants as reason
 use Rattle.api_json.specs.declared.token_bodies.TokenCreation.{TokenCreation}
-use Rattle.records.specs.Children.{has, member, set_of}
 use Rattle.broker_model.specs.declared.making.Making.{Making}
 use Rattle.broker_model.specs.parts.TokenCreation.{makes_orphans, default_name, have_root, policies_given}
 use Rattle.broker_model.specs.parts.TokenCreation.{without_default, new_policies, has_no_end, may_make}
@@ -116,7 +104,7 @@ given_within own (p ∷ ps) q all h = by (has own default_name) refl h
     ]
     by false adds g = in_all own (p ∷ ps) q all g
 
-kept : (p : Text → Bool) (ts : List Text) (q : Text) → has (filter p ts) q ≡ true → has ts q ≡ true
+pub kept : (p : Text → Bool) (ts : List Text) (q : Text) → has (filter p ts) q ≡ true → has ts q ≡ true
 kept p [] q h = h
 kept p (t ∷ ts) q h = by (p t) (kept p ts q) h
   where

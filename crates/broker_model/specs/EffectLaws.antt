@@ -1,10 +1,6 @@
 -- What follows from what an operation leaves.
-use Rattle.std.specs.Prelude.{◌≡◌, Option, Some, None, option_and_then}
-use Rattle.std.proofs.Common.{refl, sym, ◌∙◌, ap, subst, inl, arith}
-use Rattle.std.proofs.lemmas.Option.{none-some, same_Some}
-use Rattle.broker_types.specs.Map.{Map, get}
-use Rattle.broker_types.specs.Secret.{Key, Version}
-use Rattle.broker_types.specs.Token.{Token}
+use Rattle.std.proofs.Common.{◌≡◌, Option, Some, None, option_and_then, refl, sym, ◌∙◌, ap, subst, inl, arith}
+use Rattle.records.specs.Words.{none-some, same_Some, Map, get, Key, Version, Token}
 use Rattle.broker_model.specs.Effects.{Both, SecretsStay, VersionsStay}
 
 -- the value that an option leads to

@@ -1,18 +1,9 @@
 -- What each operation leaves, as its traits tell it (this project's definition).
 use Rattle.std.specs.Prelude.{◌≡◌, ◌≢◌, ◌⊎◌, ◌<◌, ◌≤◌, ◌||◌, ℕ, List, [], Bool, true, false, ⊤, Option, Some, None, Ok}
 use Rattle.std.specs.FinMap as fin
-use Rattle.std.specs.List.{list_any}
-use Rattle.broker_types.specs.Text.{Text, same}
-use Rattle.broker_types.specs.Map.{Map, get}
-use Rattle.broker_types.specs.Token.{Token, Lease}
-use Rattle.broker_types.specs.Broker.{Broker, Waiting}
-use Rattle.broker_types.specs.Evolves.{WasBefore, WaitedBefore}
-use Rattle.broker_types.specs.Names.{Names}
-use Rattle.broker_types.specs.Operation.{Answered, nothing, reply, kept_text, missing, Done}
-use Rattle.broker_types.specs.IdentifierPlaces.{lease_identifier, lease_of, token_identifier}
-use Rattle.broker_types.specs.Secret.{Key, Version}
-use Rattle.broker_types.specs.declared.reply.Reply.{Reply}
-use Rattle.records.specs.Parts.{Part}
+use Rattle.records.specs.Words.{list_any, Text, same, Map, get, Token, Lease, Broker, Waiting, WasBefore, WaitedBefore}
+use Rattle.records.specs.Words.{Names, Answered, nothing, reply, kept_text, missing, Done, lease_identifier, lease_of}
+use Rattle.records.specs.Words.{token_identifier, Key, Version, Reply, Part}
 use Rattle.records.specs.declared.kind.Kind.TheVariants as kind
 use Rattle.broker_model.specs.Command.{Command}
 use Rattle.broker_model.specs.Order.{HandsOut}

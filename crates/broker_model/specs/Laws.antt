@@ -1,29 +1,17 @@
 -- Laws of operations, of the wrapping of replies, and of routes, as statements (this project's definition; Vault's
 -- documentation, "Response wrapping").
-use Rattle.std.specs.Prelude.{◌≡◌, ◌≢◌, ◌⊎◌, ◌++◌, ℕ, List, [], ◌∷◌, true, false, Option, Some, Ok, Err, codes}
-use Rattle.broker_types.specs.Text.{Text}
-use Rattle.broker_types.specs.Map.{get}
-use Rattle.broker_types.specs.Broker.{Broker, Mount, Waiting}
-use Rattle.broker_types.specs.Evolves.{Evolves, IsNew, IsTakenOut, OriginIsGone, WaitedBefore}
-use Rattle.broker_types.specs.Names.{Names, names_of}
-use Rattle.broker_types.specs.Operation.{Done, kept_text}
-use Rattle.broker_types.specs.Sound.{Forms, Sound, SoundIdentifiers, SoundWaiting, IsIdentifier, IsSoundWaiting}
-use Rattle.broker_types.specs.TokenText.{token_text}
-use Rattle.broker_types.specs.Used.{are_new}
-use Rattle.broker_types.specs.declared.ask.Verb.{Verb}
+use Rattle.std.specs.Prelude.{◌≡◌, ◌≢◌, ◌⊎◌, ◌++◌, ◌∷◌, ℕ, List, [], true, false, Option, Some, Ok, Err, codes}
+use Rattle.records.specs.Words.{Text, get, Broker, Mount, Waiting, Evolves, IsNew, IsTakenOut, OriginIsGone}
+use Rattle.records.specs.Words.{WaitedBefore, Names, names_of, Done, kept_text, Forms, Sound, SoundIdentifiers}
+use Rattle.records.specs.Words.{SoundWaiting, IsIdentifier, IsSoundWaiting, token_text, are_new, Verb, Reply, Methods}
+use Rattle.records.specs.Words.{Words, Table}
 use Rattle.broker_types.specs.declared.ask.Verb.TheVariants as verb
 use Rattle.broker_types.specs.declared.refusal.Refusal.TheVariants as refusal
-use Rattle.broker_types.specs.declared.reply.Reply.{Reply}
-use Rattle.broker_types.specs.declared.status.Methods.{Methods}
-use Rattle.broker_types.specs.declared.words.Words.{Words}
-use Rattle.records.specs.Table.{Table}
-use Rattle.mounts.specs.Forms.{are_bytes}
-use Rattle.mounts.specs.MountRows.{IsKnownAt}
-use Rattle.mounts.specs.Route.{Route, cut, route_at}
+use Rattle.mounts.specs.Words.{are_bytes, IsKnownAt, Route, cut, route_at}
 use Rattle.mounts.specs.declared.operation.CubbyholeOperation.{CubbyholeOperation}
 use Rattle.mounts.specs.declared.operation.CubbyholeOperation.TheVariants as operations
 use Rattle.mounts.specs.declared.operation.Operation.TheVariants.{Cubbyholes}
-use Rattle.wrapping.specs.Wrapping.{AddsNone, moved}
+use Rattle.wrapping.specs.Words.{AddsNone, moved}
 use Rattle.broker_model.specs.Act.{act}
 use Rattle.broker_model.specs.Command.{Command}
 use Rattle.broker_model.specs.Effects.{Does}

@@ -16,4 +16,5 @@ pub mod Responses
 pub mod ServedAsks
 pub mod Step
 pub mod Traits
+pub mod Words
 pub mod parts

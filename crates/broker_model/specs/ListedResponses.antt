@@ -1,9 +1,8 @@
 -- What the broker answers, listed (Vault's documentation, "HTTP API", status codes).
 use Rattle.std.specs.Prelude.{◌≡◌, ◌⊎◌}
-use Rattle.broker_types.specs.Answer.{Response, IsRefused}
-use Rattle.broker_types.specs.declared.reply.Reply.{Reply}
+use Rattle.records.specs.Words.{Response, IsRefused, Reply}
 use Rattle.broker_types.specs.declared.status.Status.TheVariants as status
-use Rattle.api_json.specs.Reply.{reply_text}
+use Rattle.api_json.specs.Words.{reply_text}
 use Rattle.broker_model.specs.Responses.{not_found}
 
 -- a 404 with a reply, as for a version of a secret that was deleted

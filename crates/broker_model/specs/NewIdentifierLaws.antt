@@ -1,16 +1,8 @@
 -- Identifiers that are new, and those that are given out.
-use Rattle.std.specs.Prelude.{◌≡◌, ◌≢◌, ◌⊎◌, ◌&&◌, ◌||◌, List, [], ◌∷◌, true, false, not, cond, ⊤, Some, None, is_none}
-use Rattle.std.specs.List.{list_any}
-use Rattle.std.proofs.Common.{refl, sym, ◌∙◌, ap, subst, inl, inr}
-use Rattle.std.proofs.lemmas.Bool.{false≢true, and_parts, not-true, or_parts}
-use Rattle.broker_types.specs.Text.{Text, same}
-use Rattle.broker_types.specs.TextLaws.{same_self, same_true}
-use Rattle.broker_types.specs.Broker.{Broker}
-use Rattle.broker_types.specs.Map.{Map, get}
-use Rattle.broker_types.specs.MapLaws.{get-put}
-use Rattle.broker_types.specs.Operation.{Done}
-use Rattle.broker_types.specs.OptionLaws.{is_nothing}
-use Rattle.broker_types.specs.Used.{are_new, use_up}
+use Rattle.std.proofs.Common.{◌≡◌, ◌≢◌, ◌⊎◌, ◌&&◌, ◌||◌, ◌∷◌, List, [], true, false, not, cond, Some, None, is_none, ap}
+use Rattle.records.specs.Words.{⊤, list_any, refl, sym, ◌∙◌, subst, inl, inr, false≢true, and_parts, not-true, or_parts}
+use Rattle.records.specs.Words.{Text, same, same_self, same_true, Broker, Map, get, get-put, Done, is_nothing, are_new}
+use Rattle.records.specs.Words.{use_up}
 
 -- what is new stays new, if others are given out
 pub new_still : (used : Map ⊤) (i : Text) (others : List Text) → get used i ≡ None → list_any (same i) others ≡ false

@@ -13,27 +13,15 @@
 --
 -- A refusal at any step keeps the clock, what the clock ended, the response that step 2 removed and the use of step 3
 -- (with step 9), and nothing else.
-use Rattle.std.specs.Prelude.{◌≡◌, ◌≢◌, ◌⊎◌, ℕ, List, [], ◌∷◌, Bool, not, ◌&&◌, ◌||◌, nat_lt, if◌then◌else◌}
-use Rattle.std.specs.Prelude.{Option, Some, None, Result, Ok, Err, is_some}
-use Rattle.broker_types.specs.Text.{Text}
-use Rattle.broker_types.specs.Map.{get, put, without}
-use Rattle.broker_types.specs.TokenText.{token_text}
-use Rattle.broker_types.specs.Broker.{Broker, Waiting, at_moment}
-use Rattle.broker_types.specs.Answer.{Response, refused}
-use Rattle.broker_types.specs.Evolves.{Evolves, WaitedBefore}
-use Rattle.broker_types.specs.Names.{Names}
-use Rattle.broker_types.specs.Operation.{Answered, nothing, reply, kept_text, missing, Done}
-use Rattle.broker_types.specs.Refuse.{◌>>=◌, unless}
-use Rattle.broker_types.specs.Spending.{spend, end_spent, drop_waiting}
-use Rattle.broker_types.specs.Used.{are_new, use_up}
-use Rattle.broker_types.specs.declared.ask.Verb.{Verb}
-use Rattle.broker_types.specs.declared.reply.Reply.{Reply}
-use Rattle.broker_types.specs.declared.refusal.Refusal.{Refusal}
+use Rattle.std.specs.Prelude.{◌≡◌, ◌≢◌, ◌⊎◌, ◌∷◌, ◌&&◌, ◌||◌, if◌then◌else◌, ℕ, List, [], Bool, not, nat_lt, Option, Ok}
+use Rattle.records.specs.Words.{Some, None, Result, Err, is_some, Text, get, put, without, token_text, Broker, Waiting}
+use Rattle.records.specs.Words.{at_moment, Response, refused, Evolves, WaitedBefore, Names, Answered, nothing, reply}
+use Rattle.records.specs.Words.{kept_text, missing, Done, ◌>>=◌, unless, spend, end_spent, drop_waiting, are_new}
+use Rattle.records.specs.Words.{use_up, Verb, Reply, Refusal}
 use Rattle.broker_types.specs.declared.refusal.Refusal.TheVariants as refusal
 use Rattle.broker_types.specs.declared.refusal.Reason.TheVariants as reason
 use Rattle.broker_types.specs.declared.refusal.Denial.TheVariants as denial
-use Rattle.api_json.specs.Objects.{wrap_object}
-use Rattle.api_json.specs.Reply.{reply_text, wrap_reply}
+use Rattle.api_json.specs.Words.{wrap_object, reply_text, wrap_reply}
 use Rattle.api_json.specs.declared.wrapping_objects.WrapObject.{WrapObject}
 use Rattle.broker_model.specs.Responses.{ok, no_content, not_found}
 use Rattle.broker_model.specs.Request.{Request}

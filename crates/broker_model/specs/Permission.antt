@@ -1,15 +1,8 @@
 -- What a caller may ask (Vault's documentation, "Policies").
-use Rattle.std.specs.Prelude.{Bool, false, not, ◌||◌, ◌&&◌, Option, Some, None}
-use Rattle.std.specs.Option.{option_map_or}
-use Rattle.broker_types.specs.Text.{Text}
-use Rattle.broker_types.specs.Map.{get}
-use Rattle.broker_types.specs.Token.{Token}
-use Rattle.broker_types.specs.Broker.{Broker}
-use Rattle.broker_types.specs.declared.ask.Verb.{Verb}
-use Rattle.mounts.specs.Route.{asks_sudo}
-use Rattle.policies.specs.Allows.{allows}
-use Rattle.policies.specs.Grants.{rules_of}
-use Rattle.policies.specs.Rules.{Rules}
+use Rattle.std.specs.Prelude.{◌||◌, ◌&&◌, Bool, false, not, Option, Some, None}
+use Rattle.records.specs.Words.{option_map_or, Text, get, Token, Broker, Verb}
+use Rattle.mounts.specs.Words.{asks_sudo}
+use Rattle.policies.specs.Words.{allows, rules_of, Rules}
 use Rattle.policies.specs.declared.capability.Capability.{Capability}
 use Rattle.policies.specs.declared.capability.Capability.TheVariants.{Sudo}
 use Rattle.broker_model.specs.Capabilities.{asked}

@@ -1,31 +1,14 @@
 -- What an operation leaves is proper, if the identifiers that it needs are new.
-use Rattle.std.specs.Prelude.{◌≡◌, ◌≢◌, ◌⊎◌, ℕ, [], ◌∷◌, true, is_some, Option, Some, None, Ok, ⊤}
-use Rattle.std.proofs.Common.{refl, sym, ◌∙◌, ap, subst, inl, inr}
-use Rattle.std.proofs.lemmas.Bool.{false≢true}
-use Rattle.std.proofs.lemmas.Option.{none-some}
-use Rattle.broker_types.specs.Text.{Text}
-use Rattle.broker_types.specs.Map.{Map, get}
-use Rattle.broker_types.specs.Token.{Token, Lease}
-use Rattle.broker_types.specs.TokenText.{token_text}
+use Rattle.std.proofs.Common.{◌≡◌, ◌≢◌, ◌⊎◌, ◌∷◌, ℕ, [], true, is_some, Option, Some, None, Ok, refl, sym, ◌∙◌, ap, inl}
+use Rattle.records.specs.Words.{⊤, subst, inr, false≢true, none-some, Text, Map, get, Token, Lease, token_text, Broker}
+use Rattle.records.specs.Words.{Waiting, Evolves, IsNew, IsNewLease, WaitedBefore, WasBefore, evolves_trans, Names}
+use Rattle.records.specs.Words.{names_of, Done, lease_of, token_identifier, unless, ok_step, revoke_evolves}
+use Rattle.records.specs.Words.{revoke_orphan_evolves, drop_evolves, are_new, Part, token_entry, ok_inj}
 use Rattle.broker_types.specs.Broker as broker
-use Rattle.broker_types.specs.Broker.{Broker, Waiting}
-use Rattle.broker_types.specs.Evolves.{Evolves, IsNew, IsNewLease, WaitedBefore, WasBefore}
-use Rattle.broker_types.specs.EvolvesLaws.{evolves_trans}
-use Rattle.broker_types.specs.Names.{Names, names_of}
-use Rattle.broker_types.specs.Operation.{Done}
-use Rattle.broker_types.specs.IdentifierPlaces.{lease_of, token_identifier}
-use Rattle.broker_types.specs.Refuse.{unless}
-use Rattle.broker_types.specs.RefuseLaws.{ok_step}
-use Rattle.broker_types.specs.RemovalLaws.{revoke_evolves, revoke_orphan_evolves}
-use Rattle.broker_types.specs.SpendingLaws.{drop_evolves}
-use Rattle.broker_types.specs.Used.{are_new}
 use Rattle.broker_types.specs.declared.refusal.Refusal.TheVariants as refusal
 use Rattle.broker_types.specs.declared.refusal.Reason.TheVariants as reason
 use Rattle.api_json.specs.declared.token_bodies.TokenCreation.{TokenCreation}
-use Rattle.records.specs.Parts.{Part}
-use Rattle.records.specs.TokenEntry.{token_entry}
-use Rattle.records.specs.ValueLaws.{ok_inj}
-use Rattle.token_tree.specs.SoundLaws.{create_evolves, renew_evolves}
+use Rattle.token_tree.specs.Words.{create_evolves, renew_evolves}
 use Rattle.broker_model.specs.Command.{Command}
 use Rattle.broker_model.specs.EffectLaws.{both_there}
 use Rattle.broker_model.specs.Effects.{Both, Does, IsFated, IsGiven, StaysAt}

@@ -1,12 +1,6 @@
 -- What serving an ask leaves (this project's definition).
-use Rattle.std.specs.Prelude.{List, Bool, Option, Some, None, Result, Ok}
-use Rattle.broker_types.specs.Text.{Text}
-use Rattle.broker_types.specs.Broker.{Broker}
-use Rattle.broker_types.specs.Names.{Names}
-use Rattle.broker_types.specs.Refuse.{◌>>=◌}
-use Rattle.broker_types.specs.Spending.{spend}
-use Rattle.broker_types.specs.declared.ask.Ask.{Ask}
-use Rattle.broker_types.specs.declared.refusal.Refusal.{Refusal}
+use Rattle.records.specs.Words.{List, Bool, Option, Some, None, Result, Ok, Text, Broker, Names, ◌>>=◌, spend, Ask}
+use Rattle.records.specs.Words.{Refusal}
 use Rattle.broker_model.specs.Act.{act}
 use Rattle.broker_model.specs.Command.{Command}
 use Rattle.broker_model.specs.Order.{Outcome, Wrapped, carried_out, finish, needed, serve, wrapped, wraps}

@@ -1,12 +1,8 @@
 -- One request of the broker of three maps (this project's definition).
-use Rattle.std.specs.Prelude.{ℕ}
-use Rattle.broker_types.specs.Broker.{Broker}
-use Rattle.broker_types.specs.declared.ask.Ask.{Ask}
-use Rattle.broker_types.specs.declared.words.Words.{Words}
+use Rattle.records.specs.Words.{ℕ, Broker, Ask, Words, names_of}
 use Rattle.broker_model.specs.Request.{Request}
-use Rattle.broker_types.specs.Names.{names_of}
-use Rattle.broker_model.specs.Command.{Command, on_cubbyhole, on_token, on_secret, on_policy, command_of}
-use Rattle.broker_model.specs.Command.{on_mount, on_lease, on_issued, on_wrapping}
+use Rattle.broker_model.specs.Command.{Command, on_cubbyhole, on_token, on_secret, on_policy, command_of, on_mount}
+use Rattle.broker_model.specs.Command.{on_lease, on_issued, on_wrapping}
 use Rattle.broker_model.specs.parts.Cubbyholes.{cubbyhole_traits}
 use Rattle.broker_model.specs.parts.AclPolicies.{policy_traits}
 use Rattle.broker_model.specs.parts.Issued.{issued_traits}

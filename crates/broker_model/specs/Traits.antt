@@ -1,11 +1,7 @@
 -- What a command is, beside what it does: which identifiers it needs, whether its reply is wrapped, which rows it may
 -- change, and what becomes of tokens (this project's definition).
-use Rattle.std.specs.Prelude.{ℕ, List, [], ◌∷◌, Bool, true, false, Option, Some, None}
-use Rattle.std.specs.Option.{option_map_or}
-use Rattle.broker_types.specs.Text.{Text}
-use Rattle.broker_types.specs.Broker.{Broker}
-use Rattle.broker_types.specs.Names.{Names}
-use Rattle.records.specs.Parts.{Part}
+use Rattle.std.specs.Prelude.{◌∷◌, ℕ, List, [], Bool, true, false, Option, Some, None}
+use Rattle.records.specs.Words.{option_map_or, Text, Broker, Names, Part}
 use Rattle.records.specs.declared.kind.Kind.{Kind}
 use Rattle.token_tree.specs.Tokens as tree
 use Rattle.wrapping.specs.Wrapping as wrapping

@@ -1,21 +1,9 @@
 -- The end of a caller: from the rows to the broker.
-use Rattle.std.specs.Prelude.{◌≡◌, ◌==◌, Bool, true, false, if◌then◌else◌}
-use Rattle.std.specs.Prelude.{Option, Some, None, option_map}
-use Rattle.std.specs.Option.{option_map_or}
-use Rattle.std.proofs.Common.{refl, sym, ◌∙◌, ap}
-use Rattle.std.proofs.lemmas.Option.{none-some, same_Some}
-use Rattle.broker_types.specs.Text.{Text}
-use Rattle.broker_types.specs.Map.{get}
-use Rattle.broker_types.specs.Token.{Token}
-use Rattle.broker_types.specs.Broker.{Broker, revoke}
-use Rattle.broker_types.specs.Spending.{is_spent, end_spent}
-use Rattle.broker_types.specs.SpendingLaws.{end_spent_sound}
-use Rattle.records.specs.Rows.{rows_of}
-use Rattle.records.specs.Table.{table_of}
-use Rattle.records.specs.TokenEntry.{TokenEntry, token_entry}
-use Rattle.records.specs.Transaction.{Rows}
-use Rattle.broker_model.specs.Forms.{forms}
-use Rattle.broker_rows.specs.Representing.{Represents}
+use Rattle.std.proofs.Common.{◌≡◌, ◌==◌, if◌then◌else◌, Bool, true, false, Option, Some, None, option_map, refl, sym}
+use Rattle.broker_model.specs.Words.{option_map_or, ◌∙◌, ap, none-some, same_Some, Text, get, Token, Broker, revoke}
+use Rattle.broker_model.specs.Words.{is_spent, end_spent, end_spent_sound, rows_of, table_of, TokenEntry, token_entry}
+use Rattle.broker_model.specs.Words.{Rows, forms}
+use Rattle.broker_rows.specs.Words.{Represents}
 
 -- ---- a caller that has spent its last use ends
 

@@ -1,18 +1,11 @@
 -- The clock's row: from the rows to the broker.
-use Rattle.std.specs.Prelude.{◌≡◌, ◌≤◌, ℕ, [], Some, None}
+use Rattle.std.proofs.Common.{◌≡◌, ◌≤◌, ℕ, [], Some, None, ◌∙◌, ap}
 use Rattle.std.specs.FinMap as map
-use Rattle.std.proofs.Common.{◌∙◌, ap}
-use Rattle.broker_types.specs.Broker.{Broker}
-use Rattle.broker_types.specs.Moment.{greatest_moment}
+use Rattle.broker_model.specs.Words.{Broker, greatest_moment, Row, Table, table_of, with_row, Rows, clock_row}
+use Rattle.broker_model.specs.Words.{with_clock, clock_at, table_of-insert}
 use Rattle.records.specs.declared.kind.Kind.TheVariants as kind
-use Rattle.records.specs.declared.row.Row.{Row}
-use Rattle.records.specs.Table.{Table, table_of, with_row}
-use Rattle.records.specs.Transaction.{Rows}
-use Rattle.records.specs.RowForms.{clock_row}
-use Rattle.broker_rows.specs.Representing.{Represents}
+use Rattle.broker_rows.specs.Words.{Represents}
 use Rattle.broker_rows.proofs.Clocks.{represents-with_clock}
-use Rattle.records.specs.ClockLaws.{with_clock, clock_at}
-use Rattle.records.specs.TableLaws.{table_of-insert}
 
 pub clock_found : (b : Broker) (rows : Rows) → Represents None rows b
     → map.get rows (kind.Clock, []) ≡ Some (clock_row b.clock)

@@ -1,26 +1,11 @@
 -- The broker at a later moment.
-use Rattle.std.specs.Prelude.{◌≡◌, ◌≤◌, ℕ, max, nat_lt, [], false, None}
-use Rattle.std.specs.Option.{option_map_or}
-use Rattle.std.proofs.Common.{refl, sym, ◌∙◌, ap, subst}
-use Rattle.broker_types.specs.Map.{get}
-use Rattle.broker_types.specs.Moment.{greatest_moment}
-use Rattle.broker_types.specs.Lineage.{alive_at}
-use Rattle.broker_types.specs.Broker.{Broker}
-use Rattle.broker_types.specs.FewerLaws.{AreFewer, IsLess, fewer_sound, tree_of}
-use Rattle.broker_types.specs.FieldLaws.{sound_with}
-use Rattle.broker_types.specs.RemovalLaws.{at_moment_sound}
-use Rattle.broker_types.specs.SearchLaws.{kept_get}
-use Rattle.broker_types.specs.Sound.{Sound}
-use Rattle.broker_types.specs.Token.{Lease}
-use Rattle.broker_types.specs.TreeLaws.{alive_is}
-use Rattle.broker_model.specs.Forms.{forms}
+use Rattle.std.proofs.Common.{◌≡◌, ◌≤◌, ℕ, max, nat_lt, [], false, None, refl, sym, ◌∙◌, ap, subst}
+use Rattle.broker_model.specs.Words.{option_map_or, get, greatest_moment, alive_at, Broker, AreFewer, IsLess}
+use Rattle.broker_model.specs.Words.{fewer_sound, tree_of, sound_with, at_moment_sound, kept_get, Sound, Lease}
+use Rattle.broker_model.specs.Words.{alive_is, forms, with_clock, rows-with_clock, table_of, with_row, Rows, clock_row}
+use Rattle.broker_model.specs.Words.{without_expired}
 use Rattle.records.specs.declared.kind.Kind.TheVariants as kind
-use Rattle.records.specs.ClockLaws.{with_clock, rows-with_clock}
-use Rattle.records.specs.Table.{table_of, with_row}
-use Rattle.records.specs.Transaction.{Rows}
-use Rattle.records.specs.RowForms.{clock_row}
-use Rattle.token_tree.specs.Tokens.{without_expired}
-use Rattle.broker_rows.specs.Representing.{Represents}
+use Rattle.broker_rows.specs.Words.{Represents}
 
 pub sound-with_clock : (b : Broker) (n : ℕ) → Sound forms None b → n ≤ greatest_moment
     → Sound forms None (with_clock b n)

@@ -1,31 +1,14 @@
 -- Tokens that ended: from the rows that are left to the broker without them.
-use Rattle.std.specs.Prelude.{◌≡◌, ◌&&◌, List, true, false, is_some, is_none, if◌then◌else◌}
-use Rattle.std.specs.Prelude.{Option, Some, None, option_and_then}
-use Rattle.std.proofs.Common.{refl, sym, ◌∙◌, ap, subst, inl, inr}
-use Rattle.std.proofs.lemmas.Bool.{false≢true, or_parts}
-use Rattle.broker_types.specs.Text.{Text}
-use Rattle.broker_types.specs.Map.{get}
-use Rattle.broker_types.specs.Token.{Token, Tokens}
-use Rattle.broker_types.specs.Broker.{Broker}
-use Rattle.broker_types.specs.OptionLaws.{found_or_not}
-use Rattle.records.specs.declared.kind.Kind.{Kind}
+use Rattle.std.proofs.Common.{◌≡◌, ◌&&◌, if◌then◌else◌, List, true, false, is_some, is_none, Option, Some, None, refl}
+use Rattle.broker_model.specs.Words.{option_and_then, sym, ◌∙◌, ap, subst, inl, inr, false≢true, or_parts, Text, get}
+use Rattle.broker_model.specs.Words.{Token, Tokens, Broker, found_or_not, Kind, has, Tells, of_tokens, of_cubbyholes}
+use Rattle.broker_model.specs.Words.{of_leases, Table, table_of, Rows, object_at, EndedLeaveNothing, AreReadable}
+use Rattle.broker_model.specs.Words.{either, are_owned, RepresentsLeases, EndedAreTold, all_readable, ends_added}
+use Rattle.broker_model.specs.Words.{readable_after}
 use Rattle.records.specs.declared.kind.Kind.TheVariants as kind
-use Rattle.records.specs.Children.{has}
-use Rattle.records.specs.Parts.{Tells, of_tokens, of_cubbyholes, of_leases}
-use Rattle.records.specs.Table.{Table, table_of}
-use Rattle.records.specs.Transaction.{Rows}
-use Rattle.cubbyhole.specs.Cubbyhole.{object_at}
-use Rattle.cubbyhole.specs.Laws.{EndedLeaveNothing}
-use Rattle.leases.specs.Endings.{AreReadable, either, are_owned}
-use Rattle.leases.specs.LeaseRows.{RepresentsLeases}
-use Rattle.leases.specs.Laws.{EndedAreTold}
-use Rattle.leases.specs.LeftLaws.{all_readable, ends_added, readable_after}
-use Rattle.broker_rows.specs.Ending.{of_belongings, AreTokenLong, LeavesNothing, LosesObjects}
-use Rattle.broker_rows.specs.EndingLaws.{leaves_others, no_token, is_object, is_lease, is_elsewhere}
-use Rattle.broker_rows.specs.EndingLaws.{other_tokens, others_kept}
-use Rattle.broker_rows.specs.Left.{HaveEnded}
-use Rattle.broker_rows.specs.Representing.{Represents}
-use Rattle.broker_rows.specs.RepresentingLaws.{represents_leases, tells_part, tokens_long}
+use Rattle.broker_rows.specs.Words.{of_belongings, AreTokenLong, LeavesNothing, LosesObjects, leaves_others, no_token}
+use Rattle.broker_rows.specs.Words.{is_object, is_lease, is_elsewhere, other_tokens, others_kept, HaveEnded, Represents}
+use Rattle.broker_rows.specs.Words.{represents_leases, tells_part, tokens_long}
 
 -- a row of a token or of an accessor does not belong to a token
 no_belonging : (k : Kind) → of_tokens k ≡ true → of_belongings k ≡ false

@@ -1,39 +1,15 @@
 -- Expiry: from the rows to the broker.
-use Rattle.std.specs.Prelude.{◌≡◌, ◌≤◌, ℕ, max, List, None}
-use Rattle.std.proofs.Common.{refl, ◌∙◌, sym, ap, subst}
-use Rattle.std.proofs.Math.Nat.{le-max_right, le_trans}
-use Rattle.broker_types.specs.Text.{Text}
-use Rattle.broker_types.specs.Moment.{greatest_moment}
-use Rattle.broker_types.specs.Token.{Token}
-use Rattle.broker_types.specs.Broker.{Broker, at_moment}
-use Rattle.broker_types.specs.Sound.{Sound}
-use Rattle.broker_types.specs.TreeLaws.{alive_is}
-use Rattle.broker_types.specs.Lineage.{alive_at}
+use Rattle.std.proofs.Common.{◌≡◌, ◌≤◌, ℕ, max, List, None, refl, ◌∙◌, sym, ap, subst}
+use Rattle.broker_model.specs.Words.{le-max_right, le_trans, Text, greatest_moment, Token, Broker, at_moment, Sound}
+use Rattle.broker_model.specs.Words.{alive_is, alive_at, Row, with_clock, AreDue, RowKey, rows_of-other_waiting, Tells}
+use Rattle.broker_model.specs.Words.{KeepsOthers, of_tokens, of_leases, of_waiting, table_of, Rows, AreEnded}
+use Rattle.broker_model.specs.Words.{without_expired, AreReadable, EndsLeases, AreLeft, live, all_readable, expire_too}
+use Rattle.broker_model.specs.Words.{AreStillDue, ends_sound, without_ended, forms}
 use Rattle.records.specs.declared.kind.Kind.TheVariants as kind
-use Rattle.records.specs.declared.row.Row.{Row}
-use Rattle.records.specs.ClockLaws.{with_clock}
-use Rattle.records.specs.DueRows.{AreDue}
-use Rattle.records.specs.Kind.{RowKey}
-use Rattle.records.specs.PartLaws.{rows_of-other_waiting}
-use Rattle.records.specs.Parts.{Tells, KeepsOthers, of_tokens, of_leases, of_waiting}
-use Rattle.records.specs.Table.{table_of}
-use Rattle.records.specs.Transaction.{Rows}
-use Rattle.token_tree.specs.Tokens.{AreEnded, without_expired}
 use Rattle.leases.specs.Endings as leases
-use Rattle.leases.specs.Endings.{AreReadable, EndsLeases}
-use Rattle.leases.specs.Laws.{AreLeft}
-use Rattle.leases.specs.Leases.{live}
-use Rattle.leases.specs.LeftLaws.{all_readable, expire_too}
-use Rattle.leases.specs.Removed.{AreStillDue}
 use Rattle.wrapping.specs.DueResponses as wrapping
-use Rattle.wrapping.specs.SoundLaws.{ends_sound}
-use Rattle.wrapping.specs.Wrapping.{without_ended}
-use Rattle.broker_model.specs.Forms.{forms}
-use Rattle.broker_rows.specs.Ending.{LeavesNothing}
-use Rattle.broker_rows.specs.EndingLaws.{leaves_others}
-use Rattle.broker_rows.specs.Left.{HaveEnded}
-use Rattle.broker_rows.specs.Representing.{Represents}
-use Rattle.broker_rows.specs.RepresentingLaws.{represents_leases, represents_next}
+use Rattle.broker_rows.specs.Words.{LeavesNothing, leaves_others, HaveEnded, Represents, represents_leases}
+use Rattle.broker_rows.specs.Words.{represents_next}
 use Rattle.broker_rows.proofs.Clocks.{expired_tokens_sound}
 
 module _ (b : Broker) (m n : ℕ) (first old : Rows) (st : Represents None first b) (is : n ≡ max b.clock m)

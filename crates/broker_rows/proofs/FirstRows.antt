@@ -1,27 +1,12 @@
 -- The rows of the first broker.
-use Rattle.std.specs.Prelude.{◌≡◌, ◌≢◌, ◌≤◌, ◌<◌, ◌^◌, ℕ, List, [], ◌∷◌, codes, None}
+use Rattle.std.proofs.Common.{◌≡◌, ◌≢◌, ◌≤◌, ◌<◌, ◌^◌, ◌∷◌, ℕ, List, [], codes, None, sym, ◌∙◌, ap}
 use Rattle.std.specs.FinMap as map
-use Rattle.std.proofs.Common.{sym, ◌∙◌, ap}
-use Rattle.broker_types.specs.Text.{Text, text_cmp}
-use Rattle.broker_types.specs.Map.{empty, entries}
-use Rattle.broker_types.specs.Identifier.{id}
-use Rattle.broker_types.specs.TokenText.{token_text}
-use Rattle.broker_types.specs.First.{first_broker, root_token, default_policy, secret_mount}
-use Rattle.broker_types.specs.FirstLaws.{first_sound}
-use Rattle.broker_types.specs.MapLaws.{entries-empty}
-use Rattle.broker_types.specs.Moment.{greatest_moment}
+use Rattle.broker_model.specs.Words.{Text, text_cmp, empty, entries, id, token_text, first_broker, root_token}
+use Rattle.broker_model.specs.Words.{default_policy, secret_mount, first_sound, entries-empty, greatest_moment, Row}
+use Rattle.broker_model.specs.Words.{with_settings, with_root, rows-first, clock_row, token_row, entry_row, mount_row}
+use Rattle.broker_model.specs.Words.{policy_row, rows_of, table_of, TokenEntry, Rows, first_policy, forms}
 use Rattle.records.specs.declared.kind.Kind.TheVariants as kind
-use Rattle.records.specs.declared.row.Row.{Row}
-use Rattle.records.specs.FirstRows.{with_settings, with_root}
-use Rattle.records.specs.FirstRowsLaws.{rows-first}
-use Rattle.records.specs.RowForms.{clock_row, token_row, entry_row, mount_row, policy_row}
-use Rattle.records.specs.Rows.{rows_of}
-use Rattle.records.specs.Table.{table_of}
-use Rattle.records.specs.TokenEntry.{TokenEntry}
-use Rattle.records.specs.Transaction.{Rows}
-use Rattle.policies.specs.PolicyLaws.{first_policy}
-use Rattle.broker_model.specs.Forms.{forms}
-use Rattle.broker_rows.specs.Representing.{Represents}
+use Rattle.broker_rows.specs.Words.{Represents}
 
 -- ---- rows put in turn
 

@@ -1,19 +1,10 @@
 -- Identifiers that were given out, by the rows.
-use Rattle.std.specs.Prelude.{◌≡◌, ◌&&◌, not, List, [], ◌∷◌, Option, Some, None, is_none, option_map, ⊤}
+use Rattle.std.proofs.Common.{◌≡◌, ◌&&◌, ◌∷◌, not, List, [], Option, Some, None, is_none, option_map, refl, ◌∙◌, ap}
+use Rattle.broker_model.specs.Words.{⊤, list_any, Text, same, are_new, get, Broker, used_row, rows_of, Table, table_of}
+use Rattle.broker_model.specs.Words.{Rows}
 use Rattle.std.specs.FinMap as map
-use Rattle.std.specs.List.{list_any}
-use Rattle.std.proofs.Common.{refl, ◌∙◌, ap}
-use Rattle.broker_types.specs.Text.{Text, same}
-use Rattle.broker_types.specs.Used.{are_new}
-use Rattle.broker_types.specs.Map.{get}
-use Rattle.broker_types.specs.Broker.{Broker}
-use Rattle.records.specs.RowForms.{used_row}
-use Rattle.records.specs.Rows.{rows_of}
-use Rattle.records.specs.Table.{Table, table_of}
-use Rattle.records.specs.Transaction.{Rows}
 use Rattle.records.specs.declared.kind.Kind.TheVariants as kind
-use Rattle.broker_rows.specs.Marks.{are_unmarked}
-use Rattle.broker_rows.specs.Representing.{Represents}
+use Rattle.broker_rows.specs.Words.{are_unmarked, Represents}
 
 -- an identifier has no row if it was not given out
 none_here : {who : Option Text} (b : Broker) (rows : Rows) (i : Text) → Represents who rows b

@@ -1,15 +1,7 @@
 -- The caller of a request, and what it may ask with (this project's definition).
 use Rattle.std.specs.Prelude.{◌≡◌, List, Some, option_map}
-use Rattle.broker_types.specs.Broker.{Broker}
-use Rattle.broker_types.specs.Map.{Map, get}
-use Rattle.broker_types.specs.Text.{Text}
-use Rattle.broker_types.specs.declared.ask.Verb.{Verb}
-use Rattle.records.specs.Table.{table_of}
-use Rattle.records.specs.TokenEntry.{TokenEntry, token_entry}
-use Rattle.records.specs.Transaction.{Rows}
-use Rattle.policies.specs.Grants.{rules_of}
-use Rattle.policies.specs.PolicyRows.{ArePoliciesAt}
-use Rattle.policies.specs.Rules.{Rules}
+use Rattle.broker_model.specs.Words.{Broker, Map, get, Text, Verb, table_of, TokenEntry, token_entry, Rows, rules_of}
+use Rattle.broker_model.specs.Words.{ArePoliciesAt, Rules}
 
 -- its token, and what the row of this token says
 pub record Caller : Type 0 where

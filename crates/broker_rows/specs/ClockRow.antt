@@ -1,13 +1,8 @@
 -- The row of the clock: a store that was started has it (this project's definition).
 use Rattle.std.specs.Prelude.{◌≡◌, ◌≤◌, ◌⊎◌, ℕ, [], Some, None, Result, Err, IfOk, IfErr}
 use Rattle.std.specs.FinMap as map
-use Rattle.broker_types.specs.Moment.{greatest_moment}
-use Rattle.broker_types.specs.Fault.{IsMemoryOrStorage}
-use Rattle.broker_types.specs.declared.fault.Fault.{Fault}
-use Rattle.broker_types.specs.declared.fault.Fault.TheVariants.{BadStart}
+use Rattle.broker_model.specs.Words.{greatest_moment, IsMemoryOrStorage, Fault, BadStart, clock_row, Rows}
 use Rattle.records.specs.declared.kind.Kind.TheVariants as kind
-use Rattle.records.specs.RowForms.{clock_row}
-use Rattle.records.specs.Transaction.{Rows}
 
 -- the row of the clock is that of a moment
 abbrev pub HasClock : Rows → Type 0

@@ -1,9 +1,7 @@
 -- What an operation leaves (this project's definition).
 use Rattle.std.specs.Prelude.{◌≡◌, Option, Some, None}
-use Rattle.broker_types.specs.Text.{Text}
+use Rattle.broker_model.specs.Words.{Text, Done, Rows}
 use Rattle.broker_types.specs.Operation as operation
-use Rattle.broker_types.specs.Operation.{Done}
-use Rattle.records.specs.Transaction.{Rows}
 pub use Rattle.broker_model.specs.Order.{counted}
 use Rattle.broker_rows.specs.Representing.{Represents}
 use Rattle.broker_rows.specs.declared.answered.Answered.{Answered}

@@ -1,18 +1,7 @@
 -- What goes when tokens end within a request (this project's definition).
-use Rattle.std.specs.Prelude.{◌≡◌, ◌||◌, ◌==◌, Bool, true, false, List, length}
-use Rattle.std.specs.Prelude.{None, if◌then◌else◌}
-use Rattle.std.specs.Option.{option_map_or}
-use Rattle.broker_types.specs.Text.{Text}
-use Rattle.broker_types.specs.Broker.{Broker}
-use Rattle.records.specs.Children.{has}
-use Rattle.records.specs.Parts.{Part, of_cubbyholes, of_leases}
-use Rattle.records.specs.Rows.{token_len}
-use Rattle.records.specs.Table.{table_of}
-use Rattle.records.specs.TokenEntry.{TokenEntry}
-use Rattle.records.specs.Transaction.{Rows}
-use Rattle.cubbyhole.specs.Cubbyhole.{object_at}
-use Rattle.cubbyhole.specs.Laws.{without_cubbyholes}
-use Rattle.leases.specs.Endings.{EndsLeases, are_owned}
+use Rattle.std.specs.Prelude.{◌≡◌, ◌||◌, ◌==◌, if◌then◌else◌, Bool, true, false, List, length, None}
+use Rattle.broker_model.specs.Words.{option_map_or, Text, Broker, has, Part, of_cubbyholes, of_leases, token_len}
+use Rattle.broker_model.specs.Words.{table_of, TokenEntry, Rows, object_at, without_cubbyholes, EndsLeases, are_owned}
 
 -- what belongs to tokens: their cubbyholes and their leases
 abbrev pub of_belongings : Part

@@ -1,19 +1,10 @@
 -- The rows that are left when tokens have ended and what belonged to them was dropped.
-use Rattle.std.specs.Prelude.{◌≡◌, List, [], ◌∷◌, true, false}
-use Rattle.std.proofs.Common.{refl, ◌∙◌, ap}
-use Rattle.std.proofs.lemmas.Bool.{false≢true, true≢false, or_parts}
-use Rattle.broker_types.specs.Text.{Text}
-use Rattle.broker_types.specs.Token.{Tokens}
-use Rattle.broker_types.specs.Broker.{Broker}
-use Rattle.records.specs.declared.kind.Kind.{Kind}
+use Rattle.std.proofs.Common.{◌≡◌, ◌∷◌, List, [], true, false, refl, ◌∙◌, ap, true≢false}
+use Rattle.broker_model.specs.Words.{false≢true, or_parts, Text, Tokens, Broker, Kind, joined_rows}
+use Rattle.broker_model.specs.Words.{rows_of-other_tokens, Tells, KeepsOthers, of_tokens, of_cubbyholes, of_leases}
+use Rattle.broker_model.specs.Words.{of_tokens_and_theirs, rows_of, Table, table_of, without_under, Rows}
+use Rattle.broker_model.specs.Words.{without_cubbyholes, object_key}
 use Rattle.records.specs.declared.kind.Kind.TheVariants as kind
-use Rattle.records.specs.PartLaws.{joined_rows, rows_of-other_tokens}
-use Rattle.records.specs.Parts.{Tells, KeepsOthers, of_tokens, of_cubbyholes, of_leases, of_tokens_and_theirs}
-use Rattle.records.specs.Rows.{rows_of}
-use Rattle.records.specs.Table.{Table, table_of, without_under}
-use Rattle.records.specs.Transaction.{Rows}
-use Rattle.cubbyhole.specs.Laws.{without_cubbyholes}
-use Rattle.cubbyhole.specs.Objects.{object_key}
 use Rattle.broker_rows.specs.Ending.{of_belongings, LeavesNothing}
 
 -- ---- on any rows

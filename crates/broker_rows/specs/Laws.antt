@@ -1,15 +1,7 @@
 -- Laws of the rows of a broker, as statements (this project's definition).
 use Rattle.std.specs.Prelude.{◌≡◌, ◌≢◌, ◌<◌, ◌≤◌, ◌^◌, ℕ, Option, None}
-use Rattle.broker_types.specs.Text.{Text}
-use Rattle.broker_types.specs.Moment.{greatest_moment}
-use Rattle.broker_types.specs.First.{first_broker}
-use Rattle.broker_types.specs.Broker.{Broker}
-use Rattle.broker_types.specs.Sound.{Sound}
-use Rattle.broker_model.specs.Forms.{forms}
-use Rattle.records.specs.Rows.{rows_of}
-use Rattle.records.specs.Table.{table_of}
-use Rattle.records.specs.Transaction.{Rows}
-use Rattle.records.specs.Upgraded.{AreUpgraded, ArePlain, old_rows_of}
+use Rattle.broker_model.specs.Words.{Text, greatest_moment, first_broker, Broker, Sound, forms, rows_of, table_of, Rows}
+use Rattle.broker_model.specs.Words.{AreUpgraded, ArePlain, old_rows_of}
 use Rattle.broker_rows.specs.Representing.{Represents}
 
 -- rows represent one broker at most, whoever may have spent its last use

@@ -1,16 +1,7 @@
 -- What is left of a broker when tokens have ended (this project's definition).
 use Rattle.std.specs.Prelude.{◌≡◌, List, Option, Some}
-use Rattle.broker_types.specs.Text.{Text}
-use Rattle.broker_types.specs.Map.{get}
-use Rattle.broker_types.specs.Token.{Token, Tokens}
-use Rattle.broker_types.specs.Broker.{Broker}
-use Rattle.broker_types.specs.Sound.{Sound}
-use Rattle.records.specs.Parts.{Tells, KeepsOthers, of_tokens}
-use Rattle.records.specs.Table.{table_of}
-use Rattle.records.specs.Transaction.{Rows}
-use Rattle.token_tree.specs.Tokens.{AreEnded}
-use Rattle.leases.specs.Endings.{Ending, EndsLeases, Leaves, either, are_owned}
-use Rattle.broker_model.specs.Forms.{forms}
+use Rattle.broker_model.specs.Words.{Text, get, Token, Tokens, Broker, Sound, Tells, KeepsOthers, of_tokens, table_of}
+use Rattle.broker_model.specs.Words.{Rows, AreEnded, Ending, EndsLeases, Leaves, either, are_owned, forms}
 use Rattle.broker_rows.specs.Representing.{Represents}
 
 -- each token is one of the others, with the same cubbyhole

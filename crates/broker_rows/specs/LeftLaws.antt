@@ -1,20 +1,8 @@
 -- Laws of what is left of a broker when tokens have ended.
-use Rattle.std.specs.Prelude.{◌≡◌, not, false, List, Option, Some}
-use Rattle.std.proofs.Common.{refl}
-use Rattle.broker_types.specs.Broker.{Broker, revoke}
-use Rattle.broker_types.specs.Lineage.{is_under, without_descendants}
-use Rattle.broker_types.specs.Map.{get}
-use Rattle.broker_types.specs.SearchLaws.{kept_get}
-use Rattle.broker_types.specs.Sound.{Sound}
-use Rattle.broker_types.specs.Text.{Text}
-use Rattle.broker_types.specs.Token.{Token}
-use Rattle.leases.specs.Laws.{AreLeft}
-use Rattle.leases.specs.LeftLaws.{go_with_tokens, nothing_ends}
-use Rattle.records.specs.Parts.{Tells, KeepsOthers, of_tokens}
-use Rattle.records.specs.Table.{table_of}
-use Rattle.records.specs.Transaction.{Rows}
-use Rattle.token_tree.specs.Tokens.{AreEnded}
-use Rattle.broker_model.specs.Forms.{forms}
+use Rattle.std.specs.Prelude.{◌≡◌, not, false, List, Option, Some, refl}
+use Rattle.broker_model.specs.Words.{Broker, revoke, is_under, without_descendants, get, kept_get, Sound, Text, Token}
+use Rattle.broker_model.specs.Words.{AreLeft, go_with_tokens, nothing_ends, Tells, KeepsOthers, of_tokens, table_of}
+use Rattle.broker_model.specs.Words.{Rows, AreEnded, forms}
 use Rattle.broker_rows.specs.Left.{HaveEnded}
 use Rattle.broker_rows.specs.Representing.{Represents}
 

@@ -14,4 +14,5 @@ pub mod OperatingLaws
 pub mod Representing
 pub mod RepresentingLaws
 pub mod SpendingLaws
+pub mod Words
 pub use Rattle.records.specs.Transaction

@@ -1,20 +1,9 @@
 -- Laws of two identifiers that were marked as given out.
-use Rattle.std.specs.Prelude.{◌≡◌, [], ◌∷◌, Bool, true, false, if◌then◌else◌, cond, Option, Some, option_map, ⊤}
-use Rattle.std.proofs.Common.{refl, sym, ◌∙◌, ap}
-use Rattle.std.proofs.lemmas.Bool.{false≢true, true≢false}
-use Rattle.broker_types.specs.Broker.{Broker}
-use Rattle.broker_types.specs.Map.{get, put}
-use Rattle.broker_types.specs.MapLaws.{get-put}
-use Rattle.broker_types.specs.Text.{Text, same}
-use Rattle.broker_types.specs.Used.{use_up}
-use Rattle.records.specs.PartLaws.{joined_rows, rows_of-other_used}
-use Rattle.records.specs.Parts.{Tells, KeepsOthers, of_used}
-use Rattle.records.specs.RowForms.{used_row}
-use Rattle.records.specs.Rows.{rows_of}
-use Rattle.records.specs.Table.{Table, with_row}
-use Rattle.records.specs.declared.kind.Kind.{Kind}
+use Rattle.std.proofs.Common.{◌≡◌, ◌∷◌, if◌then◌else◌, [], Bool, true, false, cond, Option, Some, option_map, refl, sym}
+use Rattle.broker_model.specs.Words.{⊤, ◌∙◌, ap, false≢true, true≢false, Broker, get, put, get-put, Text, same, use_up}
+use Rattle.broker_model.specs.Words.{joined_rows, rows_of-other_used, Tells, KeepsOthers, of_used, used_row, rows_of}
+use Rattle.broker_model.specs.Words.{Table, with_row, Kind, Row}
 use Rattle.records.specs.declared.kind.Kind.TheVariants as kind
-use Rattle.records.specs.declared.row.Row.{Row}
 
 inner : (v w : Bool) (o : Option Row) (u : Option ⊤) → o ≡ option_map (λ _. used_row) u
     → (if v then Some used_row else (if w then Some used_row else o))

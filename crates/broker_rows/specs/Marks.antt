@@ -1,8 +1,6 @@
 -- The rows that mark identifiers as given out (this project's row format).
-use Rattle.std.specs.Prelude.{List, [], ◌∷◌, Bool, true, not, ◌&&◌, is_none}
-use Rattle.std.specs.List.{list_any}
-use Rattle.broker_types.specs.Text.{Text, same}
-use Rattle.records.specs.Table.{Table}
+use Rattle.std.specs.Prelude.{◌∷◌, ◌&&◌, List, [], Bool, true, not, is_none}
+use Rattle.broker_model.specs.Words.{list_any, Text, same, Table}
 use Rattle.records.specs.declared.kind.Kind.TheVariants as kind
 
 -- no row marks one of them as given out, and no two are equal

@@ -1,21 +1,9 @@
 -- What an operation starts from, and how it ends (this project's definition).
 use Rattle.std.specs.Prelude.{◌≡◌, ◌≢◌, All, List, Bool, true, false, Option, Some, None, Result}
-use Rattle.broker_types.specs.Broker.{Broker}
-use Rattle.broker_types.specs.Map.{get}
-use Rattle.broker_types.specs.Name.{is_mount_name}
-use Rattle.broker_types.specs.Operation.{Done}
-use Rattle.broker_types.specs.Path.{is_path}
-use Rattle.broker_types.specs.RequestError.{Ends}
-use Rattle.broker_types.specs.Sound.{IsIdentifier}
-use Rattle.broker_types.specs.Text.{Text}
-use Rattle.broker_types.specs.Used.{are_new}
-use Rattle.broker_types.specs.declared.refusal.Refusal.{Refusal}
-use Rattle.broker_types.specs.declared.request_error.RequestError.{RequestError}
-use Rattle.records.specs.Transaction.{Seen, Rows, IsHonest}
-use Rattle.mounts.specs.Route.{Route}
-use Rattle.mounts.specs.RouteTable.{takes_parameter}
-use Rattle.mounts.specs.declared.operation.Operation.{Operation}
-use Rattle.mounts.specs.declared.operation.Operation.TheVariants.{Secrets, Issued}
+use Rattle.broker_model.specs.Words.{Broker, get, is_mount_name, Done, is_path, Ends, IsIdentifier, Text, are_new}
+use Rattle.broker_model.specs.Words.{Refusal, RequestError, Seen, Rows, IsHonest, Route, takes_parameter, Operation}
+use Rattle.broker_model.specs.Words.{Secrets}
+use Rattle.mounts.specs.declared.operation.Operation.TheVariants.{Issued}
 use Rattle.broker_rows.specs.Caller.{Caller, IsCallerOf}
 use Rattle.broker_rows.specs.Context.{Context}
 use Rattle.broker_rows.specs.Representing.{Represents}

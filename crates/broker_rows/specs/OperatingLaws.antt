@@ -1,14 +1,7 @@
 -- Laws of operations that look for something.
-use Rattle.std.specs.Prelude.{◌≡◌, Option, Some, None, Result, Ok, Err}
-use Rattle.std.proofs.Common.{refl, sym, subst}
-use Rattle.broker_types.specs.Broker.{Broker}
-use Rattle.broker_types.specs.Operation.{Done}
-use Rattle.broker_types.specs.Refuse.{◌>>=◌, some_or}
-use Rattle.broker_types.specs.Text.{Text}
+use Rattle.std.proofs.Common.{◌≡◌, Option, Some, None, Result, Ok, Err, refl, sym, subst}
+use Rattle.broker_model.specs.Words.{Broker, Done, ◌>>=◌, some_or, Text, RequestError, Refused, Rows}
 use Rattle.broker_types.specs.declared.refusal.Refusal.TheVariants as refusal
-use Rattle.broker_types.specs.declared.request_error.RequestError.{RequestError}
-use Rattle.broker_types.specs.declared.request_error.RequestError.TheVariants.{Refused}
-use Rattle.records.specs.Transaction.{Rows}
 use Rattle.broker_rows.specs.Representing.{Represents}
 use Rattle.broker_rows.specs.declared.answered.Answered as Code
 use Rattle.broker_rows.specs.Operating.{ActsAs}

@@ -1,15 +1,6 @@
 -- Which rows represent which broker (this project's definition).
 use Rattle.std.specs.Prelude.{◌≡◌, Option, None}
-use Rattle.broker_types.specs.Text.{Text}
-use Rattle.broker_types.specs.Broker.{Broker}
-use Rattle.broker_types.specs.Sound.{Sound}
-use Rattle.broker_types.specs.Answer.{response_of}
-use Rattle.broker_types.specs.declared.answer.Answer.{Answer}
-use Rattle.broker_model.specs.Forms.{forms}
-use Rattle.broker_model.specs.Order.{Outcome}
-use Rattle.records.specs.Transaction.{Rows}
-use Rattle.records.specs.Table.{table_of}
-use Rattle.records.specs.Rows.{rows_of}
+use Rattle.broker_model.specs.Words.{Text, Broker, Sound, response_of, Answer, forms, Outcome, Rows, table_of, rows_of}
 
 -- The rows are those of the broker, which is sound, but for the caller who may have spent its last use: none between
 -- two requests.

@@ -1,35 +1,14 @@
 -- Laws of rows that represent a broker.
-use Rattle.std.proofs.Common.{refl, sym, ◌∙◌, ap, subst, inl, inr}
-use Rattle.std.proofs.lemmas.Bool.{false≢true}
-use Rattle.std.specs.Prelude.{◌≡◌, Bool, true, false, if◌then◌else◌, Option, Some, None, option_map, option_and_then}
-use Rattle.std.specs.Prelude.{◌≢◌, List, length}
-use Rattle.broker_types.specs.Broker.{Broker}
-use Rattle.broker_types.specs.Map.{get, change}
-use Rattle.broker_types.specs.MapLaws.{get-change}
-use Rattle.broker_types.specs.OptionLaws.{found_or_not}
-use Rattle.broker_types.specs.IdentifierPlaces.{Place, token, wrapping_token, token_identifier, lease_of, OnePlaceEach}
-use Rattle.broker_types.specs.Spending.{drop_waiting}
-use Rattle.broker_types.specs.SpendingLaws.{drop_sound}
-use Rattle.broker_types.specs.Text.{Text, same}
-use Rattle.broker_types.specs.Sound.{Sound}
-use Rattle.broker_types.specs.Token.{Token}
-use Rattle.records.specs.CubbyKeyLaws.{length-token}
-use Rattle.records.specs.PartLaws.{AgreeOutside, joined_rows, rows_of-other_waiting}
-use Rattle.records.specs.Parts.{Part, Tells, KeepsOthers, of_tokens, of_leases, of_waiting, of_mounts, of_policies}
-use Rattle.records.specs.Rows.{token_len}
-use Rattle.records.specs.Table.{Table, table_of}
-use Rattle.records.specs.Transaction.{Rows}
-use Rattle.token_tree.specs.Tokens.{RepresentsTokens}
-use Rattle.leases.specs.LeaseRows.{RepresentsLeases}
-use Rattle.leases.specs.LeftLaws.{same_rows}
-use Rattle.leases.specs.TellLaws.{token_of}
-use Rattle.wrapping.specs.WaitingRows.{RepresentsWaiting}
-use Rattle.mounts.specs.MountRows.{AreMounts}
-use Rattle.mounts.specs.TellLaws.{mounts_told}
-use Rattle.policies.specs.PolicyLaws.{told_at}
-use Rattle.policies.specs.PolicyRows.{ArePoliciesAt, ArePolicies}
-use Rattle.policies.specs.TellLaws.{policies_told}
-use Rattle.broker_model.specs.Forms.{forms}
+use Rattle.std.specs.Prelude.{◌≡◌, if◌then◌else◌, ◌≢◌, refl, Bool, true, false, Option, Some, None, option_map, List}
+use Rattle.broker_model.specs.Words.{sym, ◌∙◌, ap, subst, inl, inr, false≢true, option_and_then, length, Broker, get}
+use Rattle.broker_model.specs.Words.{change, get-change, found_or_not, token, wrapping_token, token_identifier}
+use Rattle.broker_model.specs.Words.{lease_of, OnePlaceEach, drop_waiting, drop_sound, Text, same, Sound, Token}
+use Rattle.broker_model.specs.Words.{length-token, AgreeOutside, joined_rows, rows_of-other_waiting, Part, Tells}
+use Rattle.broker_model.specs.Words.{KeepsOthers, of_tokens, of_leases, of_waiting, of_mounts, of_policies, token_len}
+use Rattle.broker_model.specs.Words.{Table, table_of, Rows, RepresentsTokens, RepresentsLeases, same_rows, token_of}
+use Rattle.broker_model.specs.Words.{RepresentsWaiting, AreMounts, mounts_told, told_at, ArePoliciesAt, ArePolicies}
+use Rattle.broker_model.specs.Words.{policies_told, forms}
+use Rattle.broker_types.specs.IdentifierPlaces.{Place}
 use Rattle.broker_rows.specs.EndingLaws.{no_token, is_lease}
 use Rattle.broker_rows.specs.Representing.{Represents}
 

@@ -1,23 +1,10 @@
 -- The use that a caller spends: from the rows to the broker.
-use Rattle.std.specs.Prelude.{◌≡◌, Bool, true, false, take, drop, ◌+◌, if◌then◌else◌}
-use Rattle.std.specs.Prelude.{Option, Some, None, option_map, option_and_then}
-use Rattle.std.proofs.Common.{refl, sym, ◌∙◌, ap}
-use Rattle.std.proofs.lemmas.Bool.{false≢true}
-use Rattle.broker_types.specs.Text.{Text, same}
-use Rattle.broker_types.specs.Map.{get}
-use Rattle.broker_types.specs.Token.{Token}
-use Rattle.broker_types.specs.Broker.{Broker}
-use Rattle.broker_types.specs.MapLaws.{get-change}
-use Rattle.broker_types.specs.Spending.{spend, one_less}
-use Rattle.broker_types.specs.SpendingLaws.{spend_sound}
-use Rattle.records.specs.declared.kind.Kind.{Kind}
+use Rattle.std.specs.Prelude.{◌≡◌, ◌+◌, if◌then◌else◌, Bool, true, false, take, drop, Option, Some, None, option_map}
+use Rattle.broker_model.specs.Words.{option_and_then, refl, sym, ◌∙◌, ap, false≢true, Text, same, get, Token, Broker}
+use Rattle.broker_model.specs.Words.{get-change, spend, one_less, spend_sound, Kind, Tells, KeepsOthers, of_tokens}
+use Rattle.broker_model.specs.Words.{of_cubbyholes, cubby_row, rows_of, token_len, has_slash, object_row, Table}
+use Rattle.broker_model.specs.Words.{table_of, Rows, forms}
 use Rattle.records.specs.declared.kind.Kind.TheVariants as kind
-use Rattle.records.specs.Parts.{Tells, KeepsOthers, of_tokens, of_cubbyholes}
-use Rattle.records.specs.RowForms.{cubby_row}
-use Rattle.records.specs.Rows.{rows_of, token_len, has_slash, object_row}
-use Rattle.records.specs.Table.{Table, table_of}
-use Rattle.records.specs.Transaction.{Rows}
-use Rattle.broker_model.specs.Forms.{forms}
 use Rattle.broker_rows.specs.Representing.{Represents}
 use Rattle.broker_rows.specs.EndingLaws.{no_token, is_object, is_elsewhere, other_tokens}
 use Rattle.broker_rows.specs.RepresentingLaws.{leases_still, changed_leases}

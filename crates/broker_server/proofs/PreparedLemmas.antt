@@ -1,20 +1,11 @@
 -- What follows from how a store was made ready.
-use Rattle.std.proofs.Common.{◌≡◌, ◌≢◌, ◌⊎◌, inl, inr, ℕ, ◌≤◌, Option, Some, None, sym, subst, arith}
-use Rattle.std.specs.FinMap.{empty, get-empty}
+use Rattle.std.proofs.Common.{◌≡◌, ◌≢◌, ◌⊎◌, ◌≤◌, inl, inr, ℕ, Option, Some, None, sym, subst, arith}
+use Rattle.records.specs.Words.{empty, get-empty, Broker, Text, Words, Kept, IsHonestStore, key_cmp, table_of}
+use Rattle.records.specs.Words.{table_of-injective, Rows, one_table}
 use Rattle.sqlite_trees.specs.declared.store.Store as store
-use Rattle.broker_types.specs.Broker.{Broker}
-use Rattle.broker_types.specs.Text.{Text}
-use Rattle.broker_types.specs.declared.words.Words.{Words}
-use Rattle.records.specs.Kept.{Kept, IsHonestStore}
-use Rattle.records.specs.Kind.{key_cmp}
-use Rattle.records.specs.Table.{table_of}
-use Rattle.records.specs.TableLaws.{table_of-injective}
-use Rattle.records.specs.Transaction.{Rows}
-use Rattle.records.specs.UpgradedLaws.{one_table}
-use Rattle.records_sql.specs.KeptRecords.{kept_records}
+use Rattle.records_sql.specs.Words.{kept_records}
 use Rattle.records_sql.specs.declared.sql_records.SqlRecords.{SqlRecords}
-use Rattle.broker_rows.specs.Representing.{Represents}
-use Rattle.broker_rows.specs.ClockRow.{HasNoClock}
+use Rattle.broker_rows.specs.Words.{Represents, HasNoClock}
 use Rattle.broker_sql.specs.Beginning.{LacksClock}
 use Rattle.broker_sql.specs.Prepared.{CannotStart, IsPrepared}
 use Rattle.database_check.specs.Findings.{OpenAsABroker}

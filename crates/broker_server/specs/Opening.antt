@@ -1,6 +1,6 @@
 -- What is said before a database is opened (this project's format).
-use Rattle.std.specs.Prelude.{ℕ, ◌+◌, ◌/◌, nat_lt, if◌then◌else◌, ◌++◌, codes, decimal, Option, Some, None}
-use Rattle.broker_types.specs.Text.{Text}
+use Rattle.std.specs.Prelude.{◌+◌, ◌/◌, if◌then◌else◌, ◌++◌, ℕ, nat_lt, codes, decimal, Option, Some, None}
+use Rattle.records.specs.Words.{Text}
 
 -- so many bytes in megabytes, rounded
 abbrev pub megabytes : ℕ → ℕ

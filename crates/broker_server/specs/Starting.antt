@@ -1,5 +1,5 @@
 -- What serving a new broker, or one that was checked, ends with (this project's definition).
-use Rattle.std.specs.Prelude.{⊤}
+use Rattle.records.specs.Words.{⊤}
 use Rattle.database_check.specs.declared.defect.Defect.{Defect}
 use Rattle.hub.specs.declared.serve.ConnectionFault.{ConnectionFault}
 use Rattle.hub.specs.declared.serve.ConnectionFault.TheVariants.{Broker, Read, Write}

@@ -1,15 +1,9 @@
 -- A file that was there before, as a store.
-use Rattle.std.proofs.Common.{◌≡◌, ◌≤◌, IsTrue, Ok, Err, Result, sym, subst, ◌∙◌, arith}
-use Rattle.std.specs.Prelude.{IfOk}
+use Rattle.std.proofs.Common.{◌≡◌, ◌≤◌, IsTrue, Ok, Err, Result, sym, subst, ◌∙◌, arith, IfOk}
 use Rattle.sqlite.specs.Recovery.{Image}
-use Rattle.records.specs.Table.{table_of}
-use Rattle.records.specs.Transaction.{Rows}
-use Rattle.records.specs.Upgraded.{AreUpgraded}
-use Rattle.records.specs.UpgradedLaws.{clock_stays, empty_stays}
-use Rattle.records_sql.specs.Adopted.{IsKeptIn}
-use Rattle.std.specs.FinMap.{empty}
-use Rattle.records.specs.Kept.{Kept, IsHonestStore}
-use Rattle.broker_rows.specs.ClockRow.{HasNoClock}
+use Rattle.broker_model.specs.Words.{table_of, Rows, AreUpgraded, clock_stays, empty_stays, empty, Kept, IsHonestStore}
+use Rattle.records_sql.specs.Words.{IsKeptIn}
+use Rattle.broker_rows.specs.Words.{HasNoClock}
 
 pub if_three : {T E : Type 0} {P Q R Z : T → Type 0} (r : Result T E) → ((x : T) → P x → Q x → R x → Z x) → IfOk r P
     → IfOk r Q → IfOk r R → IfOk r Z

@@ -1,18 +1,10 @@
 -- Rows that are looked for kind by kind.
-use Rattle.std.proofs.Common.{◌≡◌, ◌∙◌, ℕ, ◌+◌, ◌-◌, ◌≤◌, List, [], ◌∷◌, false, true, refl, sym, ap, subst, arith}
-use Rattle.std.specs.Prelude.{cond, ◌&&◌, nat_eq, slice_index_or, filter, nat_le}
-use Rattle.std.specs.List.{starts_with}
-use Rattle.std.specs.FinMap.{entries, entries_sorted, empty, get-empty, get-entries, same_entries_map}
-use Rattle.std.specs.FinMap.Entries.{same_entries}
-use Rattle.std.proofs.lemmas.Bool.Decides.{nat_tests}
-use Rattle.records.specs.declared.kind.Kind.{Kind}
+use Rattle.std.proofs.Common.{◌≡◌, ◌+◌, ◌-◌, ◌≤◌, ◌∷◌, ◌&&◌, ◌∙◌, ℕ, List, [], false, true, refl, sym, ap, subst, arith}
+use Rattle.broker_model.specs.Words.{cond, nat_eq, slice_index_or, filter, nat_le, starts_with, entries, entries_sorted}
+use Rattle.broker_model.specs.Words.{empty, get-empty, get-entries, same_entries_map, same_entries, nat_tests, Kind}
+use Rattle.broker_model.specs.Words.{Row, goes_further, honest_before, key_cmp_total, key_cmp_exact, RowKey, key_cmp}
+use Rattle.broker_model.specs.Words.{kind_number, is_of_kind, Rows, Seen, GoesOn, IsHonest, rows_under, eqb_self}
 use Rattle.records.specs.declared.kind.Kind.TheVariants as k
-use Rattle.records.specs.declared.row.Row.{Row}
-use Rattle.records.specs.CallLaws.{goes_further, honest_before}
-use Rattle.records.specs.KeyLaws.{key_cmp_total, key_cmp_exact}
-use Rattle.records.specs.Kind.{RowKey, key_cmp, kind_number, is_of_kind}
-use Rattle.records.specs.Transaction.{Rows, Seen, GoesOn, IsHonest, rows_under}
-use Rattle.records.specs.SplitLaws.{eqb_self}
 
 -- the kinds in their order
 abbrev pub kinds : List Kind

@@ -1,18 +1,8 @@
 -- What follows from how a store was adopted, looked at and started.
-use Rattle.std.proofs.Common.{◌≡◌, ◌≢◌, ◌⊎◌, inl, inr, ℕ, ◌≤◌, None, slice_index, sym, subst, ◌∙◌, arith}
-use Rattle.std.specs.FinMap.{empty}
-use Rattle.broker_types.specs.First.{first_broker}
-use Rattle.broker_types.specs.Identifier.{id}
-use Rattle.broker_types.specs.Text.{Text}
-use Rattle.broker_types.specs.TokenText.{token_text}
-use Rattle.broker_types.specs.declared.words.Words.{Words}
-use Rattle.records.specs.Kept.{Kept, IsHonestStore}
-use Rattle.records.specs.Table.{table_of}
-use Rattle.records.specs.Transaction.{Rows}
-use Rattle.records.specs.Upgraded.{AreUpgraded}
-use Rattle.records.specs.UpgradedLaws.{clock_stays, empty_before, empty_stays}
-use Rattle.broker_rows.specs.Representing.{Represents}
-use Rattle.broker_rows.specs.ClockRow.{HasNoClock}
+use Rattle.std.proofs.Common.{◌≡◌, ◌≢◌, ◌⊎◌, ◌≤◌, inl, inr, ℕ, None, slice_index, sym, subst, ◌∙◌, arith}
+use Rattle.broker_model.specs.Words.{empty, first_broker, id, Text, token_text, Words, Kept, IsHonestStore, table_of}
+use Rattle.broker_model.specs.Words.{Rows, AreUpgraded, clock_stays, empty_before, empty_stays}
+use Rattle.broker_rows.specs.Words.{Represents, HasNoClock}
 use Rattle.broker_sql.specs.Prepared.{IsOpened, IsStarted}
 
 -- A start is refused for its words, or for rows that are there: they are not, as long as the storage returned what was

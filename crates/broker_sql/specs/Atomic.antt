@@ -1,8 +1,6 @@
 -- What a transaction leaves of a store, by how it ends (this project's definition).
 use Rattle.std.specs.Prelude.{◌≡◌, ◌≤◌, Result, IsTrue, OnOk, OnErr}
-use Rattle.broker_types.specs.declared.fault.Fault.{Fault}
-use Rattle.records.specs.Kept.{Kept, IsHonestStore}
-use Rattle.records.specs.Transaction.{is_storage}
+use Rattle.broker_model.specs.Words.{Fault, Kept, IsHonestStore, is_storage}
 
 -- Whole or not at all: after a fault the rows are as before, as long as the storage can still be asked. It can after an
 -- answer; after a fault nothing is known of that.

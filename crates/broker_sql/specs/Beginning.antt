@@ -6,14 +6,10 @@ use Rattle.sqlite_store.specs.declared.store.FileStore.{FileStore}
 use Rattle.sqlite_trees.specs.declared.store.Store as store
 use Rattle.sqlite.specs.Files.{over_files}
 use Rattle.sqlite.specs.Recovery.{Image}
-use Rattle.broker_types.specs.declared.fault.Fault.{Fault}
-use Rattle.broker_types.specs.declared.fault.Fault.TheVariants.{BadStart}
-use Rattle.records.specs.Kept.{IsHonestStore}
-use Rattle.records.specs.Transaction.{Rows}
-use Rattle.records_sql.specs.Adopted.{IsKeptIn}
-use Rattle.records_sql.specs.KeptRecords.{kept_records}
+use Rattle.broker_model.specs.Words.{Fault, BadStart, IsHonestStore, Rows}
+use Rattle.records_sql.specs.Words.{IsKeptIn, kept_records}
 use Rattle.records_sql.specs.declared.sql_records.SqlRecords.{SqlRecords}
-use Rattle.broker_rows.specs.ClockRow.{HasNoClock}
+use Rattle.broker_rows.specs.Words.{HasNoClock}
 
 -- What is told of the rows: it was started, if there is the row of the clock, which each broker keeps, and not if there
 -- is no row at all.

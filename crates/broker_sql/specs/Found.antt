@@ -3,8 +3,8 @@ use Rattle.std.specs.Prelude.{◌≡◌, IsTrue}
 use Rattle.sqlite_trees.specs.Tree.{Trees}
 use Rattle.sqlite_trees.specs.declared.store.Store as store
 use Rattle.sqlite.specs.Held.{state}
-use Rattle.records.specs.Transaction.{Rows}
-use Rattle.records_sql.specs.SqlTable.{rows_of}
+use Rattle.broker_model.specs.Words.{Rows}
+use Rattle.records_sql.specs.Words.{rows_of}
 use Rattle.broker_sql.specs.SqlKept.{sql_kept}
 use Rattle.broker_sql.specs.declared.sql_store.SqlStore.{SqlStore}
 

@@ -1,9 +1,8 @@
 -- A store over files that never return other than what was written (this project's).
-use Rattle.std.specs.Prelude.{IsTrue}
+use Rattle.broker_model.specs.Words.{IsTrue, IsHonestStore}
 use Rattle.sqlite_disk.specs.declared.Disk.{Ghosts}
 use Rattle.sqlite_store.specs.declared.store.FileStore.{FileStore}
 use Rattle.sqlite.specs.Files.{over_files}
-use Rattle.records.specs.Kept.{IsHonestStore}
 use Rattle.ram_disk.specs.CleanLaws.{always_clean}
 use Rattle.broker_sql.specs.SqlKept.{sql_kept}
 use Rattle.broker_sql.specs.declared.sql_store.SqlStore.{SqlStore}

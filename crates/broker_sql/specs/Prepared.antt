@@ -2,20 +2,11 @@
 use Rattle.std.specs.Prelude.{◌≡◌, ◌≢◌, ◌≤◌, ℕ, Option, Some, None}
 use Rattle.std.specs.FinMap as map
 use Rattle.sqlite_trees.specs.declared.store.Store as store
-use Rattle.broker_types.specs.First.{first_broker}
-use Rattle.broker_types.specs.Identifier.{id}
-use Rattle.broker_types.specs.Names.{token_word, accessor_word}
-use Rattle.broker_types.specs.Text.{Text}
-use Rattle.broker_types.specs.TokenText.{token_text}
-use Rattle.broker_types.specs.declared.words.Words.{Words}
-use Rattle.records.specs.Kept.{IsHonestStore}
-use Rattle.records.specs.Table.{table_of}
-use Rattle.records.specs.Transaction.{Rows}
-use Rattle.records.specs.Upgraded.{AreUpgraded}
-use Rattle.records_sql.specs.KeptRecords.{kept_records}
+use Rattle.broker_model.specs.Words.{first_broker, id, token_word, accessor_word, Text, token_text, Words}
+use Rattle.broker_model.specs.Words.{IsHonestStore, table_of, Rows, AreUpgraded}
+use Rattle.records_sql.specs.Words.{kept_records}
 use Rattle.records_sql.specs.declared.sql_records.SqlRecords.{SqlRecords}
-use Rattle.broker_rows.specs.ClockRow.{HasNoClock}
-use Rattle.broker_rows.specs.Representing.{Represents}
+use Rattle.broker_rows.specs.Words.{HasNoClock, Represents}
 
 -- a broker that was there before, with the row of the clock, as it was: rows of keys in format 1 are in format 2
 pub record IsOpened (before after : Rows) : Type 0 where

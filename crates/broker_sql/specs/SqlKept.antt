@@ -1,7 +1,7 @@
 -- What contracts see of a store in a database (this project's definition).
 use Rattle.sqlite_trees.specs.declared.store.Store as store
-use Rattle.records.specs.Kept.{Kept, IsHonestStore}
-use Rattle.records_sql.specs.KeptRecords.{kept_records}
+use Rattle.broker_model.specs.Words.{Kept, IsHonestStore}
+use Rattle.records_sql.specs.Words.{kept_records}
 use Rattle.broker_sql.specs.declared.sql_store.SqlStore.{SqlStore}
 
 abbrev pub sql_kept : {S : Type 0} (g : store.Ghosts S) → SqlStore S g → Kept

@@ -1,11 +1,9 @@
 -- Counting off years and months finds the date whose day number it is.
-use Rattle.std.proofs.Common.{◌≡◌, ℕ, zero, suc, ◌+◌, ◌-◌, ◌<◌, ◌≤◌, pos, ℤ, ◌-ℤ◌, refl, ap, ◌∙◌}
-use Rattle.std.proofs.Common.{arith, inl, inr}
-use Rattle.std.proofs.lemmas.Bool.{cases_lt, lt-ltb, le-ltb}
+use Rattle.std.proofs.Common.{◌≡◌, ◌+◌, ◌-◌, ◌<◌, ◌≤◌, ◌-ℤ◌, ℕ, zero, suc, pos, ℤ, refl, ap, ◌∙◌, arith, inl, inr}
+use Rattle.broker_types.specs.Words.{cases_lt, lt-ltb, le-ltb, Day, day_from_year, day_from_month}
 use Rattle.jiff_core.specs.Calendar.{days_in_year, days_in_month, days_of_years, days_of_months}
 use Rattle.jiff_core.proofs.CalendarLemmas.{days_of_months_mono}
 use Rattle.jiff_core.proofs.SignedLemmas.{signed_arith}
-use Rattle.broker_types.specs.Time.{Day, day_from_year, day_from_month}
 
 -- the days before a year
 abbrev pub before : ℕ → ℕ

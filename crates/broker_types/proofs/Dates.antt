@@ -1,12 +1,10 @@
 -- A date of the library is the civil date of its day number.
-use Rattle.std.proofs.Common.{◌≡◌, ℕ, suc, ◌+◌, ◌-◌, ◌<◌, ◌≤◌, pos, negsuc, ℤ, ◌<ℤ◌, ◌≤ℤ◌, unsigned_abs, refl, sym, ◌∙◌}
-use Rattle.std.proofs.Common.{arith}
-use Rattle.std.proofs.lemmas.Int.{by_lt_z}
+use Rattle.std.proofs.Common.{◌≡◌, ◌+◌, ◌-◌, ◌<◌, ◌≤◌, ◌<ℤ◌, ◌≤ℤ◌, ℕ, suc, pos, negsuc, ℤ, unsigned_abs, refl, sym, ◌∙◌}
+use Rattle.broker_types.specs.Words.{arith, by_lt_z, civil}
 use Rattle.jiff_core.specs.Calendar.{days_in_month, days_of_years, days_of_months, day_count, days_from_civil}
 use Rattle.jiff_core.specs.Calendar.{IsCivilDate}
 use Rattle.jiff_core.proofs.CalendarLemmas.{day_count-lt_year, day_of_year_bound, days_of_months-zero}
 use Rattle.jiff_core.proofs.SignedLemmas.{signed_arith}
-use Rattle.broker_types.specs.Time.{civil}
 use Rattle.broker_types.proofs.Counted.{year_found, month_found}
 
 early : (y : ℤ) (m d n : ℕ) → IsCivilDate y m d → days_from_civil y m d ≡ pos n → y <ℤ pos 1970 → pos 0 <ℤ pos 0

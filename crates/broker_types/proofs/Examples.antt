@@ -1,29 +1,17 @@
 -- Definitions computed on small inputs.
-use Rattle.std.specs.Prelude.{◌≡◌, ◌+◌, ℕ, List, [], ◌∷◌, true, false, not, cond, Option, Some, None, option_map}
-use Rattle.std.specs.Prelude.{option_and_then, if◌then◌else◌, nat_lt}
-use Rattle.std.specs.Prelude.{length, replicate, codes, is_none, ◌&&◌, ⊤}
-use Rattle.std.specs.declared.cmp.Ordering.TheVariants.{Less, Greater}
+use Rattle.std.proofs.Common.{◌≡◌, ◌+◌, ◌∷◌, if◌then◌else◌, ◌&&◌, ℕ, List, [], true, false, not, cond, Option, Some, ap}
+use Rattle.broker_types.specs.Words.{None, option_map, option_and_then, nat_lt, length, replicate, codes, is_none, ⊤}
+use Rattle.broker_types.specs.Words.{Less, Greater, list_any, list_all, option_map_or, refl, ◌∙◌, Text, text_cmp, same}
+use Rattle.broker_types.specs.Words.{Map, get, len, put, without, keep, with_values, map_values, change, first_where}
+use Rattle.broker_types.specs.Words.{entries, empty, is_name, is_mount_name, Token, Tokens, Lease, climb, lineage}
+use Rattle.broker_types.specs.Words.{is_under, without_descendants, without_parent, orphaned_by, outlasts, is_alive}
+use Rattle.broker_types.specs.Words.{alive_at, with_live_leases, ends_within, Broker, Waiting, waiting_ends, at_moment}
+use Rattle.broker_types.specs.Words.{revoke, root_token, first_broker, is_ascending, token_identifier, lease_identifier}
+use Rattle.broker_types.specs.Words.{identifier_at, credential, wrapping_token, wrapping_accessor, one_less, is_spent}
+use Rattle.broker_types.specs.Words.{spend, end_spent, are_new, use_up}
 use Rattle.std.specs.FinMap as fin
-use Rattle.std.specs.List.{find, list_any, list_all}
-use Rattle.std.specs.Option.{option_map_or}
-use Rattle.std.proofs.Common.{refl, ◌∙◌, ap}
-use Rattle.broker_types.specs.Text.{Text, text_cmp, same}
-use Rattle.broker_types.specs.Map.{Map, get, len, put, without, keep, with_values, map_values, change, first_where}
-use Rattle.broker_types.specs.Map.{entries, empty}
-use Rattle.broker_types.specs.Name.{is_name, is_mount_name}
-use Rattle.broker_types.specs.Token.{Token, Tokens, Lease}
-use Rattle.broker_types.specs.Lineage.{climb, lineage, is_under, without_descendants, without_parent, orphaned_by}
-use Rattle.broker_types.specs.Lineage.{outlasts, is_alive, alive_at}
-use Rattle.broker_types.specs.Lineage.{with_live_leases, ends_within}
-use Rattle.broker_types.specs.Broker.{Broker, Waiting, waiting_ends, at_moment, revoke}
-use Rattle.broker_types.specs.First.{root_token, first_broker}
-use Rattle.broker_types.specs.Sound.{is_ascending}
+use Rattle.std.specs.List.{find}
 use Rattle.broker_types.specs.IdentifierPlaces as place
-use Rattle.broker_types.specs.IdentifierPlaces.{token_identifier, lease_identifier, identifier_at, credential}
-use Rattle.broker_types.specs.IdentifierPlaces.{wrapping_token}
-use Rattle.broker_types.specs.IdentifierPlaces.{wrapping_accessor}
-use Rattle.broker_types.specs.Spending.{one_less, is_spent, spend, end_spent}
-use Rattle.broker_types.specs.Used.{are_new, use_up}
 use Rattle.broker_types.specs.MapLaws.{get-put, get-without, get-keep, get-map_values, get-change, entries-map_values}
 
 -- ---- texts

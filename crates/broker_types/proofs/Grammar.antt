@@ -1,23 +1,14 @@
 -- The texts that have seconds are those of the grammar.
-use Rattle.std.specs.Prelude.{◌≡◌, ◌≢◌, ◌≤◌, ◌⊎◌, ℕ, suc, ◌+◌, ◌-◌, ◌*◌, ◌==◌, ◌&&◌, nat_le, List, [], ◌∷◌, ◌++◌}
-use Rattle.std.specs.Prelude.{length, Bool, true, false, not, cond}
-use Rattle.std.specs.Prelude.{if◌then◌else◌, Option, Some, None, option_and_then, unwrap_or, All, sum_by}
-use Rattle.std.specs.List.{list_all, flat_map}
-use Rattle.std.specs.Char.{is_ascii_digit, digit_value}
-use Rattle.std.specs.Int.{IsInRange}
-use Rattle.std.specs.Str.Parse.{AllDigits, IsNumeral, digits_value, digits_value_after}
-use Rattle.std.proofs.Common.{refl, sym, ◌∙◌, ap, subst, inl, inr, arith, append_assoc}
-use Rattle.std.proofs.lemmas.Bool.Decides.{nat_tests}
-use Rattle.std.proofs.lemmas.List.Sums.{sum_by-cons}
-use Rattle.std.proofs.lemmas.List.Elements.{All-nil, All-cons, All-head, All-tail}
-use Rattle.std.proofs.lemmas.Str.{digit_value_digit}
-use Rattle.std.proofs.lemmas.Bool.{false≢true, eqb-true}
-use Rattle.std.proofs.lemmas.Option.{none-some, same_Some}
-use Rattle.std.proofs.Math.Bool.{and-false}
-use Rattle.broker_types.specs.Duration.{unit_of, group_end, groups, with_unit, at_most, longest_duration, duration_of}
-use Rattle.broker_types.specs.Duration.{TimeUnit, hours, minutes, seconds}
-use Rattle.broker_types.specs.Duration.{unit_byte, unit_seconds, Group, IsGroup, group_text, group_seconds, IsCount}
-use Rattle.broker_types.specs.Duration.{IsSum, IsDuration}
+use Rattle.std.proofs.Common.{◌≡◌, ◌≢◌, ◌≤◌, ◌⊎◌, ◌+◌, ◌-◌, ◌*◌, ◌==◌, ◌&&◌, ◌∷◌, ◌++◌, if◌then◌else◌, ℕ, suc, nat_le}
+use Rattle.broker_types.specs.Words.{List, [], length, Bool, true, false, not, cond, Option, Some, None}
+use Rattle.broker_types.specs.Words.{option_and_then, unwrap_or, All, sum_by, list_all, flat_map, is_ascii_digit}
+use Rattle.broker_types.specs.Words.{digit_value, IsInRange, AllDigits, IsNumeral, digits_value, digits_value_after}
+use Rattle.broker_types.specs.Words.{refl, sym, ◌∙◌, ap, subst, inl, inr, arith, append_assoc, nat_tests, sum_by-cons}
+use Rattle.broker_types.specs.Words.{All-nil, All-cons, All-head, All-tail, digit_value_digit, false≢true, eqb-true}
+use Rattle.broker_types.specs.Words.{none-some, same_Some, and-false, unit_of, group_end, groups, with_unit, at_most}
+use Rattle.broker_types.specs.Words.{longest_duration, duration_of, TimeUnit, hours, minutes, seconds, unit_byte}
+use Rattle.broker_types.specs.Words.{unit_seconds, Group, IsGroup, group_text, group_seconds, IsCount, IsSum}
+use Rattle.broker_types.specs.Words.{IsDuration}
 use Rattle.broker_types.proofs.Groups.{in_range}
 use Rattle.broker_types.specs.DecimalLaws.{is_digit, digit_small, all_digits, digits_all}
 

@@ -1,15 +1,9 @@
 -- What the groups of a text come to.
-use Rattle.std.specs.List.{list_all}
-use Rattle.std.specs.Char.{is_ascii_digit}
-use Rattle.std.proofs.Common.{◌≡◌, ℕ, ◌+◌, ◌-◌, ◌*◌, ◌<◌, ◌≤◌, ◌==◌, ◌&&◌, nat_le, List, [], ◌∷◌, ◌++◌, length, get_or}
-use Rattle.std.proofs.Common.{drop, Bool, true, false, not, cond}
-use Rattle.std.proofs.Common.{Option, Some, None, option_and_then, unwrap_or, refl, sym, ap, ◌∙◌, arith}
-use Rattle.std.proofs.Math.Nat.{mul-le-mul_left}
-use Rattle.std.proofs.Math.ListN.{drop_of_length-le}
-use Rattle.std.proofs.lemmas.List.{append-nil}
-use Rattle.std.proofs.lemmas.Bool.Decides.{nat_tests}
-use Rattle.broker_types.specs.Duration.{unit_of, group_end, group_step, groups, whole_groups, with_unit, at_most}
-use Rattle.broker_types.specs.Duration.{duration_of}
+use Rattle.std.proofs.Common.{◌≡◌, ◌+◌, ◌-◌, ◌*◌, ◌<◌, ◌≤◌, ◌==◌, ◌&&◌, ◌∷◌, ◌++◌, ℕ, nat_le, List, [], length, get_or}
+use Rattle.broker_types.specs.Words.{list_all, is_ascii_digit, drop, Bool, true, false, not, cond, Option, Some, None}
+use Rattle.broker_types.specs.Words.{option_and_then, unwrap_or, refl, sym, ap, ◌∙◌, arith, mul-le-mul_left}
+use Rattle.broker_types.specs.Words.{drop_of_length-le, append-nil, nat_tests, unit_of, group_end, group_step, groups}
+use Rattle.broker_types.specs.Words.{whole_groups, with_unit, at_most, duration_of}
 use Rattle.broker_types.specs.SliceLaws.{drop_first}
 
 past : (n : ℕ) → 4294967295 < n → at_most (Some n) ≡ None

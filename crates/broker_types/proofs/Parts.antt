@@ -1,8 +1,6 @@
 -- One byte more of a path.
-use Rattle.std.specs.List.{list_all}
-use Rattle.std.proofs.Common.{◌≡◌, ℕ, ◌+◌, ◌<◌, ◌≤◌, ◌==◌, List, length, get_or, drop}
-use Rattle.std.proofs.Common.{slice_range, true, false, refl}
-use Rattle.broker_types.specs.Path.{is_segment, segments}
+use Rattle.std.proofs.Common.{◌≡◌, ◌+◌, ◌<◌, ◌≤◌, ◌==◌, ℕ, List, length, get_or, drop, slice_range, true, false, refl}
+use Rattle.broker_types.specs.Words.{list_all, is_segment, segments}
 use Rattle.broker_types.specs.SliceLaws.{slice_grown, slice_none, drop_first}
 
 -- at a slash a part ends

@@ -1,11 +1,6 @@
 -- Laws of decimal digits: the bytes that are digits are those that have a value below ten.
-use Rattle.std.specs.Prelude.{◌≡◌, ◌<◌, ◌&&◌, ℕ, List, [], ◌∷◌, true}
-use Rattle.std.specs.Char.{is_ascii_digit, digit_value}
-use Rattle.std.specs.List.{list_all}
-use Rattle.std.specs.Str.Parse.{AllDigits}
-use Rattle.std.proofs.Common.{refl, ◌∙◌, ap, arith}
-use Rattle.std.proofs.lemmas.Bool.{and_parts}
-use Rattle.std.proofs.lemmas.Bool.Decides.{nat_tests}
+use Rattle.std.proofs.Common.{◌≡◌, ◌<◌, ◌&&◌, ◌∷◌, ℕ, List, [], true, refl, ◌∙◌, ap, arith}
+use Rattle.broker_types.specs.Words.{is_ascii_digit, digit_value, list_all, AllDigits, and_parts, nat_tests}
 
 pub is_digit : (c : ℕ) → digit_value c < 10 → is_ascii_digit c ≡ true
 is_digit c small = grind (arith, nat_tests)

@@ -1,12 +1,7 @@
 -- Laws of one token changed in place, which keeps its parent and its accessor, and gets no lease.
-use Rattle.std.specs.Prelude.{◌≡◌, if◌then◌else◌, true, false, Option}
-use Rattle.std.proofs.Common.{refl, sym, ◌∙◌, ap, subst}
-use Rattle.broker_types.specs.Text.{Text, same}
-use Rattle.broker_types.specs.Map.{change}
-use Rattle.broker_types.specs.Token.{Token, Tokens}
-use Rattle.broker_types.specs.Broker.{Broker}
-use Rattle.broker_types.specs.Evolves.{Evolves}
-use Rattle.broker_types.specs.Sound.{Forms, Sound, Unspent, IsSoundToken}
+use Rattle.std.proofs.Common.{◌≡◌, if◌then◌else◌, true, false, Option, refl, sym, ◌∙◌, ap, subst}
+use Rattle.broker_types.specs.Words.{Text, same, change, Token, Tokens, Broker, Evolves, Forms, Sound, Unspent}
+use Rattle.broker_types.specs.Words.{IsSoundToken}
 use Rattle.broker_types.specs.MapLaws.{valued_is}
 use Rattle.broker_types.specs.TreeLaws.{values_tree}
 use Rattle.broker_types.specs.FewerLaws.{IsLess, AreFewer, fewer_evolves, fewer_sound, tree_of}

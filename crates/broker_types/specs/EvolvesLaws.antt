@@ -1,11 +1,6 @@
 -- Laws of how a broker evolves.
-use Rattle.std.proofs.Common.{sym, ◌∙◌, subst, inl, inr}
-use Rattle.std.proofs.lemmas.Option.{none-some}
-use Rattle.broker_types.specs.Text.{Text}
-use Rattle.broker_types.specs.Map.{get}
-use Rattle.broker_types.specs.Broker.{Broker}
-use Rattle.broker_types.specs.IdentifierPlaces.{token_identifier, lease_identifier}
-use Rattle.broker_types.specs.Evolves.{Evolves, IsNew, LeaseHasEnded}
+use Rattle.broker_types.specs.Words.{sym, ◌∙◌, subst, inl, inr, none-some, Text, get, Broker, token_identifier}
+use Rattle.broker_types.specs.Words.{lease_identifier, Evolves, IsNew, LeaseHasEnded}
 use Rattle.broker_types.specs.OptionLaws.{found_or_not}
 
 -- what is new later was new before

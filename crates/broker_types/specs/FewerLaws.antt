@@ -1,21 +1,11 @@
 -- Laws of a broker that has no token, lease, wrapping token or waiting response but those of the one before it (this
 -- project's).
-use Rattle.std.specs.Prelude.{◌≡◌, ◌≢◌, ◌≤◌, ℕ, Bool, true, false, Option, Some, None, option_map, option_and_then, ◌<◌}
-use Rattle.std.specs.Prelude.{◌^◌}
-use Rattle.std.proofs.Common.{refl, sym, ◌∙◌, ap, inl, inr}
-use Rattle.std.proofs.lemmas.Bool.{false≢true}
-use Rattle.std.proofs.lemmas.Option.{none-some}
-use Rattle.broker_types.specs.Sound.{IsEnd, IsPathText, IsObjectText, IsSoundLease, Forms, SoundIdentifiers, Sound}
-use Rattle.broker_types.specs.Sound.{Unspent, IsSoundToken}
-use Rattle.broker_types.specs.Text.{Text}
-use Rattle.broker_types.specs.Map.{Map, get}
-use Rattle.broker_types.specs.Moment.{greatest_moment}
-use Rattle.broker_types.specs.Token.{Token, Tokens, Lease}
-use Rattle.broker_types.specs.Broker.{Broker, Waiting}
-use Rattle.broker_types.specs.IdentifierPlaces.{Place, token, accessor, lease, credential, wrapping_token}
-use Rattle.broker_types.specs.IdentifierPlaces.{wrapping_accessor}
-use Rattle.broker_types.specs.IdentifierPlaces.{identifier_at, lease_of, token_identifier, lease_identifier}
-use Rattle.broker_types.specs.Evolves.{Evolves, HasEnded}
+use Rattle.std.proofs.Common.{◌≡◌, ◌≢◌, ◌≤◌, ◌<◌, ◌^◌, ℕ, Bool, true, false, Option, Some, None, option_map, refl, sym}
+use Rattle.broker_types.specs.Words.{option_and_then, ◌∙◌, ap, inl, inr, false≢true, none-some, IsEnd, IsPathText}
+use Rattle.broker_types.specs.Words.{IsObjectText, IsSoundLease, Forms, SoundIdentifiers, Sound, Unspent, IsSoundToken}
+use Rattle.broker_types.specs.Words.{Text, Map, get, greatest_moment, Token, Tokens, Lease, Broker, Waiting, Place}
+use Rattle.broker_types.specs.Words.{token, accessor, lease, credential, wrapping_token, wrapping_accessor}
+use Rattle.broker_types.specs.Words.{identifier_at, lease_of, token_identifier, lease_identifier, Evolves, HasEnded}
 use Rattle.broker_types.specs.OptionLaws.{mapped, found_or_not}
 use Rattle.broker_types.specs.Laws.{IsTree}
 

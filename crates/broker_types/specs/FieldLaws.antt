@@ -1,14 +1,8 @@
 -- A broker with another clock, other secrets, mounts, roles or policies, and the same tokens, waiting responses and
 -- identifiers given out.
-use Rattle.std.specs.Prelude.{ℕ, Option}
-use Rattle.std.proofs.Common.{refl, sym, ◌∙◌, inl}
-use Rattle.std.proofs.lemmas.Option.{none-some}
-use Rattle.broker_types.specs.Text.{Text}
-use Rattle.broker_types.specs.Map.{Map}
-use Rattle.broker_types.specs.Secret.{Key}
-use Rattle.broker_types.specs.Broker.{Broker, Mount, Role}
-use Rattle.broker_types.specs.Evolves.{Evolves}
-use Rattle.broker_types.specs.Sound.{Forms, Sound, IsMoment, SoundSecrets, SoundMounts, SoundRoles, SoundPolicies}
+use Rattle.broker_types.specs.Words.{ℕ, Option, refl, sym, ◌∙◌, inl, none-some, Text, Map, Key, Broker, Mount, Role}
+use Rattle.broker_types.specs.Words.{Evolves, Forms, Sound, IsMoment, SoundSecrets, SoundMounts, SoundRoles}
+use Rattle.broker_types.specs.Words.{SoundPolicies}
 
 module _ (b : Broker) (clock : ℕ) (secrets : Map Key) (mounts : Map Mount) (roles : Map Role)
     (policies : Map Text) where

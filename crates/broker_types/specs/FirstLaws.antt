@@ -1,29 +1,13 @@
 -- A law of the first broker: it is sound.
-use Rattle.std.specs.Prelude.{◌≡◌, ◌≢◌, ◌<◌, ◌≤◌, ◌^◌, ◌&&◌, ◌⊎◌, ℕ, [], ◌∷◌, Bool, true, false, cond, nat_lt, length}
-use Rattle.std.specs.Prelude.{drop, codes, Option, Some, None, option_map, option_and_then, is_none, IsUtf8, All, ◌==◌}
-use Rattle.std.specs.List.{list_all}
-use Rattle.std.specs.Option.{option_map_or}
-use Rattle.std.specs.FinMap.{get-empty, len-empty}
-use Rattle.std.proofs.Common.{refl, sym, ◌∙◌, ap, subst, inl, inr, lit<, zero-le}
-use Rattle.std.proofs.lemmas.List.Elements.{All-cons, All-nil}
-use Rattle.std.proofs.lemmas.Str.{IsUtf8-from_ascii}
-use Rattle.std.proofs.lemmas.Str.Ascii.{IsAscii-from_all}
-use Rattle.std.proofs.lemmas.Bool.{ltb-true, false≢true}
-use Rattle.std.proofs.lemmas.Option.{none-some}
-use Rattle.broker_types.specs.Text.{Text, text_cmp, same}
-use Rattle.broker_types.specs.Map.{get, put, empty, len}
-use Rattle.broker_types.specs.Identifier.{id}
-use Rattle.broker_types.specs.TokenText.{token_text}
-use Rattle.broker_types.specs.Moment.{greatest_moment}
-use Rattle.broker_types.specs.Name.{is_name}
-use Rattle.broker_types.specs.Token.{Token, Lease}
-use Rattle.broker_types.specs.Lineage.{ends_within}
-use Rattle.broker_types.specs.Broker.{Broker, Waiting, kv}
-use Rattle.broker_types.specs.IdentifierPlaces.{Place, token, accessor, lease, credential, wrapping_token}
-use Rattle.broker_types.specs.IdentifierPlaces.{wrapping_accessor}
-use Rattle.broker_types.specs.IdentifierPlaces.{identifier_at, lease_of, IsUsed}
-use Rattle.broker_types.specs.Sound.{Forms, Sound, IsSoundToken, IsSoundMount, IsSoundPolicy, IsShortText}
-use Rattle.broker_types.specs.First.{default_policy, root_token, first_broker}
+use Rattle.std.proofs.Common.{◌≡◌, ◌≢◌, ◌<◌, ◌≤◌, ◌^◌, ◌&&◌, ◌⊎◌, ◌∷◌, ◌==◌, ℕ, [], Bool, true, false, cond, nat_lt, ap}
+use Rattle.broker_types.specs.Words.{length, drop, codes, Option, Some, None, option_map, option_and_then, is_none}
+use Rattle.broker_types.specs.Words.{IsUtf8, All, list_all, option_map_or, get-empty, len-empty, refl, sym, ◌∙◌, subst}
+use Rattle.broker_types.specs.Words.{inl, inr, lit<, zero-le, All-cons, All-nil, IsUtf8-from_ascii, IsAscii-from_all}
+use Rattle.broker_types.specs.Words.{ltb-true, false≢true, none-some, Text, text_cmp, same, get, put, empty, len, id}
+use Rattle.broker_types.specs.Words.{token_text, greatest_moment, is_name, Token, Lease, ends_within, Broker, Waiting}
+use Rattle.broker_types.specs.Words.{kv, Place, token, accessor, lease, credential, wrapping_token, wrapping_accessor}
+use Rattle.broker_types.specs.Words.{identifier_at, lease_of, IsUsed, Forms, Sound, IsSoundToken, IsSoundMount}
+use Rattle.broker_types.specs.Words.{IsSoundPolicy, IsShortText, default_policy, root_token, first_broker}
 use Rattle.broker_types.specs.OptionLaws.{mapped}
 use Rattle.broker_types.specs.TextLaws.{same_true}
 use Rattle.broker_types.specs.MapLaws.{get-put, get-put_self, get-one, no_entry, one_entry}

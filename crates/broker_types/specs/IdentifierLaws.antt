@@ -1,14 +1,11 @@
 -- Laws of identifiers: different words have different ones, each of 36 bytes.
-use Rattle.std.specs.Int.{byte_at, bytes_high_first, to_be_bytes, from_be_bytes, w128}
-use Rattle.std.proofs.Common.{◌≡◌, ℕ, zero, suc, ◌<◌, ◌^◌, List, [], length, get_or, Option, Some, unwrap_or, refl, sym}
-use Rattle.std.proofs.Common.{ap, ◌∙◌, inl, lit<, ◌/◌}
-use Rattle.std.proofs.lemmas.List.Elements.{All-from_get_or}
-use Rattle.std.proofs.lemmas.Nat.{mod_below}
+use Rattle.std.specs.Prelude.{◌≡◌, ◌<◌, ◌^◌, ◌/◌, ℕ, zero, suc, List, [], length, get_or, Option, Some, unwrap_or, refl}
+use Rattle.broker_types.specs.Words.{byte_at, bytes_high_first, to_be_bytes, from_be_bytes, w128, sym, ap, ◌∙◌, inl}
+use Rattle.broker_types.specs.Words.{lit<, All-from_get_or, mod_below, id}
 use Rattle.uuid.specs.Text.{lower, parsed}
 use Rattle.uuid.proofs.TextLemmas.{by_index_length}
 use Rattle.uuid.proofs.RoundTrips.{parses_hyphenated}
 use Rattle.uuid.proofs.OrderLemmas.{from_be_bytes-to_be_bytes_16}
-use Rattle.broker_types.specs.Identifier.{id}
 
 byte_small : (k n : ℕ) → byte_at k n < 256
 byte_small zero n = mod_below n 256 (lit< tt)

@@ -1,19 +1,12 @@
 -- Laws of the tree of tokens, of the first broker and of how a broker evolves, as statements (this project's; the
 -- files of laws beside this one prove them).
-use Rattle.std.specs.Prelude.{◌≡◌, ◌≢◌, ◌<◌, ◌≤◌, ◌^◌, ℕ, [], ◌∷◌, true, false, Option, Some, None}
-use Rattle.broker_types.specs.Text.{Text}
-use Rattle.broker_types.specs.Map.{get}
-use Rattle.broker_types.specs.Moment.{greatest_moment}
-use Rattle.broker_types.specs.Token.{Token, Tokens}
-use Rattle.broker_types.specs.Lineage.{lineage, is_under, ParentsExist, ChainsEnd, alive_at, with_live_leases}
-use Rattle.broker_types.specs.Lineage.{without_descendants}
-use Rattle.broker_types.specs.Lineage.{without_parent}
+use Rattle.std.specs.Prelude.{◌≡◌, ◌≢◌, ◌<◌, ◌≤◌, ◌^◌, ◌∷◌, ℕ, [], true, false, Option, Some, None}
+use Rattle.broker_types.specs.Words.{Text, get, greatest_moment, Token, Tokens, lineage, is_under, ParentsExist}
+use Rattle.broker_types.specs.Words.{ChainsEnd, alive_at, with_live_leases, without_descendants, without_parent, Broker}
+use Rattle.broker_types.specs.Words.{Waiting, Evolves, OriginIsGone, HasEnded, IsTakenOut, LeaseHasEnded, Forms}
+use Rattle.broker_types.specs.Words.{SoundIdentifiers, SoundWaiting, Sound, spend, end_spent, drop_waiting}
+use Rattle.broker_types.specs.Words.{default_policy, first_broker}
 use Rattle.broker_types.specs.Broker as broker
-use Rattle.broker_types.specs.Broker.{Broker, Waiting}
-use Rattle.broker_types.specs.Evolves.{Evolves, OriginIsGone, HasEnded, IsTakenOut, LeaseHasEnded}
-use Rattle.broker_types.specs.Sound.{Forms, SoundIdentifiers, SoundWaiting, Sound}
-use Rattle.broker_types.specs.Spending.{spend, end_spent, drop_waiting}
-use Rattle.broker_types.specs.First.{default_policy, first_broker}
 
 -- ---- lineages
 

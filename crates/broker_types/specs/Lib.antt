@@ -50,3 +50,4 @@ pub mod TokenText
 pub mod TreeLaws
 pub mod Used
 pub mod UsedLaws
+pub mod Words

@@ -1,19 +1,10 @@
 -- Laws of chains of parents, and of what is under a token (this project's).
-use Rattle.std.specs.Prelude.{◌≡◌, ◌≢◌, ℕ, zero, suc, List, [], ◌∷◌, true, false, not, cond, ◌||◌, Option, Some, None}
-use Rattle.std.specs.Prelude.{is_none, length, ◌≤◌, IsSome, Bool}
-use Rattle.std.specs.List.{list_any, IsDistinct, AllByRecursion}
-use Rattle.std.specs.Option.{option_map_or}
-use Rattle.std.specs.Map.{lookup}
-use Rattle.std.specs.FinMap.{len-entries}
-use Rattle.std.proofs.Common.{refl, sym, ◌∙◌, ap, subst}
-use Rattle.std.proofs.lemmas.Map.Steps.{length-le_from_keys}
-use Rattle.std.proofs.Math.Nat.{le_refl, le_trans, le-suc, not-suc-le_self, not-suc-le-zero, le_of_suc-le-suc}
-use Rattle.std.proofs.lemmas.Option.{none-some}
-use Rattle.std.proofs.lemmas.Bool.{or_right, false_from_ne_true, false≢true}
-use Rattle.broker_types.specs.Text.{Text, same}
-use Rattle.broker_types.specs.Map.{get, len, entries}
-use Rattle.broker_types.specs.Token.{Token, Tokens}
-use Rattle.broker_types.specs.Lineage.{climb, is_under, without_descendants, ends_within, ChainsEnd}
+use Rattle.std.specs.Prelude.{◌≡◌, ◌≢◌, ◌∷◌, ◌||◌, ◌≤◌, ℕ, zero, suc, List, [], true, false, not, cond, Option, Some}
+use Rattle.broker_types.specs.Words.{None, is_none, length, IsSome, Bool, list_any, IsDistinct, AllByRecursion}
+use Rattle.broker_types.specs.Words.{option_map_or, lookup, len-entries, refl, sym, ◌∙◌, ap, subst, length-le_from_keys}
+use Rattle.broker_types.specs.Words.{le_refl, le_trans, le-suc, not-suc-le_self, not-suc-le-zero, le_of_suc-le-suc}
+use Rattle.broker_types.specs.Words.{none-some, or_right, false_from_ne_true, false≢true, Text, same, get, len, entries}
+use Rattle.broker_types.specs.Words.{Token, Tokens, climb, is_under, without_descendants, ends_within, ChainsEnd}
 use Rattle.broker_types.specs.TextLaws.{same_true, same_equiv}
 use Rattle.broker_types.specs.MapLaws.{get-lookup, get-keep, same_map}
 

@@ -1,8 +1,6 @@
 -- Laws of tests on lists (this project's).
-use Rattle.std.specs.Prelude.{◌≡◌, ◌||◌, List, [], ◌∷◌, Bool, true, map, Contains}
-use Rattle.std.specs.List.{list_any}
-use Rattle.std.proofs.Common.{refl, ◌∙◌, ap}
-use Rattle.std.proofs.lemmas.List.Folds.{Any-from_list_any, list_any_at}
+use Rattle.std.proofs.Common.{◌≡◌, ◌||◌, ◌∷◌, List, [], Bool, true, map, Contains, refl, ◌∙◌, ap}
+use Rattle.broker_types.specs.Words.{list_any, Any-from_list_any, list_any_at}
 
 -- an element that passes is found
 pub any_contained : {X : Type 0} (p : X → Bool) (xs : List X) (x : X) → Contains xs x → p x ≡ true

@@ -1,18 +1,11 @@
 -- Laws of finite maps from texts: what they have at each key.
-use Rattle.std.specs.Prelude.{◌≡◌, ◌&&◌, T, List, [], ◌∷◌, Bool, true, false, cond, if◌then◌else◌, Some, None}
-use Rattle.std.specs.Prelude.{option_map}
-use Rattle.std.specs.Cmp.Lexicographic.{nat_list_cmp_total}
+use Rattle.std.proofs.Common.{◌≡◌, ◌&&◌, ◌∷◌, if◌then◌else◌, T, List, [], Bool, true, false, cond, Some, None, refl, ap}
+use Rattle.broker_types.specs.Words.{option_map, nat_list_cmp_total, find, is_sorted, slice_cmp-IsAntisymmetric}
+use Rattle.broker_types.specs.Words.{nat_cmp-IsAntisymmetric, below_all, lookup, is_lt, sym, ◌∙◌, subst, none-some}
+use Rattle.broker_types.specs.Words.{same_Some, Text, text_cmp, same, Map, get, empty, entries, put, without, keep}
+use Rattle.broker_types.specs.Words.{with_values, map_values, change, first_where}
 use Rattle.std.specs.FinMap as fin
-use Rattle.std.specs.FinMap.{find, is_sorted, slice_cmp-IsAntisymmetric, nat_cmp-IsAntisymmetric}
-use Rattle.std.specs.FinMap.Entries.{below_all}
 use Rattle.std.specs.List.{find as first}
-use Rattle.std.specs.Map.{lookup}
-use Rattle.std.specs.Ordering.{is_lt}
-use Rattle.std.proofs.Common.{refl, sym, ◌∙◌, ap, subst}
-use Rattle.std.proofs.lemmas.Option.{none-some, same_Some}
-use Rattle.broker_types.specs.Text.{Text, text_cmp, same}
-use Rattle.broker_types.specs.Map.{Map, get, empty, entries, put, without, keep, with_values, map_values, change}
-use Rattle.broker_types.specs.Map.{first_where}
 use Rattle.broker_types.specs.OptionLaws.{mapped, mapped_none}
 use Rattle.broker_types.specs.TextLaws.{same-text_cmp, same_self, same_true}
 

@@ -1,14 +1,8 @@
 -- Laws of a broker in which two identifiers more are given out, and have places.
-use Rattle.std.specs.Prelude.{◌≡◌, ◌≢◌, ◌⊎◌, [], ◌∷◌, ⊤, Some, None}
-use Rattle.std.proofs.Common.{sym, ◌∙◌, ap, subst, inl, inr}
-use Rattle.broker_types.specs.Text.{Text}
-use Rattle.broker_types.specs.Map.{Map, get, put}
-use Rattle.broker_types.specs.Broker.{Broker, Waiting}
-use Rattle.broker_types.specs.Evolves.{IsNew}
-use Rattle.broker_types.specs.IdentifierPlaces.{Place, identifier_at, IsUsed, OnePlaceEach, AllUsed}
+use Rattle.std.proofs.Common.{◌≡◌, ◌≢◌, ◌⊎◌, ◌∷◌, [], Some, None, sym, ◌∙◌, ap, subst, inl, inr}
+use Rattle.broker_types.specs.Words.{⊤, Text, Map, get, put, Broker, Waiting, IsNew, Place, identifier_at, IsUsed}
+use Rattle.broker_types.specs.Words.{OnePlaceEach, AllUsed, SoundIdentifiers, IsIdentifier, use_up}
 use Rattle.broker_types.specs.PutLaws.{put_there, put_keeps, put_filled}
-use Rattle.broker_types.specs.Sound.{SoundIdentifiers, IsIdentifier}
-use Rattle.broker_types.specs.Used.{use_up}
 
 -- an identifier of c is i in the place p, or j in the place q, or it has its place in b
 abbrev pub HasTwoMore : Broker → Place → Text → Place → Text → Broker → Type 0

@@ -1,10 +1,7 @@
 -- Laws of options.
-use Rattle.std.specs.Prelude.{◌≡◌, ◌⊎◌, ◌||◌, Bool, true, false, if◌then◌else◌, Option, Some, None, option_map, is_none}
-use Rattle.std.specs.Prelude.{is_some, IfSome, IfNone, refl}
-use Rattle.std.proofs.Common.{inl, inr, sym, ap, subst}
-use Rattle.std.proofs.Math.Bool.{or-false}
-use Rattle.std.proofs.lemmas.Bool.{false≢true}
-use Rattle.std.proofs.lemmas.Option.{none-some, same_Some}
+use Rattle.std.specs.Prelude.{◌≡◌, ◌⊎◌, ◌||◌, if◌then◌else◌, Bool, true, false, Option, Some, None, option_map, is_none}
+use Rattle.broker_types.specs.Words.{is_some, IfSome, IfNone, refl, inl, inr, sym, ap, subst, or-false, false≢true}
+use Rattle.broker_types.specs.Words.{none-some, same_Some}
 
 -- an option is none, or has a value
 pub found_or_not : {X : Type 0} (o : Option X) → (o ≡ None) ⊎ ((x : X) × (o ≡ Some x))

@@ -1,10 +1,7 @@
 -- Laws of paths.
 use Rattle.std.specs.Prelude.{◌≡◌, ◌<◌, ◌-◌, ◌&&◌, ◌==◌, ◌++◌, ◌∷◌, [], ℕ, suc, List, length, cond, Bool, true, false}
-use Rattle.std.specs.Prelude.{slice_index}
-use Rattle.std.specs.List.{list_all}
-use Rattle.std.proofs.Common.{refl, sym, ◌∙◌, ap, arith}
-use Rattle.std.proofs.lemmas.Bool.{and_parts, false≢true}
-use Rattle.broker_types.specs.Path.{is_segment, segments}
+use Rattle.broker_types.specs.Words.{slice_index, list_all, refl, sym, ◌∙◌, ap, arith, and_parts, false≢true}
+use Rattle.broker_types.specs.Words.{is_segment, segments}
 
 -- the parts after the first are segments as well
 later_segments : (t : List ℕ) (ts : List (List ℕ)) → list_all is_segment (t ∷ ts) ≡ true → list_all is_segment ts ≡ true

@@ -1,9 +1,6 @@
 -- Laws of a map from texts with one more value.
-use Rattle.std.specs.Prelude.{◌≡◌, ◌≢◌, true, false, cond, Some, None}
-use Rattle.std.proofs.Common.{refl, sym, ◌∙◌, ap}
-use Rattle.std.proofs.lemmas.Option.{none-some, same_Some}
-use Rattle.broker_types.specs.Text.{Text, same}
-use Rattle.broker_types.specs.Map.{Map, get, put}
+use Rattle.std.proofs.Common.{◌≡◌, ◌≢◌, true, false, cond, Some, None, refl, sym, ◌∙◌, ap}
+use Rattle.broker_types.specs.Words.{none-some, same_Some, Text, same, Map, get, put}
 use Rattle.broker_types.specs.MapLaws.{get-put, get-put_self}
 use Rattle.broker_types.specs.TextLaws.{same_true}
 

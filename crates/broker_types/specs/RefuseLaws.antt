@@ -1,9 +1,6 @@
 -- Laws of a definition's steps.
-use Rattle.std.specs.Prelude.{◌≡◌, Bool, true, false, Option, Some, None, Result, Ok, Err, is_ok, ⊤}
-use Rattle.std.proofs.Common.{refl, sym, ap, subst}
-use Rattle.std.proofs.lemmas.Bool.{false≢true}
-use Rattle.broker_types.specs.Refuse.{◌>>=◌, some_or, unless}
-use Rattle.broker_types.specs.RequestError.{EndsOk}
+use Rattle.std.proofs.Common.{◌≡◌, Bool, true, false, Option, Some, None, Result, Ok, Err, is_ok, refl, sym, ap, subst}
+use Rattle.broker_types.specs.Words.{⊤, false≢true, ◌>>=◌, some_or, unless, EndsOk}
 use Rattle.broker_types.specs.declared.refusal.Refusal.{Refusal}
 
 -- a refusal is no answer

@@ -1,17 +1,9 @@
 -- Laws of revocation and expiry: a sound broker stays sound, and evolves.
-use Rattle.std.specs.Prelude.{◌≡◌, ◌≢◌, ◌≤◌, ℕ, max, Bool, nat_lt, false, not, Option, Some, None}
-use Rattle.std.specs.Option.{option_map_or}
-use Rattle.std.proofs.Common.{refl, sym, ◌∙◌, ap, subst}
-use Rattle.std.proofs.Math.Nat.{max-le}
-use Rattle.broker_types.specs.Text.{Text}
-use Rattle.broker_types.specs.Map.{get, keep}
-use Rattle.broker_types.specs.Moment.{greatest_moment}
-use Rattle.broker_types.specs.Token.{Token, Lease}
+use Rattle.std.proofs.Common.{◌≡◌, ◌≢◌, ◌≤◌, ℕ, max, Bool, nat_lt, false, not, Option, Some, None, refl, sym, ◌∙◌, ap}
+use Rattle.broker_types.specs.Words.{option_map_or, subst, max-le, Text, get, keep, greatest_moment, Token, Lease}
+use Rattle.broker_types.specs.Words.{is_under, orphaned_by, with_live_leases, Broker, waiting_ends, at_moment, revoke}
+use Rattle.broker_types.specs.Words.{revoke_orphan, Forms, SoundIdentifiers, Sound, IsSoundToken, Evolves, HasEnded}
 use Rattle.broker_types.specs.Lineage as lineage
-use Rattle.broker_types.specs.Lineage.{is_under, orphaned_by, with_live_leases}
-use Rattle.broker_types.specs.Broker.{Broker, waiting_ends, at_moment, revoke, revoke_orphan}
-use Rattle.broker_types.specs.Sound.{Forms, SoundIdentifiers, Sound, IsSoundToken}
-use Rattle.broker_types.specs.Evolves.{Evolves, HasEnded}
 use Rattle.broker_types.specs.FewerLaws.{IsLess, AreFewer, WaitFewer, fewer_evolves, fewer_ended, edited_sound}
 use Rattle.broker_types.specs.FewerLaws.{fewer_sound, tree_of}
 use Rattle.broker_types.specs.Laws.{IsTree}

@@ -1,17 +1,10 @@
 -- Laws of searches among the entries of a map (this project's).
-use Rattle.std.specs.Prelude.{◌≡◌, List, [], ◌∷◌, Bool, true, false, cond, T, Option, Some, None, option_and_then}
-use Rattle.std.specs.Prelude.{if◌then◌else◌, All}
+use Rattle.std.specs.Prelude.{◌≡◌, ◌∷◌, if◌then◌else◌, List, [], Bool, true, false, cond, T, Option, Some, None, All}
+use Rattle.broker_types.specs.Words.{option_and_then, is_sorted, lookup, below_all, refl, sym, ◌∙◌, ap, subst, inl, inr}
+use Rattle.broker_types.specs.Words.{All-cons, All-nil, false≢true, none-some, same_Some, Text, text_cmp, same, Map}
+use Rattle.broker_types.specs.Words.{get, entries, keep, first_where}
 use Rattle.std.specs.List.{find as first}
 use Rattle.std.specs.FinMap as fin
-use Rattle.std.specs.FinMap.{is_sorted}
-use Rattle.std.specs.Map.{lookup}
-use Rattle.std.specs.FinMap.Entries.{below_all}
-use Rattle.std.proofs.Common.{refl, sym, ◌∙◌, ap, subst, inl, inr}
-use Rattle.std.proofs.lemmas.List.Elements.{All-cons, All-nil}
-use Rattle.std.proofs.lemmas.Bool.{false≢true}
-use Rattle.std.proofs.lemmas.Option.{none-some, same_Some}
-use Rattle.broker_types.specs.Text.{Text, text_cmp, same}
-use Rattle.broker_types.specs.Map.{Map, get, entries, keep, first_where}
 use Rattle.broker_types.specs.TextLaws.{same-text_cmp, same_self, same_true}
 use Rattle.broker_types.specs.MapLaws.{get-keep, get-lookup}
 use Rattle.broker_types.specs.OptionLaws.{found_or_not}

@@ -1,8 +1,7 @@
 -- Laws of a part of a list, one byte more.
-use Rattle.std.proofs.Common.{◌≡◌, ℕ, suc, ◌+◌, ◌-◌, ◌<◌, ◌≤◌, List, [], ◌∷◌, ◌++◌, length, get_or, take, drop}
-use Rattle.std.proofs.Common.{slice_range, refl, ap, ◌∙◌, arith, add-one, length-drop}
-use Rattle.std.proofs.Math.Seq.{take-suc, drop-cons}
-use Rattle.std.proofs.lemmas.List.{get_or-drop}
+use Rattle.std.specs.Prelude.{◌≡◌, ◌+◌, ◌-◌, ◌<◌, ◌≤◌, ◌∷◌, ◌++◌, ℕ, suc, List, [], length, get_or, take, drop, refl}
+use Rattle.broker_types.specs.Words.{slice_range, ap, ◌∙◌, arith, add-one, length-drop, take-suc, drop-cons}
+use Rattle.broker_types.specs.Words.{get_or-drop}
 
 -- a part that goes one byte further
 pub slice_grown : (s : List ℕ) (start i : ℕ) → start ≤ i → i < length s

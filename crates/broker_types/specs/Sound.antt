@@ -1,6 +1,6 @@
 -- Sound brokers: what the start makes true and every request keeps true (this project's definition).
-use Rattle.std.specs.Prelude.{◌≡◌, ◌≢◌, ◌<◌, ◌≤◌, ◌^◌, ◌+◌, ◌++◌, ◌&&◌, ℕ, List, [], ◌∷◌, Bool, true, length}
-use Rattle.std.specs.Prelude.{codes, IsUtf8, Option, Some, All}
+use Rattle.std.specs.Prelude.{◌≡◌, ◌≢◌, ◌<◌, ◌≤◌, ◌^◌, ◌+◌, ◌++◌, ◌&&◌, ℕ, List, [], ◌∷◌, Bool, true, length, codes}
+use Rattle.std.specs.Prelude.{IsUtf8, Option, Some, All}
 use Rattle.std.specs.Ordering.{is_lt}
 use Rattle.std.specs.FinMap as fin
 use Rattle.broker_types.specs.Text.{Text, text_cmp}

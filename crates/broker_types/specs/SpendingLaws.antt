@@ -1,30 +1,19 @@
 -- Laws of spending a use, of ending a spent caller and of dropping a waiting response: a sound broker stays sound, and
 -- evolves.
-use Rattle.std.specs.Prelude.{◌≡◌, ◌≢◌, ◌==◌, if◌then◌else◌, true, false, not, Option, Some, None, option_map, ◌⊎◌, ◌<◌}
-use Rattle.std.specs.Prelude.{◌^◌, ◌-◌}
-use Rattle.std.specs.Option.{option_map_or}
-use Rattle.std.proofs.Common.{refl, sym, ◌∙◌, ap, subst, inl, inr}
-use Rattle.std.proofs.lemmas.Option.{same_Some, none-some}
-use Rattle.std.proofs.Math.Nat.{sub-le, lt_of_le_of_lt}
-use Rattle.std.proofs.lemmas.Bool.{false≢true}
-use Rattle.broker_types.specs.Text.{same, Text}
-use Rattle.broker_types.specs.Map.{without, get}
-use Rattle.broker_types.specs.Sound.{SoundWaiting, Forms, SoundIdentifiers, Sound, Unspent, IsSoundToken}
-use Rattle.broker_types.specs.Spending.{spend, one_less, drop_waiting, is_spent, end_spent}
-use Rattle.broker_types.specs.Evolves.{IsTakenOut, OriginIsGone, Evolves}
-use Rattle.broker_types.specs.Token.{Token, Tokens}
+use Rattle.std.specs.Prelude.{◌≡◌, ◌≢◌, ◌==◌, if◌then◌else◌, ◌⊎◌, ◌<◌, ◌^◌, ◌-◌, true, false, not, Option, Some, None}
+use Rattle.broker_types.specs.Words.{option_map, option_map_or, refl, sym, ◌∙◌, ap, subst, inl, inr, same_Some}
+use Rattle.broker_types.specs.Words.{none-some, sub-le, lt_of_le_of_lt, false≢true, same, Text, without, get}
+use Rattle.broker_types.specs.Words.{SoundWaiting, Forms, SoundIdentifiers, Sound, Unspent, IsSoundToken, spend}
+use Rattle.broker_types.specs.Words.{one_less, drop_waiting, is_spent, end_spent, IsTakenOut, OriginIsGone, Evolves}
+use Rattle.broker_types.specs.Words.{Token, Tokens, is_under, Broker, Waiting, revoke, wrapping_token, token_identifier}
 use Rattle.broker_types.specs.Lineage as lineage
-use Rattle.broker_types.specs.Lineage.{is_under}
-use Rattle.broker_types.specs.Broker.{Broker, Waiting, revoke}
-use Rattle.broker_types.specs.IdentifierPlaces.{wrapping_token, token_identifier}
 use Rattle.broker_types.specs.Laws.{EndTokens}
 use Rattle.broker_types.specs.TextLaws.{same_self, same_true}
 use Rattle.broker_types.specs.MapLaws.{valued_is, without_is, get-without_self}
 use Rattle.broker_types.specs.OptionLaws.{mapped, found_or_not}
 use Rattle.broker_types.specs.TreeLaws.{under_self}
 use Rattle.broker_types.specs.EditLaws.{IsEdit, edit_evolves, edit_sound}
-use Rattle.broker_types.specs.FewerLaws.{WaitFewer, fewer_evolves, edited_sound, fewer_sound, tree_of}
-use Rattle.broker_types.specs.FewerLaws.{same_fewer}
+use Rattle.broker_types.specs.FewerLaws.{WaitFewer, fewer_evolves, edited_sound, fewer_sound, tree_of, same_fewer}
 use Rattle.broker_types.specs.RemovalLaws.{revoke_evolves, revoke_ends, revoke_sound}
 use Rattle.broker_types.specs.SearchLaws.{kept_get}
 

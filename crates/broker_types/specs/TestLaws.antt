@@ -1,10 +1,6 @@
 -- Laws of tests and orderings: what their answers say.
-use Rattle.std.specs.Prelude.{◌≡◌, ◌&&◌, Bool, true, false, T}
-use Rattle.std.specs.declared.cmp.Ordering.{Ordering}
-use Rattle.std.specs.declared.cmp.Ordering.TheVariants.{Less, Equal, Greater}
-use Rattle.std.specs.Ordering.{is_lt, is_eq}
-use Rattle.std.proofs.Common.{refl}
-use Rattle.std.proofs.lemmas.Bool.{false≢true}
+use Rattle.std.specs.Prelude.{◌≡◌, ◌&&◌, Bool, true, false, T, refl}
+use Rattle.broker_types.specs.Words.{Ordering, Less, Equal, Greater, is_lt, is_eq, false≢true}
 
 -- a test that holds is true
 pub T_true : (b : Bool) → T b → b ≡ true

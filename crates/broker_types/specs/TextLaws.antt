@@ -1,13 +1,7 @@
 -- Laws of whether two texts are the same.
-use Rattle.std.specs.Prelude.{◌≡◌, ◌≢◌, true, false}
-use Rattle.std.specs.Cmp.{IsEquivalence, eq_by_cmp_equiv}
-use Rattle.std.specs.Cmp.Lexicographic.{nat_list_cmp_total}
-use Rattle.std.specs.Ordering.{eq_by_cmp}
-use Rattle.std.proofs.Common.{refl, sym, subst}
-use Rattle.std.proofs.lemmas.Bool.{false_from_ne_true}
-use Rattle.std.proofs.lemmas.Slice.Eq.{bytes_eq-Decides}
-use Rattle.std.proofs.lemmas.Map.Text.{is_eq-slice_cmp}
-use Rattle.broker_types.specs.Text.{Text, text_cmp, same}
+use Rattle.std.proofs.Common.{◌≡◌, ◌≢◌, true, false, refl, sym, subst}
+use Rattle.broker_types.specs.Words.{IsEquivalence, eq_by_cmp_equiv, nat_list_cmp_total, eq_by_cmp, false_from_ne_true}
+use Rattle.broker_types.specs.Words.{bytes_eq-Decides, is_eq-slice_cmp, Text, text_cmp, same}
 
 -- by the order of texts
 pub same-text_cmp : (a b : Text) → same a b ≡ eq_by_cmp text_cmp a b

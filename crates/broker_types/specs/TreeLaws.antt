@@ -1,18 +1,11 @@
 -- Laws of lineages, revocation and expiry: what they find and leave, and that a tree of tokens stays a tree.
-use Rattle.std.specs.Prelude.{◌≡◌, ◌≢◌, ◌⊎◌, ℕ, zero, suc, List, [], ◌∷◌, Bool, true, false, not, cond, ◌||◌}
-use Rattle.std.specs.Prelude.{if◌then◌else◌, Option, Some, None, is_none, length, option_map, option_and_then}
-use Rattle.std.specs.List.{list_any, list_all}
-use Rattle.std.specs.Map.{lookup}
-use Rattle.std.specs.FinMap.{len-entries}
-use Rattle.std.proofs.Common.{refl, sym, ◌∙◌, ap, subst, inl, inr}
-use Rattle.std.proofs.lemmas.Bool.{ltb-true, lt-ltb, and_parts, and_from, or_right, false≢true}
-use Rattle.std.proofs.lemmas.Option.{none-some, same_Some}
-use Rattle.broker_types.specs.Text.{Text, same}
-use Rattle.broker_types.specs.Map.{get, len, entries, map_values, without, keep}
-use Rattle.broker_types.specs.Token.{Token, Tokens}
-use Rattle.broker_types.specs.Lineage.{climb, lineage, is_under, ends_within, ParentsExist, ChainsEnd, outlasts}
-use Rattle.broker_types.specs.Lineage.{is_alive, with_live_leases, alive_at, without_descendants, orphaned_by}
-use Rattle.broker_types.specs.Lineage.{without_parent}
+use Rattle.std.specs.Prelude.{◌≡◌, ◌≢◌, ◌⊎◌, ◌∷◌, ◌||◌, if◌then◌else◌, ℕ, zero, suc, List, [], Bool, true, false, not}
+use Rattle.broker_types.specs.Words.{cond, Option, Some, None, is_none, length, option_map, option_and_then, list_any}
+use Rattle.broker_types.specs.Words.{list_all, lookup, len-entries, refl, sym, ◌∙◌, ap, subst, inl, inr, ltb-true}
+use Rattle.broker_types.specs.Words.{lt-ltb, and_parts, and_from, or_right, false≢true, none-some, same_Some, Text}
+use Rattle.broker_types.specs.Words.{same, get, len, entries, map_values, without, keep, Token, Tokens, climb, lineage}
+use Rattle.broker_types.specs.Words.{is_under, ends_within, ParentsExist, ChainsEnd, outlasts, is_alive}
+use Rattle.broker_types.specs.Words.{with_live_leases, alive_at, without_descendants, orphaned_by, without_parent}
 use Rattle.broker_types.specs.Laws.{IsTree, OutlastsAbove}
 use Rattle.broker_types.specs.TextLaws.{same_self, same_true, same_false}
 use Rattle.broker_types.specs.MapLaws.{without_is, valued_is, valued_none, get-lookup, get-keep, get-without}

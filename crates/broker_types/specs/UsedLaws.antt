@@ -1,10 +1,7 @@
 -- Laws of the identifiers that were given out.
-use Rattle.std.specs.Prelude.{◌≡◌, List, [], ◌∷◌, true, None, is_none, ⊤}
-use Rattle.std.proofs.lemmas.Bool.{and_parts}
-use Rattle.broker_types.specs.Text.{Text}
-use Rattle.broker_types.specs.Map.{Map, get}
+use Rattle.std.specs.Prelude.{◌≡◌, ◌∷◌, List, [], true, None, is_none, ⊤}
+use Rattle.broker_types.specs.Words.{and_parts, Text, Map, get, are_new}
 use Rattle.broker_types.specs.OptionLaws.{is_nothing}
-use Rattle.broker_types.specs.Used.{are_new}
 
 -- of two new identifiers the first was not given out
 pub first_new : (used : Map ⊤) (i j : Text) → are_new used (i ∷ j ∷ []) ≡ true → get used i ≡ None

@@ -1,28 +1,14 @@
 -- Rows of one cubbyhole replaced: other rows stay, and a broker's rows are those of the broker with that cubbyhole
 -- edited.
-use Rattle.std.specs.Prelude.{◌≡◌, ◌&&◌, ◌==◌, [], not, nat_eq, Bool, true, false, if◌then◌else◌, Option, option_map}
-use Rattle.std.specs.Prelude.{option_and_then, is_none}
-use Rattle.std.specs.List.{starts_with}
-use Rattle.std.proofs.Common.{refl, sym, ◌∙◌, ap}
-use Rattle.std.proofs.lemmas.Bool.{and_parts, and_from, false≢true}
-use Rattle.broker_types.specs.Text.{Text, same}
-use Rattle.broker_types.specs.Map.{Map, get, first_where}
-use Rattle.broker_types.specs.Token.{Token}
-use Rattle.broker_types.specs.Broker.{Broker, Waiting}
-use Rattle.broker_types.specs.MapLaws.{get-change, first_where-map_values}
-use Rattle.records.specs.declared.kind.Kind.{Kind}
+use Rattle.std.proofs.Common.{◌≡◌, ◌&&◌, ◌==◌, if◌then◌else◌, [], not, nat_eq, Bool, true, false, Option, option_map}
+use Rattle.records.specs.Words.{option_and_then, is_none, starts_with, refl, sym, ◌∙◌, ap, and_parts, and_from}
+use Rattle.records.specs.Words.{false≢true, Text, same, Map, get, first_where, Token, Broker, Waiting, get-change}
+use Rattle.records.specs.Words.{first_where-map_values, kind_number, Part, Tells, token_row, accessor_row, lease_row}
+use Rattle.records.specs.Words.{credential_row, rows_of, has_lease, lease_of_credential, or_else, Table, same_kind}
+use Rattle.records.specs.Words.{mapped_unseen, then_unseen, unseen}
+use Rattle.cubbyhole.specs.Words.{Kind, Row, with_cubbyhole, edited, object_key, KeepsOtherOwners}
 use Rattle.records.specs.declared.kind.Kind.TheVariants as kind
-use Rattle.records.specs.declared.row.Row.{Row}
 use Rattle.records.specs.declared.holder.Holder.TheVariants as holder
-use Rattle.records.specs.Kind.{kind_number}
-use Rattle.records.specs.Parts.{Part, Tells}
-use Rattle.records.specs.RowForms.{token_row, accessor_row, lease_row, credential_row}
-use Rattle.records.specs.Rows.{rows_of, has_lease, lease_of_credential, or_else}
-use Rattle.records.specs.Table.{Table}
-use Rattle.cubbyhole.specs.Cubbyhole.{with_cubbyhole, edited}
-use Rattle.cubbyhole.specs.Objects.{object_key, KeepsOtherOwners}
-use Rattle.records.specs.KeyLaws.{same_kind}
-use Rattle.records.specs.ValueLaws.{mapped_unseen, then_unseen, unseen}
 
 -- the table with r at the keys of cubbyholes that are met
 abbrev pub replaced : (Text → Bool) → Option Row → Table → Table

@@ -1,22 +1,9 @@
 -- Tokens that ended, and the rows of their cubbyholes.
-use Rattle.std.specs.Prelude.{◌≡◌, ◌||◌, List, [], ◌∷◌, length, nat_eq, Bool, true, false, if◌then◌else◌, Option, None}
-use Rattle.std.specs.List.{starts_with}
-use Rattle.std.proofs.Common.{refl, sym, ◌∙◌, ap}
-use Rattle.std.proofs.lemmas.Bool.{false≢true, or_right}
-use Rattle.broker_types.specs.Text.{Text, same}
-use Rattle.broker_types.specs.Map.{empty}
-use Rattle.broker_types.specs.Broker.{Broker}
-use Rattle.broker_types.specs.TextLaws.{same_self}
-use Rattle.records.specs.declared.kind.Kind.{Kind}
+use Rattle.std.proofs.Common.{◌≡◌, ◌||◌, ◌∷◌, if◌then◌else◌, List, [], length, nat_eq, Bool, true, false, Option, None}
+use Rattle.records.specs.Words.{starts_with, refl, sym, ◌∙◌, ap, false≢true, or_right, Text, same, empty, Broker}
+use Rattle.records.specs.Words.{same_self, has, of_cubbyholes, Tells, rows_of, token_len, Table, without_under}
+use Rattle.cubbyhole.specs.Words.{Kind, object_at, drop_owner, object_at-drop_owner, without_cubbyholes, object_key}
 use Rattle.records.specs.declared.kind.Kind.TheVariants as kind
-use Rattle.records.specs.Children.{has}
-use Rattle.records.specs.Parts.{of_cubbyholes, Tells}
-use Rattle.records.specs.Rows.{rows_of, token_len}
-use Rattle.records.specs.Table.{Table, without_under}
-use Rattle.cubbyhole.specs.Cubbyhole.{object_at, drop_owner}
-use Rattle.cubbyhole.specs.CubbyholeLaws.{object_at-drop_owner}
-use Rattle.cubbyhole.specs.Laws.{without_cubbyholes}
-use Rattle.cubbyhole.specs.Objects.{object_key}
 use Rattle.cubbyhole.proofs.Edits.{tells_edited}
 use Rattle.cubbyhole.proofs.ObjectRows.{objects_row, rows_of-objects, cubby-drop_owner}
 

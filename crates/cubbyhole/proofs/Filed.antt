@@ -1,19 +1,10 @@
 -- The rows of one owner's cubbyhole, by their keys.
-use Rattle.std.specs.Prelude.{◌≡◌, [], length, nat_eq, ◌==◌, ◌&&◌, take, Bool, true, false, if◌then◌else◌, Option, Some}
-use Rattle.std.specs.Prelude.{None}
-use Rattle.std.specs.List.{starts_with}
-use Rattle.std.proofs.Common.{refl, sym, ◌∙◌, ap, subst, inl, inr}
-use Rattle.broker_types.specs.Text.{Text, same}
-use Rattle.broker_types.specs.OptionLaws.{found_or_not}
-use Rattle.records.specs.declared.kind.Kind.{Kind}
+use Rattle.std.proofs.Common.{◌≡◌, ◌==◌, ◌&&◌, if◌then◌else◌, [], length, nat_eq, take, Bool, true, false, Option, Some}
+use Rattle.records.specs.Words.{None, starts_with, refl, sym, ◌∙◌, ap, subst, inl, inr, Text, same, found_or_not}
+use Rattle.records.specs.Words.{kind_number, token_len, has_slash, Table, without_under, without_owned, unless_owned}
+use Rattle.records.specs.Words.{same_kind, key_has_slash, key_token}
+use Rattle.cubbyhole.specs.Words.{Kind, Row, object_key, AreFiled}
 use Rattle.records.specs.declared.kind.Kind.TheVariants as kind
-use Rattle.records.specs.declared.row.Row.{Row}
-use Rattle.records.specs.Kind.{kind_number}
-use Rattle.records.specs.Rows.{token_len, has_slash}
-use Rattle.records.specs.Table.{Table, without_under, without_owned, unless_owned}
-use Rattle.cubbyhole.specs.Objects.{object_key, AreFiled}
-use Rattle.records.specs.KeyLaws.{same_kind}
-use Rattle.records.specs.CubbyKeyLaws.{key_has_slash, key_token}
 use Rattle.cubbyhole.proofs.ObjectKeys.{key_owner}
 
 module _ (rows : Table) (t : Text) (filed : AreFiled rows) (len : length t ≡ token_len) where

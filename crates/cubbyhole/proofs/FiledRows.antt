@@ -1,24 +1,11 @@
 -- Rows filed under their owners: those of a broker are, edits leave them so, and one owner's are one cubbyhole.
-use Rattle.std.specs.Prelude.{◌≡◌, ◌+◌, [], length, take, drop, nat_eq, Bool, true, false, if◌then◌else◌, Some, None}
-use Rattle.std.specs.Prelude.{option_map}
-use Rattle.std.specs.List.{starts_with}
-use Rattle.std.proofs.Common.{refl, sym, ◌∙◌, ap, inl, inr}
-use Rattle.std.proofs.lemmas.Option.{none-some, same_Some}
-use Rattle.broker_types.specs.Text.{Text, same}
-use Rattle.broker_types.specs.TextLaws.{same_true}
-use Rattle.broker_types.specs.OptionLaws.{found_or_not, mapped}
-use Rattle.broker_types.specs.Broker.{Broker}
-use Rattle.records.specs.declared.kind.Kind.{Kind}
+use Rattle.std.proofs.Common.{◌≡◌, ◌+◌, if◌then◌else◌, [], length, take, drop, nat_eq, Bool, true, false, Some, None}
+use Rattle.records.specs.Words.{option_map, starts_with, refl, sym, ◌∙◌, ap, inl, inr, none-some, same_Some, Text, same}
+use Rattle.records.specs.Words.{same_true, found_or_not, mapped, Broker, of_cubbyholes, Tells, cubby_row, token_len}
+use Rattle.records.specs.Words.{has_slash, Table, has_prefix, with_row, without_row, without_under, without_owned}
+use Rattle.cubbyhole.specs.Words.{Kind, Row, object_at, HaveOneCubbyhole, if_owned, key_parts, token_whole, object_key}
+use Rattle.cubbyhole.specs.Words.{IsFiled, AreFiled, KeepsOtherOwners}
 use Rattle.records.specs.declared.kind.Kind.TheVariants as kind
-use Rattle.records.specs.declared.row.Row.{Row}
-use Rattle.records.specs.Parts.{of_cubbyholes, Tells}
-use Rattle.records.specs.RowForms.{cubby_row}
-use Rattle.records.specs.Rows.{token_len, has_slash}
-use Rattle.records.specs.Table.{Table, has_prefix, with_row, without_row, without_under, without_owned}
-use Rattle.cubbyhole.specs.Cubbyhole.{object_at}
-use Rattle.cubbyhole.specs.Laws.{HaveOneCubbyhole, if_owned}
-use Rattle.cubbyhole.specs.ObjectLaws.{key_parts, token_whole}
-use Rattle.cubbyhole.specs.Objects.{object_key, IsFiled, AreFiled, KeepsOtherOwners}
 use Rattle.cubbyhole.proofs.Filed.{key_tells, under_owned}
 use Rattle.cubbyhole.proofs.ObjectRows.{rows_of-objects}
 

@@ -1,17 +1,9 @@
 -- The keys of the objects of a token and a path.
-use Rattle.std.specs.Prelude.{◌≡◌, ◌+◌, ◌&&◌, [], ◌∷◌, ◌++◌, length, take, drop, true, false, nat_eq}
-use Rattle.std.specs.List.{starts_with}
-use Rattle.std.proofs.Common.{refl, sym, ◌∙◌, ap, append_assoc}
-use Rattle.std.proofs.Math.Seq.{take-append_seam}
-use Rattle.std.proofs.lemmas.Bool.{and_parts, false_from_ne_true, false≢true}
-use Rattle.std.proofs.lemmas.List.{take-append-drop}
-use Rattle.broker_types.specs.Text.{Text, same}
-use Rattle.broker_types.specs.TextLaws.{same_self, same_true}
-use Rattle.records.specs.CubbyKeyLaws.{key_token, key_path}
-use Rattle.records.specs.Rows.{token_len, has_slash}
-use Rattle.records.specs.Splits.{slash}
-use Rattle.cubbyhole.specs.ObjectLaws.{key_parts}
-use Rattle.cubbyhole.specs.Objects.{object_key}
+use Rattle.std.proofs.Common.{◌≡◌, ◌+◌, ◌&&◌, ◌∷◌, ◌++◌, [], length, take, drop, true, false, nat_eq, refl, sym, ◌∙◌}
+use Rattle.records.specs.Words.{starts_with, ap, append_assoc, take-append_seam, and_parts, false_from_ne_true}
+use Rattle.records.specs.Words.{false≢true, take-append-drop, Text, same, same_self, same_true, key_token, key_path}
+use Rattle.records.specs.Words.{token_len, has_slash, slash}
+use Rattle.cubbyhole.specs.Words.{key_parts, object_key}
 
 -- a key is that of a token and a path where its token and its path are
 pub key_met : (t path q : Text) → length t ≡ token_len → has_slash q ≡ true

@@ -1,23 +1,11 @@
 -- The rows of cubbyholes, from what each cubbyhole has at each path.
-use Rattle.std.specs.Prelude.{◌≡◌, ◌≢◌, ◌+◌, ◌&&◌, [], take, drop, length, nat_eq, Bool, true, false, if◌then◌else◌}
-use Rattle.std.specs.Prelude.{Option, Some, None, option_map}
-use Rattle.std.specs.Prelude.{option_and_then}
-use Rattle.std.specs.List.{starts_with}
-use Rattle.std.proofs.Common.{refl, sym, ◌∙◌, ap}
-use Rattle.std.proofs.lemmas.Bool.{and_parts, false≢true}
-use Rattle.broker_types.specs.Text.{Text, same}
-use Rattle.broker_types.specs.Map.{get}
-use Rattle.broker_types.specs.Token.{Token}
-use Rattle.broker_types.specs.Broker.{Broker}
-use Rattle.broker_types.specs.TextLaws.{same_true}
+use Rattle.std.proofs.Common.{◌≡◌, ◌≢◌, ◌+◌, ◌&&◌, if◌then◌else◌, [], take, drop, length, nat_eq, Bool, true, false, ap}
+use Rattle.records.specs.Words.{Option, Some, None, option_map, option_and_then, starts_with, refl, sym, ◌∙◌, and_parts}
+use Rattle.records.specs.Words.{false≢true, Text, same, get, Token, Broker, same_true, cubby_row, rows_of, token_len}
+use Rattle.records.specs.Words.{has_slash, key_has_slash, key_token, key_path}
 use Rattle.records.specs.declared.kind.Kind.TheVariants as kind
-use Rattle.records.specs.declared.row.Row.{Row}
-use Rattle.records.specs.RowForms.{cubby_row}
-use Rattle.records.specs.Rows.{rows_of, token_len, has_slash}
-use Rattle.cubbyhole.specs.Cubbyhole.{object_at, write, delete, drop_owner}
-use Rattle.cubbyhole.specs.CubbyholeLaws.{object_at-write, object_at-delete, object_at-drop_owner}
-use Rattle.cubbyhole.specs.Objects.{object_key}
-use Rattle.records.specs.CubbyKeyLaws.{key_has_slash, key_token, key_path}
+use Rattle.cubbyhole.specs.Words.{Row, object_at, write, delete, drop_owner, object_at-write, object_at-delete}
+use Rattle.cubbyhole.specs.Words.{object_at-drop_owner, object_key}
 use Rattle.cubbyhole.proofs.ObjectKeys.{key_met, key_owner}
 
 -- what each token has at each path

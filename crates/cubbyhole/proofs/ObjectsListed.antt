@@ -1,24 +1,10 @@
 -- The paths of a cubbyhole, and the keys of its rows.
-use Rattle.std.specs.Prelude.{◌≡◌, [], ◌∷◌, ◌++◌, length, is_some, Option, Some, None, option_map}
-use Rattle.std.specs.Prelude.{option_and_then}
-use Rattle.std.specs.Option.{option_map_or}
-use Rattle.std.specs.FinMap.{contains_key-keys}
-use Rattle.std.proofs.Common.{refl, sym, ◌∙◌, ap, append_assoc}
-use Rattle.broker_types.specs.Text.{Text}
-use Rattle.broker_types.specs.Map.{get, keys}
-use Rattle.broker_types.specs.Token.{Token}
-use Rattle.broker_types.specs.Broker.{Broker}
+use Rattle.std.proofs.Common.{◌≡◌, ◌∷◌, ◌++◌, [], length, is_some, Option, Some, None, option_map, option_and_then, sym}
+use Rattle.records.specs.Words.{option_map_or, contains_key-keys, refl, ◌∙◌, ap, append_assoc, Text, get, keys, Token}
+use Rattle.records.specs.Words.{Broker, has, AreNames, of_cubbyholes, Tells, cubby_row, token_len, slash, table_of}
+use Rattle.records.specs.Words.{Rows, has_by_order}
 use Rattle.records.specs.declared.kind.Kind.TheVariants as kind
-use Rattle.records.specs.Children.{has, AreNames}
-use Rattle.records.specs.Parts.{of_cubbyholes, Tells}
-use Rattle.records.specs.RowForms.{cubby_row}
-use Rattle.records.specs.Rows.{token_len}
-use Rattle.records.specs.Splits.{slash}
-use Rattle.records.specs.Table.{table_of}
-use Rattle.records.specs.Transaction.{Rows}
-use Rattle.records.specs.HasLaws.{has_by_order}
-use Rattle.cubbyhole.specs.Cubbyhole.{object_at, paths}
-use Rattle.cubbyhole.specs.Objects.{object_key}
+use Rattle.cubbyhole.specs.Words.{object_at, paths, object_key}
 use Rattle.cubbyhole.proofs.ObjectRows.{row_at}
 
 -- a path is among those of the cubbyhole where there is an object

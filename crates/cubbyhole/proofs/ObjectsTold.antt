@@ -1,22 +1,9 @@
 -- Objects that rows tell.
-use Rattle.std.specs.Prelude.{◌≡◌, length, drop, Option, Some, None, is_some, option_map, option_and_then}
-use Rattle.std.proofs.Common.{refl, sym, ◌∙◌, ap, inl, inr}
-use Rattle.std.proofs.lemmas.Option.{none-some, same_Some}
-use Rattle.broker_types.specs.Text.{Text}
-use Rattle.broker_types.specs.Map.{get}
-use Rattle.broker_types.specs.Token.{Token}
-use Rattle.broker_types.specs.OptionLaws.{found_or_not}
-use Rattle.broker_types.specs.Broker.{Broker}
-use Rattle.broker_types.specs.Sound.{Forms, SoundTokens, IsShortText}
+use Rattle.std.proofs.Common.{◌≡◌, length, drop, Option, Some, None, is_some, option_map, option_and_then, refl, sym}
+use Rattle.records.specs.Words.{◌∙◌, ap, inl, inr, none-some, same_Some, Text, get, Token, found_or_not, Broker, Forms}
+use Rattle.records.specs.Words.{SoundTokens, IsShortText, of_cubbyholes, Tells, cubby_row, token_len, count, Table}
 use Rattle.records.specs.declared.kind.Kind.TheVariants as kind
-use Rattle.records.specs.declared.row.Row.{Row}
-use Rattle.records.specs.Parts.{of_cubbyholes, Tells}
-use Rattle.records.specs.RowForms.{cubby_row}
-use Rattle.records.specs.Rows.{token_len}
-use Rattle.records.specs.Spelling.{count}
-use Rattle.records.specs.Table.{Table}
-use Rattle.cubbyhole.specs.Cubbyhole.{object_at}
-use Rattle.cubbyhole.specs.Objects.{object_key, IsObjectAt}
+use Rattle.cubbyhole.specs.Words.{Row, object_at, object_key, IsObjectAt}
 use Rattle.cubbyhole.proofs.ObjectRows.{row_at}
 
 -- the object after its length, and equal rows have equal objects

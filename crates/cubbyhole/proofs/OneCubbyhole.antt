@@ -1,22 +1,11 @@
 -- Tables that have one cubbyhole of a token in common answer alike.
-use Rattle.std.specs.Prelude.{◌≡◌, [], ◌∷◌, ◌++◌, map, length, drop, nat_eq, Bool, true, false, cond, None, T}
+use Rattle.std.proofs.Common.{◌≡◌, ◌∷◌, ◌++◌, [], map, length, drop, nat_eq, Bool, true, false, cond, None, T, refl, ap}
 use Rattle.std.specs.FinMap as fin
-use Rattle.std.specs.FinMap.{is_sorted, from_sorted}
-use Rattle.std.specs.List.{starts_with}
-use Rattle.std.proofs.Common.{refl, sym, ◌∙◌, ap, append_assoc}
-use Rattle.std.proofs.lemmas.List.{take-append-drop}
-use Rattle.broker_types.specs.Text.{Text, text_cmp, same}
-use Rattle.broker_types.specs.TextLaws.{same_true}
-use Rattle.broker_types.specs.MapLaws.{entries_are}
+use Rattle.records.specs.Words.{is_sorted, from_sorted, starts_with, sym, ◌∙◌, append_assoc, take-append-drop, Text}
+use Rattle.records.specs.Words.{text_cmp, same, same_true, entries_are, folder, children, keys_under, named}
+use Rattle.records.specs.Words.{listed-sorted, find-listed, names_are, slash, table_of, Rows, rows_under}
 use Rattle.records.specs.declared.kind.Kind.TheVariants as kind
-use Rattle.records.specs.declared.row.Row.{Row}
-use Rattle.records.specs.Children.{folder, children, keys_under}
-use Rattle.records.specs.ListedMapLaws.{named, listed-sorted, find-listed, names_are}
-use Rattle.records.specs.Splits.{slash}
-use Rattle.records.specs.Table.{table_of}
-use Rattle.records.specs.Transaction.{Rows, rows_under}
-use Rattle.cubbyhole.specs.Laws.{HaveOneCubbyhole}
-use Rattle.cubbyhole.specs.Objects.{object_key, children_in}
+use Rattle.cubbyhole.specs.Words.{Row, HaveOneCubbyhole, object_key, children_in}
 use Rattle.cubbyhole.proofs.ObjectKeys.{begins}
 
 -- what begins with the token, a slash and a folder begins with the token and the slash

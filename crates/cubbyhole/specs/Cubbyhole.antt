@@ -1,11 +1,6 @@
 -- Cubbyholes: each belongs to one token, and goes with it (Vault's documentation, "Cubbyhole secrets engine").
-use Rattle.std.specs.Prelude.{List, [], Option, option_and_then}
-use Rattle.std.specs.Option.{option_map_or}
-use Rattle.broker_types.specs.Text.{Text}
-use Rattle.broker_types.specs.Map.{Map, get, empty, put, without, keys, change}
-use Rattle.broker_types.specs.Token.{Token}
-use Rattle.broker_types.specs.Broker.{Broker}
-use Rattle.records.specs.Children.{folder, children}
+use Rattle.records.specs.Words.{List, [], Option, option_and_then, option_map_or, Text, Map, get, empty, put, without}
+use Rattle.records.specs.Words.{keys, change, Token, Broker, folder, children}
 
 -- the object that t's cubbyhole has at the path
 abbrev pub object_at : Broker → Text → Text → Option Text

@@ -1,15 +1,7 @@
 -- What each cubbyhole has after an edit, object by object.
-use Rattle.std.specs.Prelude.{◌≡◌, ◌≢◌, ◌&&◌, Bool, true, false, if◌then◌else◌, Option, Some, None, option_map}
-use Rattle.std.specs.Prelude.{option_and_then}
-use Rattle.std.specs.FinMap.{get-empty}
-use Rattle.std.proofs.Common.{refl, sym, ◌∙◌, ap}
-use Rattle.records.specs.TableLaws.{chosen}
-use Rattle.broker_types.specs.Text.{Text, text_cmp, same}
-use Rattle.broker_types.specs.Map.{Map, get, empty, put, without}
-use Rattle.broker_types.specs.Token.{Token}
-use Rattle.broker_types.specs.Broker.{Broker}
-use Rattle.broker_types.specs.TextLaws.{same_true}
-use Rattle.broker_types.specs.MapLaws.{get-put, get-without, get-change}
+use Rattle.std.specs.Prelude.{◌≡◌, ◌≢◌, ◌&&◌, if◌then◌else◌, Bool, true, false, Option, Some, None, option_map, refl}
+use Rattle.records.specs.Words.{option_and_then, get-empty, sym, ◌∙◌, ap, chosen, Text, text_cmp, same, Map, get, empty}
+use Rattle.records.specs.Words.{put, without, Token, Broker, same_true, get-put, get-without, get-change}
 use Rattle.cubbyhole.specs.Cubbyhole.{object_at, with_cubbyhole, edited, write, delete, drop_owner}
 
 module _ (b : Broker) (t : Text) where

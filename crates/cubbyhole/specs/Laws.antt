@@ -1,19 +1,10 @@
 -- Laws of cubbyholes, as statements (this project's; Vault's documentation, "Cubbyhole secrets engine").
-use Rattle.std.specs.Prelude.{◌≡◌, List, [], ◌∷◌, length, nat_eq, true, is_some, Option, Some, None, option_and_then}
-use Rattle.std.specs.Prelude.{if◌then◌else◌}
-use Rattle.std.specs.List.{starts_with}
-use Rattle.broker_types.specs.Text.{Text, same}
-use Rattle.broker_types.specs.Broker.{Broker}
-use Rattle.broker_types.specs.Evolves.{Evolves}
-use Rattle.broker_types.specs.Sound.{Forms, Sound, IsPathText, IsObjectText}
+use Rattle.std.specs.Prelude.{◌≡◌, ◌∷◌, if◌then◌else◌, List, [], length, nat_eq, true, is_some, Option, Some, None}
+use Rattle.records.specs.Words.{option_and_then, starts_with, Text, same, Broker, Evolves, Forms, Sound, IsPathText}
+use Rattle.records.specs.Words.{IsObjectText, has, of_cubbyholes, Tells, cubby_row, token_len, Table, table_of}
+use Rattle.records.specs.Words.{with_row, without_row, without_under, without_owned, Rows}
 use Rattle.records.specs.declared.kind.Kind.TheVariants as kind
 use Rattle.records.specs.declared.row.Row.{Row}
-use Rattle.records.specs.Children.{has}
-use Rattle.records.specs.Parts.{of_cubbyholes, Tells}
-use Rattle.records.specs.RowForms.{cubby_row}
-use Rattle.records.specs.Rows.{token_len}
-use Rattle.records.specs.Table.{Table, table_of, with_row, without_row, without_under, without_owned}
-use Rattle.records.specs.Transaction.{Rows}
 use Rattle.cubbyhole.specs.Cubbyhole.{object_at, write, delete, drop_owner}
 use Rattle.cubbyhole.specs.Objects.{object_key, children_in, IsObjectAt, IsDamagedAt, KeepsOtherOwners, AreFiled}
 

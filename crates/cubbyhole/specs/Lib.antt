@@ -4,3 +4,4 @@ pub mod Laws
 pub mod ObjectLaws
 pub mod Objects
 pub mod SoundLaws
+pub mod Words

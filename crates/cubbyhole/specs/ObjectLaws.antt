@@ -1,13 +1,7 @@
 -- What the key of an object's row tells.
-use Rattle.std.specs.Prelude.{◌≡◌, ◌+◌, ◌==◌, ◌∷◌, ◌++◌, length, take, drop, true, T}
-use Rattle.std.proofs.Common.{sym, ◌∙◌, ap, subst, get_or, eqb→eq, inl, inr}
-use Rattle.std.proofs.Math.Nat.{le_of_lt}
-use Rattle.std.proofs.Math.Seq.{drop-cons}
-use Rattle.std.proofs.lemmas.Bool.{cases_lt, false≢true}
-use Rattle.std.proofs.lemmas.List.{take-append-drop, length-take-le, get_or_past}
-use Rattle.broker_types.specs.Text.{Text}
-use Rattle.records.specs.Rows.{token_len, has_slash}
-use Rattle.records.specs.Splits.{slash}
+use Rattle.std.proofs.Common.{◌≡◌, ◌+◌, ◌==◌, ◌∷◌, ◌++◌, length, take, drop, true, T, sym, ◌∙◌, ap, subst, get_or, inl}
+use Rattle.records.specs.Words.{eqb→eq, inr, le_of_lt, drop-cons, cases_lt, false≢true, take-append-drop}
+use Rattle.records.specs.Words.{length-take-le, get_or_past, Text, token_len, has_slash, slash}
 use Rattle.cubbyhole.specs.Objects.{object_key}
 
 -- a key with a slash in its place is that of its token and its path

@@ -1,17 +1,10 @@
 -- Cubbyholes as rows: each object has one, at its token, a slash and its path (this project's row format).
-use Rattle.std.specs.Prelude.{◌≡◌, ◌++◌, List, [], ◌∷◌, false, length, Option, Some, option_map}
-use Rattle.broker_types.specs.Text.{Text}
-use Rattle.broker_types.specs.Sound.{IsShortText}
+use Rattle.std.specs.Prelude.{◌≡◌, ◌++◌, ◌∷◌, List, [], false, length, Option, Some, option_map}
+use Rattle.records.specs.Words.{Text, IsShortText, folder, children, keys_under, IsSomeIn, cubby_row, token_len, slash}
+use Rattle.records.specs.Words.{Table, has_prefix, Rows}
 use Rattle.records.specs.declared.kind.Kind.{Kind}
 use Rattle.records.specs.declared.kind.Kind.TheVariants as kind
 use Rattle.records.specs.declared.row.Row.{Row}
-use Rattle.records.specs.Children.{folder, children, keys_under}
-use Rattle.records.specs.RowReaders.{IsSomeIn}
-use Rattle.records.specs.RowForms.{cubby_row}
-use Rattle.records.specs.Rows.{token_len}
-use Rattle.records.specs.Splits.{slash}
-use Rattle.records.specs.Table.{Table, has_prefix}
-use Rattle.records.specs.Transaction.{Rows}
 
 -- the key of the object's row: the token, a slash and the path
 abbrev pub object_key : Text → Text → Text

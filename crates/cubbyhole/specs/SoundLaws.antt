@@ -1,17 +1,8 @@
 -- Edits of a cubbyhole leave a sound broker sound, and let it evolve.
-use Rattle.std.specs.Prelude.{◌≡◌, true, false, cond, Option, Some, None}
-use Rattle.std.specs.FinMap.{get-empty}
-use Rattle.std.proofs.Common.{refl, sym, ◌∙◌, subst}
-use Rattle.std.proofs.lemmas.Option.{same_Some, none-some}
-use Rattle.broker_types.specs.Text.{Text, text_cmp, same}
-use Rattle.broker_types.specs.Map.{Map, get, empty, put, without}
-use Rattle.broker_types.specs.Broker.{Broker}
-use Rattle.broker_types.specs.Evolves.{Evolves}
-use Rattle.broker_types.specs.Sound.{Forms, Sound, IsPathText, IsObjectText}
-use Rattle.broker_types.specs.TextLaws.{same_true}
-use Rattle.broker_types.specs.MapLaws.{get-put, get-without}
-use Rattle.broker_types.specs.FewerLaws.{edited_sound}
-use Rattle.broker_types.specs.EditLaws.{IsEdit, edit_evolves, edit_sound, unspent_still}
+use Rattle.std.proofs.Common.{◌≡◌, true, false, cond, Option, Some, None, refl, sym, ◌∙◌, subst}
+use Rattle.records.specs.Words.{get-empty, same_Some, none-some, Text, text_cmp, same, Map, get, empty, put, without}
+use Rattle.records.specs.Words.{Broker, Evolves, Forms, Sound, IsPathText, IsObjectText, same_true, get-put}
+use Rattle.records.specs.Words.{get-without, edited_sound, IsEdit, edit_evolves, edit_sound, unspent_still}
 use Rattle.cubbyhole.specs.Cubbyhole.{with_cubbyhole, edited, write, delete, drop_owner}
 
 -- each object is at a path

@@ -1,12 +1,7 @@
 -- What holds of what a check finds.
-use Rattle.std.proofs.Common.{◌≤◌, ◌∙◌, Result, Ok, Err, arith}
-use Rattle.std.specs.Prelude.{IfOk}
-use Rattle.records.specs.Kept.{Kept, IsHonestStore}
-use Rattle.records.specs.Table.{table_of}
-use Rattle.records.specs.Transaction.{Rows}
-use Rattle.records.specs.Upgraded.{AreUpgraded}
-use Rattle.records.specs.UpgradedLaws.{one_table}
-use Rattle.soundness.specs.Laws.{AreOfABroker}
+use Rattle.std.proofs.Common.{◌≤◌, ◌∙◌, Result, Ok, Err, arith, IfOk}
+use Rattle.records.specs.Words.{Kept, IsHonestStore, table_of, Rows, AreUpgraded, one_table}
+use Rattle.soundness.specs.Words.{AreOfABroker}
 use Rattle.database_check.specs.Findings.{IfSound, IfUnsound, OpenAsABroker}
 use Rattle.database_check.specs.declared.checking.Finding.{Finding}
 use Rattle.database_check.specs.declared.checking.Finding.TheVariants.{Sound, Unsound}

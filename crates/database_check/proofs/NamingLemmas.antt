@@ -1,11 +1,7 @@
 -- Rows that a reader does not read are those of no record.
-use Rattle.std.specs.Prelude.{◌≡◌, Bool, true, false, Result, Ok, Err, MatchResult}
-use Rattle.std.proofs.Common.{sym, ◌∙◌, ap, subst}
-use Rattle.std.proofs.lemmas.Bool.{false≢true}
-use Rattle.broker_types.specs.declared.fault.Fault.{Fault}
-use Rattle.broker_types.specs.declared.fault.Fault.TheVariants.{Memory, Damaged}
+use Rattle.std.proofs.Common.{◌≡◌, Bool, true, false, Result, Ok, Err, MatchResult, sym, ◌∙◌, ap, subst}
+use Rattle.records.specs.Words.{false≢true, Fault, Memory, Damaged, Reads, ReadsWithMemory}
 use Rattle.records.specs.declared.row.Row.{Row}
-use Rattle.records.specs.RowReaders.{Reads, ReadsWithMemory}
 
 is_ok : {X E : Type 0} → Result X E → Bool
 is_ok (Ok x) = true

@@ -1,14 +1,11 @@
 -- What a check of a database finds (this project's definition).
 use Rattle.std.specs.Prelude.{◌≡◌, ℕ, [], length, ⊤}
 use Rattle.sqlite.specs.Recovery.{Image}
-use Rattle.records.specs.Table.{table_of}
-use Rattle.records.specs.Transaction.{Rows, rows_under}
-use Rattle.records.specs.Upgraded.{AreUpgraded}
+use Rattle.records.specs.Words.{table_of, Rows, rows_under, AreUpgraded}
 use Rattle.records.specs.declared.kind.Kind.{Kind}
 use Rattle.records.specs.declared.kind.Kind.TheVariants as kind
-use Rattle.records_sql.specs.Adopted.{IsKeptIn}
-use Rattle.soundness.specs.Broken.{Breaks}
-use Rattle.soundness.specs.Laws.{AreOfABroker}
+use Rattle.records_sql.specs.Words.{IsKeptIn}
+use Rattle.soundness.specs.Words.{Breaks, AreOfABroker}
 use Rattle.soundness.specs.declared.trouble.Trouble.{Trouble}
 use Rattle.database_check.specs.Naming.{TellsOf}
 use Rattle.database_check.specs.declared.checking.Finding.{Finding}

@@ -1,14 +1,8 @@
 -- What is told of a row in trouble: which it is of its kind, its name, and what is wrong (this project's definition).
-use Rattle.std.specs.Prelude.{◌≡◌, ◌≢◌, ◌⊎◌, [], length, if◌then◌else◌, Option, Some, None}
-use Rattle.std.specs.Char.{is_ascii_graphic}
+use Rattle.std.specs.Prelude.{◌≡◌, ◌≢◌, ◌⊎◌, if◌then◌else◌, [], length, Option, Some, None}
+use Rattle.records.specs.Words.{is_ascii_graphic, list_all, Waiting, Text, IsTokenInRange, IsWaitingInRange, entry_row}
+use Rattle.records.specs.Words.{waiting_row, TokenEntry, Rows, rows_upto}
 use Rattle.std.specs.FinMap as map
-use Rattle.std.specs.List.{list_all}
-use Rattle.broker_types.specs.Broker.{Waiting}
-use Rattle.broker_types.specs.Text.{Text}
-use Rattle.records.specs.Ranges.{IsTokenInRange, IsWaitingInRange}
-use Rattle.records.specs.RowForms.{entry_row, waiting_row}
-use Rattle.records.specs.TokenEntry.{TokenEntry}
-use Rattle.records.specs.Transaction.{Rows, rows_upto}
 use Rattle.records.specs.declared.kind.Kind.{Kind}
 use Rattle.records.specs.declared.kind.Kind.TheVariants as kind
 use Rattle.records.specs.declared.row.Row.{Row}

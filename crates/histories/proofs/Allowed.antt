@@ -1,95 +1,45 @@
 -- What is allowed is done: some commands always, some where what they ask for is there.
-use Rattle.std.specs.Prelude.{◌≡◌, ◌≢◌, ◌⊎◌, ◌<◌, ◌==◌, ◌||◌, ℕ, [], Bool, true, false, nat_lt}
-use Rattle.std.specs.Prelude.{is_some, if◌then◌else◌, Option, Some, None, Result, Ok, option_and_then, option_map, ⊤}
-use Rattle.std.specs.Prelude.{◌-◌, ◌++◌, ◌∷◌, List, nat_eq, not}
+use Rattle.std.proofs.Common.{◌≡◌, ◌≢◌, ◌⊎◌, ◌<◌, ◌==◌, ◌||◌, if◌then◌else◌, ◌-◌, ◌++◌, ◌∷◌, ℕ, [], Bool, true, false}
+use Rattle.broker_model.specs.Words.{nat_lt, is_some, Option, Some, None, Result, Ok, option_and_then, option_map, ⊤}
+use Rattle.broker_model.specs.Words.{List, nat_eq, not, starts_with, option_map_or, refl, sym, ◌∙◌, ap, subst, inl, inr}
+use Rattle.broker_model.specs.Words.{eq-eqb, eqb-true, false_from_ne_true, false≢true, lt-ltb, none-some, Text, same}
+use Rattle.broker_model.specs.Words.{same_self, greatest_version, Map, entries, get, keys, put, without, get-change}
+use Rattle.broker_model.specs.Words.{Response, Broker, Mount, Role, Names, names_of, missing, nothing, plainly, reply}
+use Rattle.broker_model.specs.Words.{Done, OnePlaceEach, found_or_not, mapped_none, ◌>>=◌, some_or, unless, Key}
+use Rattle.broker_model.specs.Words.{Version, Sound, is_spent, one_less, Lease, Token, are_new, Refusal, Reply}
+use Rattle.broker_model.specs.Words.{children, folder, slash, token_entry, AccessorsNameTheirTokens, metadata_of}
+use Rattle.broker_model.specs.Words.{Written, secret_name, write_over, written, Found, asked_number, check_and_set}
+use Rattle.broker_model.specs.Words.{checked, key_or_new, numbered, Renewed, renewed_end, times_of, with_renewed}
+use Rattle.broker_model.specs.Words.{Issued, IssuedLease, is_last_use, lease_id, new_lease, role_name, AllThatIsGranted}
+use Rattle.broker_model.specs.Words.{RootMayDoAll, is_root, text_of, lease_object, policy_object, role_object}
+use Rattle.broker_model.specs.Words.{lease_reply, plain_reply, LeaseRenewal, SecretWrite, TokenCreation, TokenRenewal}
+use Rattle.broker_model.specs.Words.{act, Command, command_of, on_cubbyhole, on_issued, on_lease, on_mount, on_policy}
+use Rattle.broker_model.specs.Words.{on_secret, on_token, on_wrapping, chained, forms, response_to, no_content, step}
+use Rattle.broker_model.specs.Words.{traits, issued_reply, issue, are_none, list_reply, listed, without_kept, Place}
+use Rattle.broker_model.specs.Words.{metadata_reply, object_left, settings_reply, version_answered, version_reply}
+use Rattle.broker_model.specs.Words.{written_reply, auth_reply, token_reply, new_end}
 use Rattle.std.specs.FinMap as fin
-use Rattle.std.specs.List.{starts_with}
-use Rattle.std.specs.Option.{option_map_or}
-use Rattle.std.proofs.Common.{refl, sym, ◌∙◌, ap, subst, inl, inr}
-use Rattle.std.proofs.lemmas.Bool.{eq-eqb, eqb-true, false_from_ne_true, false≢true, lt-ltb}
-use Rattle.std.proofs.lemmas.Option.{none-some}
-use Rattle.broker_types.specs.Text.{Text, same}
-use Rattle.broker_types.specs.TextLaws.{same_self}
-use Rattle.broker_types.specs.Limits.{greatest_version}
-use Rattle.broker_types.specs.Map.{Map, entries, get, keys, put, without}
-use Rattle.broker_types.specs.MapLaws.{get-change}
-use Rattle.broker_types.specs.Answer.{Response}
-use Rattle.broker_types.specs.Broker.{Broker, Mount, Role}
-use Rattle.broker_types.specs.Names.{Names, names_of}
-use Rattle.broker_types.specs.Operation.{missing, nothing, plainly, reply, Done}
-use Rattle.broker_types.specs.IdentifierPlaces.{OnePlaceEach}
-use Rattle.broker_types.specs.OptionLaws.{found_or_not, mapped_none}
-use Rattle.broker_types.specs.Refuse.{◌>>=◌, some_or, unless}
-use Rattle.broker_types.specs.Secret.{Key, Version}
-use Rattle.broker_types.specs.Sound.{Sound}
-use Rattle.broker_types.specs.Spending.{is_spent, one_less}
-use Rattle.broker_types.specs.Token.{Lease, Token}
-use Rattle.broker_types.specs.Used.{are_new}
 use Rattle.broker_types.specs.declared.refusal.Denial.TheVariants as denial
 use Rattle.broker_types.specs.declared.refusal.Field.TheVariants as field
 use Rattle.broker_types.specs.declared.refusal.Reason.TheVariants as reason
-use Rattle.broker_types.specs.declared.refusal.Refusal.{Refusal}
 use Rattle.broker_types.specs.declared.refusal.Refusal.TheVariants as refusal
-use Rattle.broker_types.specs.declared.reply.Reply.{Reply}
 use Rattle.broker_types.specs.declared.status.Status.TheVariants as status
-use Rattle.records.specs.Children.{children, folder}
-use Rattle.records.specs.Splits.{slash}
-use Rattle.records.specs.TokenEntry.{token_entry}
-use Rattle.token_tree.specs.Laws.{AccessorsNameTheirTokens}
 use Rattle.token_tree.specs.Tokens as tree
-use Rattle.kv2.specs.Metadata.{metadata_of}
 use Rattle.kv2.specs.Secrets as secrets
-use Rattle.kv2.specs.Secrets.{Written, secret_name, write_over, written}
-use Rattle.kv2.specs.Versions.{Found, asked_number, check_and_set, checked, key_or_new, numbered}
 use Rattle.leases.specs.Leases as leases
-use Rattle.leases.specs.Leases.{Renewed, renewed_end, times_of, with_renewed}
-use Rattle.leases.specs.Roles.{Issued, IssuedLease, is_last_use, lease_id, new_lease, role_name}
-use Rattle.policies.specs.Laws.{AllThatIsGranted, RootMayDoAll}
-use Rattle.policies.specs.Policies.{is_root, text_of}
-use Rattle.api_json.specs.Objects.{lease_object, policy_object, role_object}
-use Rattle.api_json.specs.Reply.{lease_reply, plain_reply}
-use Rattle.api_json.specs.declared.lease_bodies.LeaseRenewal.{LeaseRenewal}
-use Rattle.api_json.specs.declared.secret_bodies.SecretWrite.{SecretWrite}
-use Rattle.api_json.specs.declared.token_bodies.TokenCreation.{TokenCreation}
-use Rattle.api_json.specs.declared.token_bodies.TokenRenewal.{TokenRenewal}
-use Rattle.broker_model.specs.Act.{act}
-use Rattle.broker_model.specs.Command.{Command, command_of, on_cubbyhole, on_issued, on_lease, on_mount, on_policy}
-use Rattle.broker_model.specs.Command.{on_secret, on_token, on_wrapping}
-use Rattle.broker_model.specs.EffectLaws.{chained}
-use Rattle.broker_model.specs.Forms.{forms}
-use Rattle.broker_model.specs.Order.{response_to}
-use Rattle.broker_model.specs.Responses.{no_content}
-use Rattle.broker_model.specs.Step.{step, traits}
-use Rattle.broker_model.specs.declared.commands.CubbyholeCommand.{CubbyholeCommand}
+use Rattle.histories.specs.Words.{CubbyholeCommand, IssuedCommand, LeaseCommand, SecretCommand, TokenCommand, Making}
+use Rattle.histories.specs.Words.{AllDoAllowed, AreNew, HasAccessor, HasLease, HasVersion, MayChange, MayCreate}
+use Rattle.histories.specs.Words.{MayWrite, ShowsThere, is_done, IsAllowed, Asking, clocked, spent_by, PoliciesDecide}
+use Rattle.histories.specs.Words.{IsAccessorOf, named}
 use Rattle.broker_model.specs.declared.commands.CubbyholeCommand.TheVariants as of_cubbyhole
-use Rattle.broker_model.specs.declared.commands.IssuedCommand.{IssuedCommand}
 use Rattle.broker_model.specs.declared.commands.IssuedCommand.TheVariants as of_issued
-use Rattle.broker_model.specs.declared.commands.LeaseCommand.{LeaseCommand}
 use Rattle.broker_model.specs.declared.commands.LeaseCommand.TheVariants as of_lease
 use Rattle.broker_model.specs.declared.commands.MountCommand.TheVariants as of_mount
 use Rattle.broker_model.specs.declared.commands.PolicyCommand.TheVariants as of_policy
-use Rattle.broker_model.specs.declared.commands.SecretCommand.{SecretCommand}
 use Rattle.broker_model.specs.declared.commands.SecretCommand.TheVariants as of_secret
-use Rattle.broker_model.specs.declared.commands.TokenCommand.{TokenCommand}
 use Rattle.broker_model.specs.declared.commands.TokenCommand.TheVariants as of_token
-use Rattle.broker_model.specs.declared.making.Making.{Making}
-use Rattle.broker_model.specs.parts.Issued.{issued_reply, issue}
 use Rattle.broker_model.specs.parts.Leases as of_leases
-use Rattle.broker_model.specs.parts.Lists.{are_none, list_reply, listed}
-use Rattle.broker_model.specs.parts.Mounts.{without_kept}
-use Rattle.broker_model.specs.parts.Place.{Place}
-use Rattle.broker_model.specs.parts.SecretReplies.{metadata_reply, object_left, settings_reply, version_answered}
-use Rattle.broker_model.specs.parts.SecretReplies.{version_reply, written_reply}
-use Rattle.broker_model.specs.parts.TokenReplies.{auth_reply, token_reply}
 use Rattle.broker_model.specs.parts.Tokens as tokens
-use Rattle.broker_model.specs.parts.Tokens.{new_end}
-use Rattle.histories.specs.Allowed.{AllDoAllowed, AreNew, HasAccessor, HasLease, HasVersion, MayChange, MayCreate}
-use Rattle.histories.specs.Allowed.{MayWrite, ShowsThere, is_done}
-use Rattle.histories.specs.Callers.{IsAllowed}
-use Rattle.histories.specs.History.{Asking, clocked, spent_by}
-use Rattle.histories.specs.Refused.{PoliciesDecide}
-use Rattle.histories.specs.Shown.{IsAccessorOf}
-use Rattle.histories.specs.Versions.{named}
 use Rattle.histories.proofs.Carried.{answers, carried_for, without_ttl}
 use Rattle.histories.proofs.Found.{both_new, comes, goes, held_by_token, held_by_waiting, lease_found, removes, sets}
 use Rattle.histories.proofs.FolderChildren.{has_children, no_cons}

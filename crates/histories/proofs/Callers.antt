@@ -1,21 +1,10 @@
 -- Who is served: a token whose policies grant what was asked, and nobody else.
-use Rattle.std.specs.Prelude.{◌≡◌, ◌⊎◌, Bool, true, false, if◌then◌else◌, Option, Some, None, option_map}
-use Rattle.std.proofs.Common.{refl, sym, ◌∙◌, ap, subst, inl, inr}
-use Rattle.std.proofs.lemmas.Option.{none-some, same_Some}
-use Rattle.broker_types.specs.Text.{Text, same}
-use Rattle.broker_types.specs.TextLaws.{same_self}
-use Rattle.broker_types.specs.Map.{get, without}
-use Rattle.broker_types.specs.MapLaws.{get-change}
-use Rattle.broker_types.specs.Answer.{Response, refused}
-use Rattle.broker_types.specs.OptionLaws.{found_or_not}
-use Rattle.broker_types.specs.Spending.{one_less}
-use Rattle.broker_types.specs.Token.{Token}
-use Rattle.broker_model.specs.Order.{Outcome, permission_denied}
-use Rattle.broker_model.specs.ServedAsks.{is_open}
-use Rattle.broker_model.specs.Step.{step}
-use Rattle.histories.specs.Callers.{AllServeAllowed, IsAllowed}
-use Rattle.histories.specs.History.{Asking, clocked, spent_by}
-use Rattle.histories.specs.Refused.{Calls, HasNoCaller, HasResponse, IsDenial, IsDenied, PoliciesDecide, is_granted}
+use Rattle.std.proofs.Common.{◌≡◌, ◌⊎◌, if◌then◌else◌, Bool, true, false, Option, Some, None, option_map, refl, sym, ap}
+use Rattle.broker_model.specs.Words.{◌∙◌, subst, inl, inr, none-some, same_Some, Text, same, same_self, get, without}
+use Rattle.broker_model.specs.Words.{get-change, Response, refused, found_or_not, one_less, Token, Outcome}
+use Rattle.broker_model.specs.Words.{permission_denied, is_open, step}
+use Rattle.histories.specs.Words.{AllServeAllowed, IsAllowed, Asking, clocked, spent_by, Calls, HasNoCaller}
+use Rattle.histories.specs.Words.{HasResponse, IsDenial, IsDenied, PoliciesDecide, is_granted}
 use Rattle.histories.proofs.Requests.{asked_at}
 
 -- a denial is one by its response

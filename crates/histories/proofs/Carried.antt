@@ -1,27 +1,12 @@
 -- What a command leads to that is not refused before its operation: what the operation answers is the answer.
-use Rattle.std.specs.Prelude.{◌≡◌, ◌||◌, ◌&&◌, List, ◌∷◌, Bool, true, false, not, nat_lt, if◌then◌else◌}
-use Rattle.std.specs.Prelude.{Option, Some, None, Result, Ok}
-use Rattle.std.proofs.Common.{refl, ◌∙◌, ap, inl}
-use Rattle.broker_types.specs.Text.{Text}
-use Rattle.broker_types.specs.Broker.{Broker}
-use Rattle.broker_types.specs.Names.{Names, names_of}
-use Rattle.broker_types.specs.Operation.{Done}
-use Rattle.broker_types.specs.Refuse.{◌>>=◌, unless}
-use Rattle.broker_types.specs.Used.{are_new}
+use Rattle.std.proofs.Common.{◌≡◌, ◌||◌, ◌&&◌, ◌∷◌, if◌then◌else◌, List, Bool, true, false, not, nat_lt, Option, Some}
+use Rattle.broker_model.specs.Words.{None, Result, Ok, refl, ◌∙◌, ap, inl, Text, Broker, Names, names_of, Done, ◌>>=◌}
+use Rattle.broker_model.specs.Words.{unless, are_new, Refusal, act, Command, command_of, Outcome, Wrapped, finish}
+use Rattle.broker_model.specs.Words.{needed, permission_denied, response_to, unwrapped, wrap_200, wrapped, permits}
+use Rattle.broker_model.specs.Words.{Request, is_open, is_wrapped, operated, request_of, step, traits}
 use Rattle.broker_types.specs.declared.refusal.Reason.TheVariants as reason
-use Rattle.broker_types.specs.declared.refusal.Refusal.{Refusal}
 use Rattle.broker_types.specs.declared.refusal.Refusal.TheVariants as refusal
-use Rattle.broker_model.specs.Act.{act}
-use Rattle.broker_model.specs.Command.{Command, command_of}
-use Rattle.broker_model.specs.Order.{Outcome, Wrapped, finish, needed, permission_denied, response_to, unwrapped}
-use Rattle.broker_model.specs.Order.{wrap_200, wrapped}
-use Rattle.broker_model.specs.Permission.{permits}
-use Rattle.broker_model.specs.Request.{Request}
-use Rattle.broker_model.specs.ServedAsks.{is_open, is_wrapped, operated}
-use Rattle.broker_model.specs.Step.{request_of, step, traits}
-use Rattle.histories.specs.Callers.{IsAllowed}
-use Rattle.histories.specs.History.{Asking, clocked, spent_by}
-use Rattle.histories.specs.Refused.{PoliciesDecide}
+use Rattle.histories.specs.Words.{IsAllowed, Asking, clocked, spent_by, PoliciesDecide}
 use Rattle.histories.proofs.OrderCases.{with_caller}
 
 module _ (a : Asking) (is : a.outcome ≡ step a.broker a.moment a.words a.ask) (command : Command)

@@ -1,49 +1,19 @@
 -- How a request goes for tokens: it leaves them, or its client token spends a use, and it is refused or carried out.
-use Rattle.std.specs.Prelude.{◌≡◌, ◌≢◌, ◌⊎◌, ◌&&◌, ◌||◌, ◌-◌, ◌==◌, not, nat_lt, ℕ, max, Bool, true, false, is_some}
-use Rattle.std.specs.Prelude.{if◌then◌else◌, Option, Some, None, Result, Ok, Err, option_map}
-use Rattle.std.specs.Option.{option_map_or}
-use Rattle.std.proofs.Common.{refl, sym, ◌∙◌, ap, subst, inl, inr}
-use Rattle.std.proofs.lemmas.Bool.{false≢true}
-use Rattle.std.proofs.lemmas.Option.{none-some, same_Some}
-use Rattle.broker_types.specs.Text.{Text, same}
-use Rattle.broker_types.specs.TextLaws.{same_self, same_true}
-use Rattle.broker_types.specs.Map.{get}
-use Rattle.broker_types.specs.MapLaws.{valued_is}
-use Rattle.broker_types.specs.Broker.{Broker, Waiting}
-use Rattle.broker_types.specs.Lineage.{is_under}
-use Rattle.broker_types.specs.Names.{names_of}
-use Rattle.broker_types.specs.Operation.{nothing, reply, Done}
-use Rattle.broker_types.specs.OptionLaws.{found_or_not}
-use Rattle.broker_types.specs.IdentifierPlaces.{identifier_at, token_identifier}
+use Rattle.std.proofs.Common.{◌≡◌, ◌≢◌, ◌⊎◌, ◌&&◌, ◌||◌, ◌-◌, ◌==◌, if◌then◌else◌, not, nat_lt, ℕ, max, Bool, true, Ok}
+use Rattle.broker_model.specs.Words.{false, is_some, Option, Some, None, Result, Err, option_map, option_map_or, refl}
+use Rattle.broker_model.specs.Words.{sym, ◌∙◌, ap, subst, inl, inr, false≢true, none-some, same_Some, Text, same}
+use Rattle.broker_model.specs.Words.{same_self, same_true, get, valued_is, Broker, Waiting, is_under, names_of, nothing}
+use Rattle.broker_model.specs.Words.{reply, Done, found_or_not, identifier_at, token_identifier, unless, ok_step, Sound}
+use Rattle.broker_model.specs.Words.{end_spent, is_spent, one_less, Token, Tokens, alive_is, under_self, are_new}
+use Rattle.broker_model.specs.Words.{Refusal, Reply, ok_inj, act, Command, command_of, Does, forms, OperationsDoAsTold}
+use Rattle.broker_model.specs.Words.{Outcome, Wrapped, counted, finish, needed, permission_denied, response_to, serve}
+use Rattle.broker_model.specs.Words.{unwrapped, wrap, wrapped, permits, Request, no_content, is_open, request_of, step}
+use Rattle.broker_model.specs.Words.{traits}
 use Rattle.broker_types.specs.IdentifierPlaces as place
-use Rattle.broker_types.specs.Refuse.{unless}
-use Rattle.broker_types.specs.RefuseLaws.{ok_step}
-use Rattle.broker_types.specs.Sound.{Sound}
-use Rattle.broker_types.specs.Spending.{end_spent, is_spent, one_less}
-use Rattle.broker_types.specs.Token.{Token, Tokens}
-use Rattle.broker_types.specs.TreeLaws.{alive_is, under_self}
-use Rattle.broker_types.specs.Used.{are_new}
-use Rattle.broker_types.specs.declared.refusal.Refusal.{Refusal}
 use Rattle.broker_types.specs.declared.refusal.Refusal.TheVariants as refusal
 use Rattle.broker_types.specs.declared.refusal.Reason.TheVariants as reason
-use Rattle.broker_types.specs.declared.reply.Reply.{Reply}
 use Rattle.broker_types.specs.declared.status.Status.TheVariants as status
-use Rattle.records.specs.ValueLaws.{ok_inj}
-use Rattle.broker_model.specs.Act.{act}
-use Rattle.broker_model.specs.Command.{Command, command_of}
-use Rattle.broker_model.specs.Effects.{Does}
-use Rattle.broker_model.specs.Forms.{forms}
-use Rattle.broker_model.specs.Laws.{OperationsDoAsTold}
-use Rattle.broker_model.specs.Order.{Outcome, Wrapped, counted, finish, needed, permission_denied, response_to, serve}
-use Rattle.broker_model.specs.Order.{unwrapped, wrap, wrapped}
-use Rattle.broker_model.specs.Permission.{permits}
-use Rattle.broker_model.specs.Request.{Request}
-use Rattle.broker_model.specs.Responses.{no_content}
-use Rattle.broker_model.specs.ServedAsks.{is_open}
-use Rattle.broker_model.specs.Step.{request_of, step, traits}
-use Rattle.histories.specs.History.{Asking, clocked, spent_by}
-use Rattle.histories.specs.Open.{DiffersInWaiting}
-use Rattle.histories.specs.Revocation.{IsClient, has_no_use, left_by_caller}
+use Rattle.histories.specs.Words.{Asking, clocked, spent_by, DiffersInWaiting, IsClient, has_no_use, left_by_caller}
 use Rattle.histories.proofs.InOrder.{in_order}
 use Rattle.histories.proofs.Lasting.{waited_before}
 use Rattle.histories.proofs.OpenRequests.{changes_no_token}

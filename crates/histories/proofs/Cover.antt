@@ -1,15 +1,8 @@
 -- Laws of what a history gives out: it is all that is used.
-use Rattle.std.specs.Prelude.{◌≡◌, ◌⊎◌, ◌<◌, ℕ, zero, suc, take, [], ◌∷◌, true, Some, None}
-use Rattle.std.specs.List.{list_any}
-use Rattle.std.proofs.Common.{sym, ◌∙◌, ap, subst, inl, inr}
-use Rattle.std.proofs.lemmas.Bool.{cases_order}
-use Rattle.std.proofs.lemmas.Option.{none-some, same_Some}
-use Rattle.broker_types.specs.Text.{Text, same}
-use Rattle.broker_types.specs.Map.{get}
-use Rattle.broker_types.specs.Broker.{Broker}
-use Rattle.broker_types.specs.IdentifierPlaces.{IsUsed}
-use Rattle.broker_model.specs.NewIdentifierLaws.{member_new}
-use Rattle.histories.specs.History.{Asking, AskedAt, History, given_out}
+use Rattle.std.proofs.Common.{◌≡◌, ◌⊎◌, ◌<◌, ◌∷◌, ℕ, zero, suc, take, [], true, Some, None, sym, ◌∙◌, ap, subst, inl}
+use Rattle.broker_model.specs.Words.{list_any, inr, cases_order, none-some, same_Some, Text, same, get, Broker, IsUsed}
+use Rattle.broker_model.specs.Words.{member_new}
+use Rattle.histories.specs.Words.{Asking, AskedAt, History, given_out}
 use Rattle.histories.proofs.Keeping.{EachKeeps, EachMarks}
 use Rattle.histories.proofs.Lasting.{asked_keeps, evolved_since}
 use Rattle.histories.proofs.Used.{any_left, any_right, member_used, used_or}

@@ -1,20 +1,11 @@
 -- The policies and the times of a token that is made.
-use Rattle.std.specs.Prelude.{◌≡◌, ◌≢◌, ◌⊎◌, ◌+◌, ◌==◌, ◌&&◌, ◌||◌, ℕ, min, List, [], ◌∷◌, filter, codes}
-use Rattle.std.specs.Prelude.{Bool, true, false, not, if◌then◌else◌, Some, None}
-use Rattle.std.specs.Option.{option_map_or}
-use Rattle.std.proofs.Common.{refl, sym, ◌∙◌, ap, inl, inr}
-use Rattle.std.proofs.lemmas.Bool.{and_parts, eqb-true, false≢true, ne_eqb, or_cases, or_right}
-use Rattle.broker_types.specs.Limits.{longest_ttl}
-use Rattle.broker_types.specs.Map.{keys}
-use Rattle.broker_types.specs.Text.{Text, same}
-use Rattle.broker_types.specs.TextLaws.{same_self, same_true}
-use Rattle.broker_types.specs.Token.{Token}
-use Rattle.records.specs.Children.{has, set_of}
-use Rattle.api_json.specs.declared.token_bodies.TokenCreation.{TokenCreation}
-use Rattle.broker_model.specs.CreationLaws.{has_set, kept}
-use Rattle.broker_model.specs.parts.TokenCreation.{asked_time, asked_ttl, has_no_end, have_root, new_policies}
-use Rattle.broker_model.specs.parts.TokenCreation.{or_longest, policies_given, without_default}
-use Rattle.histories.specs.Creations.{AsksNoEnd, HasPolicies, HasRoot, IsMadeFor}
+use Rattle.std.proofs.Common.{◌≡◌, ◌≢◌, ◌⊎◌, ◌+◌, ◌==◌, ◌&&◌, ◌||◌, ◌∷◌, if◌then◌else◌, ℕ, min, List, [], filter, codes}
+use Rattle.broker_model.specs.Words.{Bool, true, false, not, Some, None, option_map_or, refl, sym, ◌∙◌, ap, inl, inr}
+use Rattle.broker_model.specs.Words.{and_parts, eqb-true, false≢true, ne_eqb, or_cases, or_right, longest_ttl, keys}
+use Rattle.broker_model.specs.Words.{Text, same, same_self, same_true, Token, has, set_of, TokenCreation, has_set, kept}
+use Rattle.broker_model.specs.Words.{asked_time, asked_ttl, has_no_end, have_root, new_policies, or_longest}
+use Rattle.broker_model.specs.Words.{policies_given, without_default}
+use Rattle.histories.specs.Words.{AsksNoEnd, HasPolicies, HasRoot, IsMadeFor}
 
 -- ---- lists that are filtered
 

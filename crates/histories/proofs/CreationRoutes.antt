@@ -1,53 +1,25 @@
 -- An ask that means a creation has its path.
-use Rattle.std.specs.Prelude.{◌≡◌, ◌&&◌, ◌++◌, ℕ, List, [], ◌∷◌, Bool, true, false, length, drop, nat_eq, unwrap_or}
-use Rattle.std.specs.Prelude.{if◌then◌else◌, Option, Some, None, Result, Ok, option_map, codes}
-use Rattle.std.specs.List.{list_all, starts_with}
-use Rattle.std.specs.Option.{option_map_or}
-use Rattle.std.proofs.Common.{refl, sym, ◌∙◌, ap}
-use Rattle.std.proofs.lemmas.Bool.{and_parts, eqb-true, false≢true}
-use Rattle.std.proofs.lemmas.Option.{none-some, same_Some}
+use Rattle.std.proofs.Common.{◌≡◌, ◌&&◌, ◌++◌, ◌∷◌, if◌then◌else◌, ℕ, List, [], Bool, true, false, length, drop, nat_eq}
+use Rattle.broker_model.specs.Words.{unwrap_or, Option, Some, None, Result, Ok, option_map, codes, list_all}
+use Rattle.broker_model.specs.Words.{starts_with, option_map_or, refl, sym, ◌∙◌, ap, and_parts, eqb-true, false≢true}
+use Rattle.broker_model.specs.Words.{none-some, same_Some, get, Mount, Engine, kv, issued, ◌>>=◌, some_or, ok_step}
+use Rattle.broker_model.specs.Words.{Text, same, same_true, Ask, Verb, Refusal, or_else, slash, split_once}
+use Rattle.broker_model.specs.Words.{lacking_split, ok_inj, form_of, has_form, is_ending, bytes_of_rest, row_of}
+use Rattle.broker_model.specs.Words.{AreInOrder, FoundByForm, pattern_found, same_verb, Route, cut, methods_of}
+use Rattle.broker_model.specs.Words.{operation_for, route_at, route_by, route_of, within, RouteRow, route_rows}
+use Rattle.broker_model.specs.Words.{engine_type, type_at, type_of, MountType, Operation, Cubbyholes, Secrets, Policies}
+use Rattle.broker_model.specs.Words.{Mounts, Leases, Wrappings, TokenOperation, body_members, TokenCreation, Command}
+use Rattle.broker_model.specs.Words.{on_cubbyhole, on_token, on_secret, on_policy, on_mount, on_lease, on_issued}
+use Rattle.broker_model.specs.Words.{on_wrapping, command_by, command_for, meant_by, place_of, read_as, token_command}
 use Rattle.serde_json.specs.Data.{Members}
-use Rattle.broker_types.specs.Map.{get}
-use Rattle.broker_types.specs.Broker.{Mount, Engine, kv, issued}
-use Rattle.broker_types.specs.Refuse.{◌>>=◌, some_or}
-use Rattle.broker_types.specs.RefuseLaws.{ok_step}
-use Rattle.broker_types.specs.Text.{Text, same}
-use Rattle.broker_types.specs.TextLaws.{same_true}
-use Rattle.broker_types.specs.declared.ask.Ask.{Ask}
-use Rattle.broker_types.specs.declared.ask.Verb.{Verb}
 use Rattle.broker_types.specs.declared.ask.Verb.TheVariants as verb
-use Rattle.broker_types.specs.declared.refusal.Refusal.{Refusal}
 use Rattle.broker_types.specs.declared.refusal.Refusal.TheVariants as refusal
-use Rattle.records.specs.Rows.{or_else}
-use Rattle.records.specs.Splits.{slash, split_once}
-use Rattle.records.specs.SplitLaws.{lacking_split}
-use Rattle.records.specs.ValueLaws.{ok_inj}
-use Rattle.mounts.specs.Forms.{form_of, has_form, is_ending, nothing}
-use Rattle.mounts.specs.FoundLaws.{bytes_of_rest, row_of}
-use Rattle.mounts.specs.Laws.{AreInOrder, FoundByForm}
-use Rattle.mounts.specs.Patterns.{pattern_found, same_verb}
-use Rattle.mounts.specs.Route.{Route, cut, methods_of, operation_for, route_at, route_by, route_of, within}
-use Rattle.mounts.specs.RouteRow.{RouteRow}
-use Rattle.mounts.specs.RouteTable.{route_rows}
-use Rattle.mounts.specs.Types.{engine_type, type_at, type_of}
-use Rattle.mounts.specs.declared.mount_type.MountType.{MountType}
+use Rattle.mounts.specs.Forms.{nothing}
 use Rattle.mounts.specs.declared.mount_type.MountType.TheVariants as type
-use Rattle.mounts.specs.declared.operation.Operation.{Operation}
-use Rattle.mounts.specs.declared.operation.Operation.TheVariants.{Cubbyholes, Tokens, Secrets, Policies}
-use Rattle.mounts.specs.declared.operation.Operation.TheVariants.{Mounts, Leases, Issued, Wrappings}
-use Rattle.mounts.specs.declared.operation.TokenOperation.{TokenOperation}
+use Rattle.mounts.specs.declared.operation.Operation.TheVariants.{Tokens, Issued}
 use Rattle.mounts.specs.declared.operation.TokenOperation.TheVariants as of_tokens
-use Rattle.api_json.specs.Json.{body_members}
-use Rattle.api_json.specs.declared.token_bodies.TokenCreation.{TokenCreation}
-use Rattle.broker_model.specs.Command.{Command, on_cubbyhole, on_token, on_secret, on_policy, on_mount, on_lease}
-use Rattle.broker_model.specs.Command.{on_issued, on_wrapping, command_by, command_for, meant_by, place_of}
-use Rattle.broker_model.specs.declared.commands.TokenCommand.{TokenCommand}
+use Rattle.histories.specs.Words.{TokenCommand, Making, OfCaller, WithoutParent, CreatesAtPath, path_of}
 use Rattle.broker_model.specs.declared.commands.TokenCommand.TheVariants as token
-use Rattle.broker_model.specs.declared.making.Making.{Making}
-use Rattle.broker_model.specs.declared.making.Making.TheVariants.{OfCaller, WithoutParent}
-use Rattle.broker_model.specs.parts.Bodies.{read_as}
-use Rattle.broker_model.specs.parts.TokenCommands.{token_command}
-use Rattle.histories.specs.Paths.{CreatesAtPath, path_of}
 use Rattle.histories.proofs.OrderCases.{some_ok}
 
 -- ---- which operations make tokens

@@ -1,29 +1,12 @@
 -- After a 204 to a write or a deletion the cubbyhole of the client token has what that leaves.
-use Rattle.std.specs.Prelude.{◌≡◌, if◌then◌else◌, Option, Some, None, Ok}
-use Rattle.std.proofs.Common.{sym, ◌∙◌, ap, subst, arith}
-use Rattle.std.proofs.lemmas.Option.{same_Some}
-use Rattle.broker_types.specs.Text.{Text, same}
-use Rattle.broker_types.specs.TextLaws.{same_self}
-use Rattle.broker_types.specs.Map.{Map, get, put, without}
-use Rattle.broker_types.specs.MapLaws.{get-change, get-put_self, get-without_self}
-use Rattle.broker_types.specs.Broker.{Broker}
-use Rattle.broker_types.specs.Names.{names_of}
-use Rattle.broker_types.specs.Operation.{Done}
-use Rattle.broker_types.specs.OptionLaws.{mapped}
-use Rattle.broker_types.specs.RefuseLaws.{no_ok}
-use Rattle.broker_types.specs.Status.{status_code}
-use Rattle.broker_types.specs.Token.{Token}
+use Rattle.std.proofs.Common.{◌≡◌, if◌then◌else◌, Option, Some, None, Ok, sym, ◌∙◌, ap, subst, arith}
+use Rattle.broker_model.specs.Words.{same_Some, Text, same, same_self, Map, get, put, without, get-change, get-put_self}
+use Rattle.broker_model.specs.Words.{get-without_self, Broker, names_of, Done, mapped, no_ok, status_code, Token}
+use Rattle.broker_model.specs.Words.{ok_inj, edited, with_cubbyhole, act, Command, command_of, on_cubbyhole, request_of}
+use Rattle.broker_model.specs.Words.{step}
 use Rattle.broker_types.specs.declared.status.Status.TheVariants as status
-use Rattle.records.specs.ValueLaws.{ok_inj}
-use Rattle.cubbyhole.specs.Cubbyhole.{edited, with_cubbyhole}
-use Rattle.broker_model.specs.Act.{act}
-use Rattle.broker_model.specs.Command.{Command, command_of, on_cubbyhole}
-use Rattle.broker_model.specs.Step.{request_of, step}
-use Rattle.broker_model.specs.declared.commands.CubbyholeCommand.{CubbyholeCommand}
+use Rattle.histories.specs.Words.{CubbyholeCommand, Asking, clocked, LeavesAt, IsClient}
 use Rattle.broker_model.specs.declared.commands.CubbyholeCommand.TheVariants as cubbyhole
-use Rattle.histories.specs.History.{Asking, clocked}
-use Rattle.histories.specs.Own.{LeavesAt}
-use Rattle.histories.specs.Revocation.{IsClient}
 use Rattle.histories.proofs.Clients.{is_client}
 use Rattle.histories.proofs.Disabled.{token_left}
 use Rattle.histories.proofs.OrderCases.{IsCaller, spent}

@@ -1,70 +1,37 @@
 -- What becomes of each token by a request, with its cubbyhole and its leases, and which token it makes.
-use Rattle.std.specs.Prelude.{◌≡◌, ◌⊎◌, ℕ, Bool, true, false, not, cond, is_some, if◌then◌else◌}
-use Rattle.std.specs.Prelude.{Option, Some, None, Ok, option_map, option_and_then, ◌≢◌, ⊤}
-use Rattle.std.proofs.Common.{refl, sym, ◌∙◌, ap, subst, inl, inr}
-use Rattle.std.proofs.lemmas.Bool.{false≢true}
-use Rattle.std.proofs.lemmas.Option.{none-some, same_Some}
-use Rattle.broker_types.specs.Text.{Text, same}
-use Rattle.broker_types.specs.TextLaws.{same_self, same_true}
-use Rattle.broker_types.specs.Map.{Map, get, put, without}
-use Rattle.broker_types.specs.MapLaws.{get-change, get-map_values, get-put, get-without}
-use Rattle.broker_types.specs.Broker.{Broker}
-use Rattle.broker_types.specs.Names.{names_of, Names}
-use Rattle.broker_types.specs.Answer.{Response}
-use Rattle.broker_types.specs.Operation.{nothing, Done}
-use Rattle.broker_types.specs.Refuse.{some_or, unless}
-use Rattle.broker_types.specs.RefuseLaws.{ok_step, unless_ok}
-use Rattle.broker_types.specs.Token.{Token, Tokens, Lease}
-use Rattle.broker_types.specs.Lineage.{is_under, orphaned_by}
-use Rattle.broker_types.specs.LineageLaws.{get-revoke}
-use Rattle.broker_types.specs.TokenText.{token_text}
-use Rattle.broker_types.specs.Sound.{Sound}
+use Rattle.std.proofs.Common.{◌≡◌, ◌⊎◌, if◌then◌else◌, ◌≢◌, ℕ, Bool, true, false, not, cond, is_some, Option, Some, Ok}
+use Rattle.broker_model.specs.Words.{None, option_map, option_and_then, ⊤, refl, sym, ◌∙◌, ap, subst, inl, inr}
+use Rattle.broker_model.specs.Words.{false≢true, none-some, same_Some, Text, same, same_self, same_true, Map, get, put}
+use Rattle.broker_model.specs.Words.{without, get-change, get-map_values, get-put, get-without, Broker, names_of, Names}
+use Rattle.broker_model.specs.Words.{Response, nothing, Done, some_or, unless, ok_step, unless_ok, Token, Tokens, Lease}
+use Rattle.broker_model.specs.Words.{is_under, orphaned_by, get-revoke, token_text, Sound, is_there, ok_inj}
+use Rattle.broker_model.specs.Words.{token_entry, TokenCreation, Command, on_cubbyhole, on_issued, on_lease, on_mount}
+use Rattle.broker_model.specs.Words.{on_policy, on_secret, on_token, on_wrapping, traits, step, may_change, stay, Fate}
+use Rattle.broker_model.specs.Words.{Named, make, orphan, renew, text_named, cubbyhole_changes, issued_changes}
+use Rattle.broker_model.specs.Words.{lease_changes, mount_changes, token_fate, Both, IsFated, Stay, StaysAt}
+use Rattle.broker_model.specs.Words.{is_privileged, making_path, may_make, new_parent, new_policies, new_token, known}
+use Rattle.broker_model.specs.Words.{new_end, forms, OperationsDoAsTold}
 use Rattle.broker_types.specs.declared.refusal.Refusal.TheVariants as refusal
 use Rattle.broker_types.specs.declared.refusal.Reason.TheVariants as reason
-use Rattle.broker_types.specs.OptionLaws.{is_there}
-use Rattle.records.specs.ValueLaws.{ok_inj}
-use Rattle.records.specs.TokenEntry.{token_entry}
 use Rattle.records.specs.declared.kind.Kind.TheVariants as kind
 use Rattle.cubbyhole.specs.Cubbyhole as cubbyhole
 use Rattle.token_tree.specs.Tokens as tree
-use Rattle.api_json.specs.declared.token_bodies.TokenCreation.{TokenCreation}
-use Rattle.broker_model.specs.Command.{Command, on_cubbyhole, on_issued, on_lease, on_mount, on_policy, on_secret}
-use Rattle.broker_model.specs.Command.{on_token, on_wrapping}
-use Rattle.broker_model.specs.Step.{traits, step}
-use Rattle.broker_model.specs.Traits.{may_change, stay, Fate, Named, make, orphan, renew, revoke, text_named}
-use Rattle.broker_model.specs.declared.commands.CubbyholeCommand.{CubbyholeCommand}
-use Rattle.broker_model.specs.declared.commands.IssuedCommand.{IssuedCommand}
-use Rattle.broker_model.specs.declared.commands.LeaseCommand.{LeaseCommand}
-use Rattle.broker_model.specs.declared.commands.MountCommand.{MountCommand}
-use Rattle.broker_model.specs.declared.commands.TokenCommand.{TokenCommand}
-use Rattle.broker_model.specs.parts.Cubbyholes.{cubbyhole_changes}
-use Rattle.broker_model.specs.parts.Issued.{issued_changes}
-use Rattle.broker_model.specs.parts.Leases.{lease_changes}
-use Rattle.broker_model.specs.parts.Mounts.{mount_changes}
-use Rattle.broker_model.specs.parts.TokenCommands.{token_fate}
-use Rattle.broker_model.specs.Effects.{Both, IsFated, Stay, StaysAt}
-use Rattle.broker_model.specs.declared.making.Making.{Making}
-use Rattle.broker_model.specs.declared.making.Making.TheVariants.{OfCaller, WithoutParent}
-use Rattle.broker_model.specs.parts.TokenCreation.{is_privileged, making_path, may_make, new_parent, new_policies}
-use Rattle.broker_model.specs.parts.TokenCreation.{new_token}
-use Rattle.broker_model.specs.parts.Tokens.{known, new_end}
-use Rattle.broker_model.specs.Forms.{forms}
-use Rattle.broker_model.specs.Laws.{OperationsDoAsTold}
+use Rattle.broker_model.specs.Traits.{revoke}
+use Rattle.histories.specs.Words.{CubbyholeCommand, IssuedCommand, LeaseCommand, MountCommand, TokenCommand, Making}
+use Rattle.histories.specs.Words.{OfCaller, WithoutParent, Asking, clocked, spent_by, EditsCubbyhole, Edits, IsRevoked}
+use Rattle.histories.specs.Words.{LeaseBecomes, RenewalOf, RenewsToken, TokenStands, IsRenewedTo, increment_of}
+use Rattle.histories.specs.Words.{with_changed, IsClient, IsMade, IsOrphaned, orphaning_by, parent_asked, WasToken}
+use Rattle.histories.specs.Words.{IsGranted, RevokesAlone, left_by_caller, revoked_by}
 use Rattle.broker_model.specs.declared.commands.CubbyholeCommand.TheVariants as of_cubbyhole
 use Rattle.broker_model.specs.declared.commands.IssuedCommand.TheVariants as of_issued
 use Rattle.broker_model.specs.declared.commands.LeaseCommand.TheVariants as of_lease
 use Rattle.broker_model.specs.declared.commands.MountCommand.TheVariants as of_mount
 use Rattle.broker_model.specs.declared.commands.TokenCommand.TheVariants as of_token
 use Rattle.broker_model.specs.parts.Tokens as tokens
-use Rattle.histories.specs.History.{Asking, clocked, spent_by}
-use Rattle.histories.specs.Own.{EditsCubbyhole, Edits, IsRevoked, LeaseBecomes, RenewalOf, RenewsToken, TokenStands}
-use Rattle.histories.specs.Own.{IsRenewedTo, increment_of, with_changed}
-use Rattle.histories.specs.Revocation.{IsClient, IsMade, IsOrphaned, orphaning_by, parent_asked, WasToken}
-use Rattle.histories.specs.Revocation.{IsGranted, RevokesAlone, left_by_caller, revoked_by}
 use Rattle.histories.proofs.Clients.{CarriesOut, from_clock, Course, FromClock, course, from_itself, left_is}
 use Rattle.histories.proofs.Clients.{left_unspent}
-use Rattle.histories.proofs.LeaseChanges.{edited_is, leases_left, policies_neither, responses_neither}
-use Rattle.histories.proofs.LeaseChanges.{secrets_neither, tokens_neither}
+use Rattle.histories.proofs.LeaseChanges.{edited_is, leases_left, policies_neither, responses_neither, secrets_neither}
+use Rattle.histories.proofs.LeaseChanges.{tokens_neither}
 use Rattle.histories.proofs.OrderCases.{some_ok}
 use Rattle.histories.proofs.RenewedEnds.{is_new_end}
 

@@ -1,34 +1,14 @@
 -- A mount that is disabled leaves nothing, and what is of other mounts stays.
-use Rattle.std.specs.Prelude.{◌≡◌, ◌≢◌, true, false, not, cond, if◌then◌else◌, is_some}
-use Rattle.std.specs.Prelude.{Option, Some, None, Ok, Bool, option_and_then, ⊤}
-use Rattle.std.proofs.Common.{refl, sym, ◌∙◌, ap, subst, inl, inr, arith}
-use Rattle.broker_types.specs.Text.{Text, same}
-use Rattle.broker_types.specs.TextLaws.{same_self, same_true}
-use Rattle.broker_types.specs.Map.{Map, get, keep, without}
-use Rattle.broker_types.specs.MapLaws.{get-change, get-keep, get-without, valued_is}
-use Rattle.broker_types.specs.Broker.{Broker, Mount, Waiting}
-use Rattle.broker_types.specs.Names.{names_of}
-use Rattle.broker_types.specs.Operation.{Done}
-use Rattle.broker_types.specs.OptionLaws.{found_or_not, mapped}
-use Rattle.broker_types.specs.IdentifierPlaces.{lease_of}
-use Rattle.broker_types.specs.RefuseLaws.{no_ok, ok_step}
-use Rattle.broker_types.specs.Spending.{one_less, spend}
-use Rattle.broker_types.specs.Status.{status_code}
-use Rattle.broker_types.specs.Token.{Token, Tokens}
-use Rattle.records.specs.ValueLaws.{ok_inj}
+use Rattle.std.specs.Prelude.{◌≡◌, ◌≢◌, if◌then◌else◌, true, false, not, cond, is_some, Option, Some, None, Ok, Bool, ⊤}
+use Rattle.broker_model.specs.Words.{option_and_then, refl, sym, ◌∙◌, ap, subst, inl, inr, arith, Text, same, same_self}
+use Rattle.broker_model.specs.Words.{same_true, Map, get, keep, without, get-change, get-keep, get-without, valued_is}
+use Rattle.broker_model.specs.Words.{Broker, Mount, Waiting, names_of, Done, found_or_not, mapped, lease_of, no_ok}
+use Rattle.broker_model.specs.Words.{ok_step, one_less, spend, status_code, Token, Tokens, ok_inj, disabled, may_go}
+use Rattle.broker_model.specs.Words.{act, Command, on_mount, OperationsDoAsTold, Outcome, Wrapped, counted, wrapped}
+use Rattle.broker_model.specs.Words.{permits, request_of, step, traits, without_kept}
 use Rattle.leases.specs.Leases as leases
-use Rattle.mounts.specs.Mounts.{disabled, may_go}
-use Rattle.broker_model.specs.Act.{act}
-use Rattle.broker_model.specs.Command.{Command, on_mount}
-use Rattle.broker_model.specs.Laws.{OperationsDoAsTold}
-use Rattle.broker_model.specs.Order.{Outcome, Wrapped, counted, wrapped}
-use Rattle.broker_model.specs.Permission.{permits}
-use Rattle.broker_model.specs.Step.{request_of, step, traits}
 use Rattle.broker_model.specs.declared.commands.MountCommand.TheVariants as mount
-use Rattle.broker_model.specs.parts.Mounts.{without_kept}
-use Rattle.histories.specs.Disabled.{AllDisabledMountsGo, Disables, KeepsOthers, LeavesNothing}
-use Rattle.histories.specs.History.{Asking, clocked}
-use Rattle.histories.specs.LeaseEnds.{is_below}
+use Rattle.histories.specs.Words.{AllDisabledMountsGo, Disables, KeepsOthers, LeavesNothing, Asking, clocked, is_below}
 use Rattle.histories.proofs.Clients.{end_is}
 use Rattle.histories.proofs.LeasesRevoked.{leases_stay_revoked}
 use Rattle.histories.proofs.OrderCases.{spent}

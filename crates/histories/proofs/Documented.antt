@@ -1,57 +1,25 @@
 -- Permission and look-ups are as they are documented.
-use Rattle.std.specs.Prelude.{◌≡◌, ◌⊎◌, ◌||◌, ◌++◌, ℕ, drop, length, nat_eq, not, if◌then◌else◌}
-use Rattle.std.specs.Prelude.{List, [], ◌∷◌, Contains, Bool, true, false, is_some, codes}
-use Rattle.std.specs.Prelude.{Option, Some, None, Result, Ok, Err, option_and_then, unwrap_or}
-use Rattle.std.specs.FinMap.{get-empty}
-use Rattle.std.specs.List.{find, flat_map, list_any, starts_with}
-use Rattle.std.specs.Option.{option_map_or}
-use Rattle.std.proofs.Common.{refl, sym, ◌∙◌, ap, subst, inl, inr}
-use Rattle.std.proofs.lemmas.Bool.{and_parts, eqb-true, false≢true, or_cases}
-use Rattle.std.proofs.lemmas.Option.{same_Some}
-use Rattle.broker_types.specs.ListLaws.{any_contained, passing}
-use Rattle.broker_types.specs.Map.{Map, empty, get}
-use Rattle.broker_types.specs.Broker.{Broker}
-use Rattle.broker_types.specs.Names.{Names}
-use Rattle.broker_types.specs.Operation.{reply, Done}
-use Rattle.broker_types.specs.RefuseLaws.{ok_step}
-use Rattle.broker_types.specs.Secret.{Key}
-use Rattle.broker_types.specs.Text.{Text, same, text_cmp}
-use Rattle.broker_types.specs.TextLaws.{same_self, same_true}
-use Rattle.broker_types.specs.Token.{Token}
-use Rattle.broker_types.specs.declared.ask.Verb.{Verb}
+use Rattle.std.proofs.Common.{◌≡◌, ◌⊎◌, ◌||◌, ◌++◌, if◌then◌else◌, ◌∷◌, ℕ, drop, length, nat_eq, not, List, [], Bool}
+use Rattle.broker_model.specs.Words.{Contains, true, false, is_some, codes, Option, Some, None, Result, Ok, Err}
+use Rattle.broker_model.specs.Words.{option_and_then, unwrap_or, get-empty, find, flat_map, list_any, starts_with}
+use Rattle.broker_model.specs.Words.{option_map_or, refl, sym, ◌∙◌, ap, subst, inl, inr, and_parts, eqb-true}
+use Rattle.broker_model.specs.Words.{false≢true, or_cases, same_Some, any_contained, passing, Map, empty, get, Broker}
+use Rattle.broker_model.specs.Words.{Names, reply, Done, ok_step, Key, Text, same, text_cmp, same_self, same_true}
+use Rattle.broker_model.specs.Words.{Token, Verb, Refusal, lacking_split, slash, split_once, token_entry, ok_inj}
+use Rattle.broker_model.specs.Words.{object_at, key_at, form_of, has_form, is_ending, segments, Route, asks_sudo, cut}
+use Rattle.broker_model.specs.Words.{route_of, row_asks_sudo, facts, route_rows, Operation, Cubbyholes, Leases, Mounts}
+use Rattle.broker_model.specs.Words.{Policies, Secrets, Wrappings, allows, is_granted, is_named, grants, rules_named}
+use Rattle.broker_model.specs.Words.{rules_of, tried, Pattern, is_root, policy_of, Rule, Capability, Create, Sudo}
+use Rattle.broker_model.specs.Words.{Update, find_accessor, asked, asked_by, capability, has_stored, stands_there}
+use Rattle.broker_model.specs.Words.{stored, stored_at, may_ask, token_reply, act_on_tokens, known, named}
 use Rattle.broker_types.specs.declared.ask.Verb.TheVariants as verb
-use Rattle.broker_types.specs.declared.refusal.Refusal.{Refusal}
-use Rattle.records.specs.SplitLaws.{lacking_split}
-use Rattle.records.specs.Splits.{slash, split_once}
-use Rattle.records.specs.TokenEntry.{token_entry}
-use Rattle.records.specs.ValueLaws.{ok_inj}
-use Rattle.cubbyhole.specs.Cubbyhole.{object_at}
-use Rattle.kv2.specs.Secrets.{key_at}
-use Rattle.mounts.specs.Forms.{form_of, has_form, is_ending, nothing, segments}
-use Rattle.mounts.specs.Route.{Route, asks_sudo, cut, route_of, row_asks_sudo}
-use Rattle.mounts.specs.RouteTable.{facts, route_rows}
+use Rattle.mounts.specs.Forms.{nothing}
 use Rattle.mounts.specs.declared.mount_type.MountType.TheVariants as mount
 use Rattle.mounts.specs.declared.operation.CubbyholeOperation.TheVariants as cubbyhole
-use Rattle.mounts.specs.declared.operation.Operation.{Operation}
-use Rattle.mounts.specs.declared.operation.Operation.TheVariants.{Cubbyholes, Issued, Leases, Mounts}
-use Rattle.mounts.specs.declared.operation.Operation.TheVariants.{Policies, Secrets, Tokens, Wrappings}
+use Rattle.mounts.specs.declared.operation.Operation.TheVariants.{Issued, Tokens}
 use Rattle.mounts.specs.declared.operation.SecretOperation.TheVariants as secret
-use Rattle.policies.specs.Allows.{allows, is_granted, is_named}
-use Rattle.policies.specs.Grants.{grants, rules_named, rules_of}
-use Rattle.policies.specs.Patterns.{tried}
-use Rattle.policies.specs.declared.pattern.Pattern.{Pattern}
-use Rattle.policies.specs.Policies.{is_root}
-use Rattle.policies.specs.PolicyTexts.{policy_of}
-use Rattle.policies.specs.Rules.{Rule}
-use Rattle.policies.specs.declared.capability.Capability.{Capability}
-use Rattle.policies.specs.declared.capability.Capability.TheVariants.{Create, Sudo, Update}
-use Rattle.token_tree.specs.Tokens.{find_accessor}
-use Rattle.broker_model.specs.Capabilities.{asked, asked_by, capability, has_stored, stands_there, stored, stored_at}
-use Rattle.broker_model.specs.Permission.{may_ask}
 use Rattle.broker_model.specs.declared.commands.TokenCommand.TheVariants as token
-use Rattle.broker_model.specs.parts.TokenReplies.{token_reply}
-use Rattle.broker_model.specs.parts.Tokens.{act_on_tokens, known, named}
-use Rattle.histories.specs.Documented.{AccessorsHideTokens, AreAsDocumented, AsksByVerb, MakesAnew, SudoIsNeeded}
+use Rattle.histories.specs.Words.{AccessorsHideTokens, AreAsDocumented, AsksByVerb, MakesAnew, SudoIsNeeded}
 use Rattle.histories.proofs.CreationRoutes.{whole}
 use Rattle.histories.proofs.Folders.{folders_listed}
 use Rattle.histories.proofs.OrderCases.{some_ok}

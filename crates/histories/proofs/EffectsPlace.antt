@@ -1,44 +1,21 @@
 -- An operation gives out all that is new in the places of the broker that it leaves.
-use Rattle.std.specs.Prelude.{◌≡◌, ℕ, List, [], ◌∷◌, true, is_some, Option, Some, Ok, option_and_then, option_map}
-use Rattle.std.specs.List.{list_any}
-use Rattle.std.proofs.Common.{refl, sym, ◌∙◌, ap, subst, inl, inr}
-use Rattle.broker_types.specs.Text.{Text, same}
-use Rattle.broker_types.specs.Map.{get}
-use Rattle.broker_types.specs.MapLaws.{no_entry}
-use Rattle.broker_types.specs.PutLaws.{put_is}
+use Rattle.std.proofs.Common.{◌≡◌, ◌∷◌, ℕ, List, [], true, is_some, Option, Some, Ok, option_and_then, option_map, refl}
+use Rattle.broker_model.specs.Words.{list_any, sym, ◌∙◌, ap, subst, inl, inr, Text, same, get, no_entry, put_is, Broker}
+use Rattle.broker_model.specs.Words.{Waiting, Names, Done, lease_identifier, token_identifier, unless, ok_step}
+use Rattle.broker_model.specs.Words.{drop_waiting, Token, Lease, token_text, Part, token_entry, ok_inj, with_waiting}
+use Rattle.broker_model.specs.Words.{TokenCreation, Command, both_there, Both, Does, IsFated, Stay, StaysAt, first_in}
+use Rattle.broker_model.specs.Words.{later_in, traits, Fate, make, orphan, renew, stay, token_names, is_privileged}
+use Rattle.broker_model.specs.Words.{making_path, may_make, new_parent, new_policies, new_token, known, made, new_end}
 use Rattle.broker_types.specs.Broker as broker
-use Rattle.broker_types.specs.Broker.{Broker, Waiting}
-use Rattle.broker_types.specs.Names.{Names}
-use Rattle.broker_types.specs.Operation.{Done}
-use Rattle.broker_types.specs.IdentifierPlaces.{lease_identifier, token_identifier}
-use Rattle.broker_types.specs.Refuse.{unless}
-use Rattle.broker_types.specs.RefuseLaws.{ok_step}
-use Rattle.broker_types.specs.Spending.{drop_waiting}
-use Rattle.broker_types.specs.Token.{Token, Lease}
-use Rattle.broker_types.specs.TokenText.{token_text}
 use Rattle.broker_types.specs.declared.refusal.Refusal.TheVariants as refusal
 use Rattle.broker_types.specs.declared.refusal.Reason.TheVariants as reason
-use Rattle.records.specs.Parts.{Part}
-use Rattle.records.specs.TokenEntry.{token_entry}
-use Rattle.records.specs.ValueLaws.{ok_inj}
 use Rattle.token_tree.specs.Tokens as tree
-use Rattle.wrapping.specs.Wrapping.{with_waiting}
-use Rattle.api_json.specs.declared.token_bodies.TokenCreation.{TokenCreation}
-use Rattle.broker_model.specs.Command.{Command}
-use Rattle.broker_model.specs.EffectLaws.{both_there}
-use Rattle.broker_model.specs.Effects.{Both, Does, IsFated, Stay, StaysAt}
-use Rattle.broker_model.specs.NewIdentifierLaws.{first_in, later_in}
-use Rattle.broker_model.specs.Step.{traits}
-use Rattle.broker_model.specs.Traits.{Fate, make, orphan, renew, revoke, stay, token_names}
-use Rattle.broker_model.specs.declared.making.Making.{Making}
-use Rattle.broker_model.specs.parts.TokenCreation.{is_privileged, making_path, may_make}
-use Rattle.broker_model.specs.parts.TokenCreation.{new_parent, new_policies, new_token}
+use Rattle.broker_model.specs.Traits.{revoke}
+use Rattle.histories.specs.Words.{Making}
 use Rattle.broker_model.specs.parts.Tokens as tokens
-use Rattle.broker_model.specs.parts.Tokens.{known, made, new_end}
 use Rattle.histories.proofs.Placed.{LeaseFrom, Placed, TokenFrom, WaitingFrom, drop_placed, from_maps, orphan_placed}
-use Rattle.histories.proofs.Placed.{other_tokens, other_value, other_waiting, placed_trans}
-use Rattle.histories.proofs.Placed.{revoke_placed, same_parts, stays_self, token_from}
-use Rattle.histories.proofs.Placed.{waiting_from}
+use Rattle.histories.proofs.Placed.{other_tokens, other_value, other_waiting, placed_trans, revoke_placed, same_parts}
+use Rattle.histories.proofs.Placed.{stays_self, token_from, waiting_from}
 
 -- what an operation left has only what was there, or what it gave out
 abbrev pub Tells : Broker → Done → Type 0

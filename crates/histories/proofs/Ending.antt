@@ -1,19 +1,10 @@
 -- Laws of what ends as a broker evolves.
-use Rattle.std.specs.Prelude.{◌≡◌, ◌≢◌, Option, Some, None, option_map, option_and_then}
-use Rattle.std.proofs.Common.{sym, ◌∙◌, ap, subst, inl, inr}
-use Rattle.std.proofs.lemmas.Bool.{false≢true}
-use Rattle.std.proofs.lemmas.Option.{none-some}
-use Rattle.broker_types.specs.Text.{Text}
-use Rattle.broker_types.specs.Map.{get}
-use Rattle.broker_types.specs.Broker.{Broker}
-use Rattle.broker_types.specs.Token.{Token, Lease}
-use Rattle.broker_types.specs.Evolves.{Evolves, HasEnded, IsTakenOut, OriginIsGone}
-use Rattle.broker_types.specs.OptionLaws.{found_or_not}
-use Rattle.broker_types.specs.IdentifierPlaces.{IsUsed, Place, identifier_at, lease_of, token, lease, credential}
-use Rattle.broker_types.specs.IdentifierPlaces.{wrapping_token}
-use Rattle.broker_types.specs.IdentifierPlaces.{token_identifier, lease_identifier}
-use Rattle.broker_types.specs.Sound.{SoundIdentifiers}
-use Rattle.std.specs.Prelude.{Bool, true, false}
+use Rattle.std.proofs.Common.{◌≡◌, ◌≢◌, Option, Some, None, option_map, option_and_then, sym, ◌∙◌, ap, subst, inl, inr}
+use Rattle.broker_model.specs.Words.{false≢true, none-some, Text, get, Broker, Token, Lease, Evolves, HasEnded}
+use Rattle.broker_model.specs.Words.{IsTakenOut, OriginIsGone, found_or_not, IsUsed, identifier_at, lease_of, token}
+use Rattle.broker_model.specs.Words.{lease, credential, wrapping_token, token_identifier, lease_identifier}
+use Rattle.broker_model.specs.Words.{SoundIdentifiers, Bool, true, false}
+use Rattle.broker_types.specs.IdentifierPlaces.{Place}
 
 -- a lease that ended: its identifiers were given out, and no lease has one of them
 pub record IsLeaseGone (b : Broker) (lease_id : Text) (l : Lease) : Type 0 where

@@ -1,22 +1,10 @@
 -- What a request leaves of the secrets, and its status.
-use Rattle.std.specs.Prelude.{◌≡◌, ◌⊎◌, if◌then◌else◌, true, false, Option, Some, None}
-use Rattle.std.specs.Option.{option_map_or}
-use Rattle.std.proofs.Common.{refl, sym, ◌∙◌, ap, subst, inl, inr}
-use Rattle.broker_types.specs.Text.{Text}
-use Rattle.broker_types.specs.Map.{get}
-use Rattle.broker_types.specs.Broker.{Broker, revoke}
-use Rattle.broker_types.specs.Names.{Names, names_of}
-use Rattle.broker_types.specs.Operation.{Answered, nothing, missing, reply, Done}
-use Rattle.broker_types.specs.Spending.{end_spent, is_spent}
-use Rattle.broker_types.specs.declared.reply.Reply.{Reply}
+use Rattle.std.proofs.Common.{◌≡◌, ◌⊎◌, if◌then◌else◌, true, false, Option, Some, None, refl, sym, ◌∙◌, ap, subst, inl}
+use Rattle.broker_model.specs.Words.{option_map_or, inr, Text, get, Broker, revoke, Names, names_of, Answered, nothing}
+use Rattle.broker_model.specs.Words.{missing, reply, Done, end_spent, is_spent, Reply, act, Command, Outcome, Wrapped}
+use Rattle.broker_model.specs.Words.{counted, response_to, wrapped, permits, Request, request_of, step, traits}
 use Rattle.broker_types.specs.declared.status.Status.TheVariants as status
-use Rattle.broker_model.specs.Act.{act}
-use Rattle.broker_model.specs.Command.{Command}
-use Rattle.broker_model.specs.Order.{Outcome, Wrapped, counted, response_to, wrapped}
-use Rattle.broker_model.specs.Permission.{permits}
-use Rattle.broker_model.specs.Request.{Request}
-use Rattle.broker_model.specs.Step.{request_of, step, traits}
-use Rattle.histories.specs.History.{Asking, clocked}
+use Rattle.histories.specs.Words.{Asking, clocked}
 use Rattle.histories.proofs.OrderCases.{IsServed, IsTurnedAway, IsTurnedDown, order_cases, spent}
 use Rattle.histories.proofs.OrderKeeps.{wrapped_cases}
 use Rattle.histories.proofs.Served.{Served}

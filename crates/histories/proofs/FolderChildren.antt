@@ -1,16 +1,9 @@
 -- A folder with something below it has children.
-use Rattle.std.specs.Prelude.{◌≡◌, ◌≢◌, ◌⊎◌, ◌||◌, List, [], ◌∷◌, Bool, true, false, Option, Some, None, drop, filter}
-use Rattle.std.specs.Prelude.{ℕ, is_some, length, map, nat_eq, if◌then◌else◌}
-use Rattle.std.specs.FinMap.{contains_key-keys}
-use Rattle.std.specs.List.{list_any, starts_with}
-use Rattle.std.proofs.Common.{refl, sym, ◌∙◌, ap, inl, inr}
-use Rattle.std.proofs.lemmas.Bool.{false≢true, or_cases, or_right}
-use Rattle.broker_types.specs.Text.{Text, same}
-use Rattle.broker_types.specs.TextLaws.{same-text_cmp, same_self, same_true}
-use Rattle.broker_types.specs.Map.{Map, get, keys}
-use Rattle.records.specs.Children.{below, child, children, has}
-use Rattle.broker_model.specs.CreationLaws.{has_set}
-use Rattle.broker_model.specs.parts.Lists.{are_none}
+use Rattle.std.proofs.Common.{◌≡◌, ◌≢◌, ◌⊎◌, ◌||◌, ◌∷◌, if◌then◌else◌, List, [], Bool, true, false, Option, Some, None}
+use Rattle.broker_model.specs.Words.{drop, filter, ℕ, is_some, length, map, nat_eq, contains_key-keys, list_any}
+use Rattle.broker_model.specs.Words.{starts_with, refl, sym, ◌∙◌, ap, inl, inr, false≢true, or_cases, or_right, Text}
+use Rattle.broker_model.specs.Words.{same, same-text_cmp, same_self, same_true, Map, get, keys, below, child, children}
+use Rattle.broker_model.specs.Words.{has, has_set, are_none}
 
 -- a text with a byte is not empty
 pub no_cons : (c : ℕ) (t : Text) → c ∷ t ≡ [] → ⊥

@@ -1,21 +1,11 @@
 -- Which names the list of a folder has.
-use Rattle.std.specs.Prelude.{◌≡◌, ◌==◌, ◌&&◌, ◌++◌, List, [], ◌∷◌, Bool, true, false, cond, drop, filter, length}
-use Rattle.std.specs.Prelude.{map, nat_eq, not}
+use Rattle.std.proofs.Common.{◌≡◌, ◌==◌, ◌&&◌, ◌++◌, ◌∷◌, List, [], Bool, true, false, cond, drop, filter, length, map}
+use Rattle.broker_model.specs.Words.{nat_eq, not, starts_with, is_sorted, refl, sym, ◌∙◌, ap, subst, inl, inr}
+use Rattle.broker_model.specs.Words.{and_parts, eqb-true, false≢true, or_cases, or_left, or_right, not-true, Text, same}
+use Rattle.broker_model.specs.Words.{text_cmp, same_self, same_true, entries, is_ascending, T_true, below, child}
+use Rattle.broker_model.specs.Words.{children, has, set_of, eqb_self, lacks, slash, has_set}
 use Rattle.std.specs.FinMap as fin
-use Rattle.std.specs.List.{starts_with}
-use Rattle.std.specs.FinMap.{is_sorted}
-use Rattle.std.proofs.Common.{refl, sym, ◌∙◌, ap, subst, inl, inr}
-use Rattle.std.proofs.lemmas.Bool.{and_parts, eqb-true, false≢true, or_cases, or_left, or_right, not-true}
-use Rattle.broker_types.specs.Text.{Text, same, text_cmp}
-use Rattle.broker_types.specs.TextLaws.{same_self, same_true}
-use Rattle.broker_types.specs.Map.{entries}
-use Rattle.broker_types.specs.Sound.{is_ascending}
-use Rattle.broker_types.specs.TestLaws.{T_true}
-use Rattle.records.specs.Children.{below, child, children, has, set_of}
-use Rattle.records.specs.SplitLaws.{eqb_self}
-use Rattle.records.specs.Splits.{lacks, slash}
-use Rattle.broker_model.specs.CreationLaws.{has_set}
-use Rattle.histories.specs.Documented.{IsFirstPart, ListsFolder}
+use Rattle.histories.specs.Words.{IsFirstPart, ListsFolder}
 
 -- ---- the first part of a path
 

@@ -1,37 +1,18 @@
 -- Steps of operations that are not refused: what a request names is found, and what it may change is changed.
-use Rattle.std.specs.Prelude.{◌≡◌, ◌≢◌, ◌||◌, ◌&&◌, [], ◌∷◌, Bool, true, false, not, Option, Some, None, Result, Ok, ⊤}
-use Rattle.std.specs.Prelude.{List, is_some, is_none, option_and_then, option_map, codes}
-use Rattle.std.specs.List.{list_any}
-use Rattle.std.specs.Option.{option_map_or}
-use Rattle.std.proofs.Common.{sym, ◌∙◌, ap, inl, inr}
-use Rattle.std.proofs.lemmas.Bool.{false≢true}
-use Rattle.broker_types.specs.Text.{Text, same}
-use Rattle.broker_types.specs.TextLaws.{same_self, same_false}
-use Rattle.broker_types.specs.Map.{Map, first_where, get, put, without}
-use Rattle.broker_types.specs.Name.{is_name, reserved_names}
-use Rattle.broker_types.specs.SearchLaws.{first_where_is, first_where_none}
-use Rattle.broker_types.specs.Token.{Lease, Token}
-use Rattle.broker_types.specs.Broker.{Broker, Engine, Mount, Waiting, issued, kv}
-use Rattle.broker_types.specs.Used.{are_new}
-use Rattle.broker_types.specs.OptionLaws.{found_or_not}
-use Rattle.broker_types.specs.Refuse.{◌>>=◌, some_or, unless}
+use Rattle.std.proofs.Common.{◌≡◌, ◌≢◌, ◌||◌, ◌&&◌, ◌∷◌, [], Bool, true, false, not, Option, Some, None, Result, Ok, ap}
+use Rattle.broker_model.specs.Words.{⊤, List, is_some, is_none, option_and_then, option_map, codes, list_any}
+use Rattle.broker_model.specs.Words.{option_map_or, sym, ◌∙◌, inl, inr, false≢true, Text, same, same_self, same_false}
+use Rattle.broker_model.specs.Words.{Map, first_where, get, put, without, is_name, reserved_names, first_where_is}
+use Rattle.broker_model.specs.Words.{first_where_none, Lease, Token, Broker, Engine, Mount, Waiting, issued, kv}
+use Rattle.broker_model.specs.Words.{are_new, found_or_not, ◌>>=◌, some_or, unless, Refusal, has_lease, has_accessor}
+use Rattle.broker_model.specs.Words.{enabled, engine_asked, may_go, plain_mount, deleted, fixed, is_root, set}
+use Rattle.broker_model.specs.Words.{is_policy, policy_of, unsupported, Rule, MountCreation, holder}
 use Rattle.broker_types.specs.declared.refusal.Reason.TheVariants as reason
-use Rattle.broker_types.specs.declared.refusal.Refusal.{Refusal}
 use Rattle.broker_types.specs.declared.refusal.Refusal.TheVariants as refusal
-use Rattle.records.specs.Rows.{has_lease}
 use Rattle.token_tree.specs.Tokens as tree
 use Rattle.wrapping.specs.Wrapping as wrapping
-use Rattle.wrapping.specs.Wrapping.{has_accessor}
 use Rattle.leases.specs.Leases.{find}
-use Rattle.mounts.specs.Mounts.{enabled, engine_asked, may_go, plain_mount}
-use Rattle.policies.specs.Policies.{deleted, fixed, is_root, set}
-use Rattle.policies.specs.PolicyTexts.{is_policy, policy_of, unsupported}
-use Rattle.policies.specs.Rules.{Rule}
-use Rattle.api_json.specs.declared.mount_bodies.MountCreation.{MountCreation}
-use Rattle.broker_model.specs.parts.Tokens.{holder}
-use Rattle.histories.specs.Allowed.{MayEnable}
-use Rattle.histories.specs.History.{Asking, clocked}
-use Rattle.histories.specs.Settings.{MeansEngine}
+use Rattle.histories.specs.Words.{MayEnable, Asking, clocked, MeansEngine}
 
 -- ---- an accessor
 

@@ -1,23 +1,11 @@
 -- No identifier is given out twice.
-use Rattle.std.specs.Prelude.{◌≡◌, ◌⊎◌, ◌||◌, not, ℕ, take, [], ◌∷◌, true, false, is_none, Some, ⊤}
-use Rattle.std.specs.FinMap.{get-empty}
-use Rattle.std.specs.List.{list_any}
-use Rattle.std.proofs.Common.{refl, sym, ap, inl, inr}
-use Rattle.std.proofs.lemmas.Bool.{false≢true, false_from_ne_true, and_from}
-use Rattle.broker_types.specs.Text.{Text, same, text_cmp}
-use Rattle.broker_types.specs.TextLaws.{same_true}
-use Rattle.broker_types.specs.Map.{get, empty}
-use Rattle.broker_types.specs.Broker.{Broker}
-use Rattle.broker_types.specs.Identifier.{id}
-use Rattle.broker_types.specs.IdentifierLaws.{id-same}
-use Rattle.broker_types.specs.FirstLaws.{first_sound}
-use Rattle.broker_types.specs.IdentifierPlaces.{AllUsed, IsUsed, Place, identifier_at}
-use Rattle.broker_types.specs.Sound.{Forms}
-use Rattle.broker_types.specs.Used.{are_new}
-use Rattle.broker_model.specs.Laws.{OperationsDoAsTold}
-use Rattle.broker_model.specs.NewIdentifierLaws.{member_new}
-use Rattle.histories.specs.History.{AreAsked, AreSteps, Asking, AskedAt, Beginning, History, begun, given_out}
-use Rattle.histories.specs.Identifiers.{AreUsed, EachIsTold, GivesOutNew, NoIdentifierTwice}
+use Rattle.std.proofs.Common.{◌≡◌, ◌⊎◌, ◌||◌, ◌∷◌, not, ℕ, take, [], true, false, is_none, Some, refl, sym, ap, inl}
+use Rattle.broker_model.specs.Words.{⊤, get-empty, list_any, inr, false≢true, false_from_ne_true, and_from, Text, same}
+use Rattle.broker_model.specs.Words.{text_cmp, same_true, get, empty, Broker, id, id-same, first_sound, AllUsed, IsUsed}
+use Rattle.broker_model.specs.Words.{identifier_at, Forms, are_new, OperationsDoAsTold, member_new}
+use Rattle.broker_types.specs.IdentifierPlaces.{Place}
+use Rattle.histories.specs.Words.{AreAsked, AreSteps, Asking, AskedAt, Beginning, History, begun, given_out, AreUsed}
+use Rattle.histories.specs.Words.{EachIsTold, GivesOutNew, NoIdentifierTwice}
 use Rattle.histories.proofs.Cover.{used_is_given}
 use Rattle.histories.proofs.Lasting.{given_out_new}
 use Rattle.histories.proofs.Marked.{are_steps, stay_used, step_at, steps_mark, used_at}

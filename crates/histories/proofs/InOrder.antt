@@ -1,19 +1,8 @@
 -- What holds of each way that a request can go, holds of the request.
-use Rattle.std.specs.Prelude.{◌≡◌, ℕ, Bool, true, false, if◌then◌else◌, Option, Some, None, Result, is_some}
-use Rattle.std.proofs.Common.{refl, sym, ◌∙◌, ap, inl, inr}
-use Rattle.std.proofs.lemmas.Option.{none-some, same_Some}
-use Rattle.broker_types.specs.Text.{Text}
-use Rattle.broker_types.specs.Map.{get}
-use Rattle.broker_types.specs.Broker.{Broker, at_moment}
-use Rattle.broker_types.specs.Names.{Names}
-use Rattle.broker_types.specs.Operation.{Done}
-use Rattle.broker_types.specs.Spending.{spend, drop_waiting}
-use Rattle.broker_types.specs.declared.ask.Verb.{Verb}
-use Rattle.broker_types.specs.declared.refusal.Refusal.{Refusal}
-use Rattle.broker_types.specs.OptionLaws.{not_there}
-use Rattle.broker_model.specs.Traits.{Traits}
-use Rattle.broker_model.specs.Order.{Outcome, Wrapped, denied, finish, for_caller, ordered, serve}
-use Rattle.broker_model.specs.Request.{Request}
+use Rattle.std.proofs.Common.{◌≡◌, if◌then◌else◌, ℕ, Bool, true, false, Option, Some, None, Result, is_some, refl, sym}
+use Rattle.broker_model.specs.Words.{◌∙◌, ap, inl, inr, none-some, same_Some, Text, get, Broker, at_moment, Names, Done}
+use Rattle.broker_model.specs.Words.{spend, drop_waiting, Verb, Refusal, not_there, Traits, Outcome, Wrapped, denied}
+use Rattle.broker_model.specs.Words.{finish, for_caller, ordered, serve, Request}
 use Rattle.histories.proofs.OrderCases.{IsCaller, spent}
 
 module _ {Command : Type 0} (permits : Broker → Option Text → Verb → Text → Bool) (traits : Command → Traits)

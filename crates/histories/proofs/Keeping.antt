@@ -1,15 +1,8 @@
 -- What one request keeps, on which the laws of histories rest.
-use Rattle.std.specs.Prelude.{◌≡◌, ◌<◌, ◌⊎◌, ℕ, true, [], ◌∷◌, Some, None, ⊤}
-use Rattle.std.specs.List.{list_any}
-use Rattle.broker_types.specs.Text.{Text, same}
-use Rattle.broker_types.specs.Map.{get}
-use Rattle.broker_types.specs.Broker.{Broker, Waiting}
-use Rattle.broker_types.specs.Evolves.{Evolves, OriginIsGone, IsTakenOut, WaitedBefore}
-use Rattle.broker_types.specs.Used.{are_new, use_up}
-use Rattle.broker_model.specs.Order.{Outcome}
-use Rattle.broker_model.specs.Responses.{ok}
-use Rattle.histories.specs.History.{Asking, AskedAt, History, clocked}
-use Rattle.histories.specs.KeptResponses.{KeepsReply}
+use Rattle.std.specs.Prelude.{◌≡◌, ◌<◌, ◌⊎◌, ◌∷◌, ℕ, true, [], Some, None, ⊤}
+use Rattle.broker_model.specs.Words.{list_any, Text, same, get, Broker, Waiting, Evolves, OriginIsGone, IsTakenOut}
+use Rattle.broker_model.specs.Words.{WaitedBefore, are_new, use_up, Outcome, ok}
+use Rattle.histories.specs.Words.{Asking, AskedAt, History, clocked, KeepsReply}
 
 -- The response of the origin o is handed out: it waited at the request's clock, its text is the answer, and neither its
 -- origin nor its wrapping token waits any more.

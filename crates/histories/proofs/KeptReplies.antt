@@ -1,67 +1,34 @@
 -- Responses that were kept are handed out once, as they were.
-use Rattle.std.specs.Prelude.{◌≡◌, ◌≢◌, ◌<◌, ◌≤◌, ◌⊎◌, ◌&&◌, nat_lt, ℕ, max, []}
-use Rattle.std.specs.Prelude.{◌∷◌, Bool, true, false, cond, is_some, if◌then◌else◌}
-use Rattle.std.specs.Prelude.{Option, Some, None, Ok, option_map}
-use Rattle.std.specs.Option.{option_map_or}
-use Rattle.std.proofs.Common.{refl, sym, ◌∙◌, ap, subst, inl, inr, arith}
-use Rattle.std.proofs.lemmas.Bool.{false≢true, false_from_ne_true}
-use Rattle.std.proofs.lemmas.Option.{none-some, same_Some}
-use Rattle.broker_types.specs.Text.{Text, same}
-use Rattle.broker_types.specs.Answer.{IsRefused, Response}
-use Rattle.broker_types.specs.TextLaws.{same_true}
-use Rattle.broker_types.specs.Map.{Map, get, without}
-use Rattle.broker_types.specs.MapLaws.{get-put, get-without_self, no_entry}
+use Rattle.std.proofs.Common.{◌≡◌, ◌≢◌, ◌<◌, ◌≤◌, ◌⊎◌, ◌&&◌, ◌∷◌, if◌then◌else◌, nat_lt, ℕ, max, [], Bool, true, false}
+use Rattle.broker_model.specs.Words.{cond, is_some, Option, Some, None, Ok, option_map, option_map_or, refl, sym, ◌∙◌}
+use Rattle.broker_model.specs.Words.{ap, subst, inl, inr, arith, false≢true, false_from_ne_true, none-some, same_Some}
+use Rattle.broker_model.specs.Words.{Text, same, IsRefused, Response, same_true, Map, get, without, get-put}
+use Rattle.broker_model.specs.Words.{get-without_self, no_entry, Broker, Waiting, waiting_ends, Evolves, IsTakenOut}
+use Rattle.broker_model.specs.Words.{names_of, reply, plainly, Done, found_or_not, mapped, token_identifier}
+use Rattle.broker_model.specs.Words.{wrapping_token, ◌>>=◌, some_or, ok_step, Sound, spend, drop_waiting, status_code}
+use Rattle.broker_model.specs.Words.{token_text, are_new, use_up, Refusal, ok_inj, moved, with_waiting, reply_text}
+use Rattle.broker_model.specs.Words.{wrap_reply, act, Command, on_wrapping, command_of, forms, OperationsDoAsTold}
+use Rattle.broker_model.specs.Words.{Outcome, Wrapped, denied, finish, for_caller, response_to, serve, wrap_info}
+use Rattle.broker_model.specs.Words.{wrapped, wraps, permits, ok, request_of, step, traits, wrapping_names}
+use Rattle.broker_model.specs.Words.{wrapping_traits, FoundResponse, found, found_at, found_under, handed_out}
+use Rattle.broker_model.specs.Words.{rewrapped, shown_response, act_on_wrappings}
 use Rattle.broker_types.specs.Broker as broker
-use Rattle.broker_types.specs.Broker.{Broker, Waiting, waiting_ends}
-use Rattle.broker_types.specs.Evolves.{Evolves, IsTakenOut}
-use Rattle.broker_types.specs.Names.{names_of}
-use Rattle.broker_types.specs.Operation.{reply, plainly, Done}
-use Rattle.broker_types.specs.OptionLaws.{found_or_not, mapped}
-use Rattle.broker_types.specs.IdentifierPlaces.{token_identifier, wrapping_token}
-use Rattle.broker_types.specs.Refuse.{◌>>=◌, some_or}
-use Rattle.broker_types.specs.RefuseLaws.{ok_step}
-use Rattle.broker_types.specs.Sound.{Sound}
-use Rattle.broker_types.specs.Spending.{spend, drop_waiting}
-use Rattle.broker_types.specs.Status.{status_code}
-use Rattle.broker_types.specs.TokenText.{token_text}
-use Rattle.broker_types.specs.Used.{are_new, use_up}
-use Rattle.broker_types.specs.declared.refusal.Refusal.{Refusal}
 use Rattle.broker_types.specs.declared.refusal.Refusal.TheVariants as refusal
 use Rattle.broker_types.specs.declared.refusal.Reason.TheVariants as reason
 use Rattle.broker_types.specs.declared.status.Status.TheVariants as status
-use Rattle.records.specs.ValueLaws.{ok_inj}
-use Rattle.wrapping.specs.Wrapping.{moved, with_waiting}
-use Rattle.api_json.specs.Reply.{reply_text, wrap_reply}
-use Rattle.broker_model.specs.Act.{act}
-use Rattle.broker_model.specs.Command.{Command, on_wrapping, command_of}
-use Rattle.broker_model.specs.Forms.{forms}
-use Rattle.broker_model.specs.Laws.{OperationsDoAsTold}
-use Rattle.broker_model.specs.Order.{Outcome, Wrapped, denied, finish, for_caller}
-use Rattle.broker_model.specs.Order.{response_to, serve, wrap_info, wrapped, wraps}
-use Rattle.broker_model.specs.Permission.{permits}
-use Rattle.broker_model.specs.Responses.{ok}
-use Rattle.broker_model.specs.Step.{request_of, step, traits}
-use Rattle.broker_model.specs.Traits.{wrapping_names}
-use Rattle.broker_model.specs.declared.commands.WrappingCommand.{WrappingCommand}
+use Rattle.histories.specs.Words.{WrappingCommand, AreAsked, Asking, AskedAt, Beginning, History, begun, clocked}
+use Rattle.histories.specs.Words.{spent_by, EndsWrappingToken, HandedOutOnce, HandsOutKept, HasAsClient, IsKeptReply}
+use Rattle.histories.specs.Words.{KeepsReply, Rewraps, SameReply, looked_up_text, rewrapped_text, TakesTokenOut, Tells}
+use Rattle.histories.specs.Words.{Unwraps, WaitedFirst, unwrapped_answer, unwrapped_body, Revokes, RevokesAlone}
 use Rattle.broker_model.specs.declared.commands.WrappingCommand.TheVariants as response
-use Rattle.broker_model.specs.parts.WrappingCommands.{wrapping_traits}
-use Rattle.broker_model.specs.parts.Wrappings.{FoundResponse, found, found_at}
-use Rattle.broker_model.specs.parts.Wrappings.{found_under, handed_out, rewrapped, shown_response}
-use Rattle.broker_model.specs.parts.Wrappings.{act_on_wrappings}
-use Rattle.histories.specs.History.{AreAsked, Asking, AskedAt, Beginning, History, begun, clocked, spent_by}
-use Rattle.histories.specs.KeptResponses.{EndsWrappingToken, HandedOutOnce, HandsOutKept}
-use Rattle.histories.specs.KeptResponses.{HasAsClient, IsKeptReply, KeepsReply, Rewraps, SameReply}
-use Rattle.histories.specs.KeptResponses.{looked_up_text, rewrapped_text, TakesTokenOut, Tells}
-use Rattle.histories.specs.KeptResponses.{Unwraps, WaitedFirst, unwrapped_answer, unwrapped_body}
-use Rattle.histories.specs.Revocation.{Revokes, RevokesAlone}
 use Rattle.histories.proofs.Cover.{one_birth}
 use Rattle.histories.proofs.Ending.{out_lasts}
 use Rattle.histories.proofs.Keeping.{EachKeeps, Keeps}
-use Rattle.histories.proofs.Lasting.{asked_keeps, evolved_since, handed_once, kept_evolves}
-use Rattle.histories.proofs.Lasting.{left_since, waited_before, waits_since}
+use Rattle.histories.proofs.Lasting.{asked_keeps, evolved_since, handed_once, kept_evolves, left_since, waited_before}
+use Rattle.histories.proofs.Lasting.{waits_since}
 use Rattle.histories.proofs.OrderCases.{some_ok, spent}
-use Rattle.histories.proofs.OrderKeeps.{end_spent_waiting, first_new, own_new, spent_clock}
-use Rattle.histories.proofs.OrderKeeps.{spent_used, spent_waiting, wrapped_cases}
+use Rattle.histories.proofs.OrderKeeps.{end_spent_waiting, first_new, own_new, spent_clock, spent_used, spent_waiting}
+use Rattle.histories.proofs.OrderKeeps.{wrapped_cases}
 use Rattle.histories.proofs.Requests.{acts_same, answers_plainly, asked_at, history_keeps, means_at_clock}
 use Rattle.histories.proofs.RevocationLasts.{orphaning_left, revocation_left}
 use Rattle.histories.proofs.Served.{Served, refused_or_served, served}

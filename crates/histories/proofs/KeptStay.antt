@@ -1,63 +1,35 @@
 -- A kept response stays where it waits, until it is taken away.
-use Rattle.std.specs.Prelude.{◌≡◌, ◌≢◌, ◌⊎◌, [], ◌∷◌, nat_lt, max, cond, Bool, true, false, if◌then◌else◌}
-use Rattle.std.specs.Prelude.{Option, Some, None, Ok, option_map, ⊤}
-use Rattle.std.specs.Option.{option_map_or}
-use Rattle.std.proofs.Common.{refl, sym, ◌∙◌, ap, subst, inl, inr}
-use Rattle.std.proofs.lemmas.Bool.{false≢true, false_from_ne_true, ltb-false}
-use Rattle.std.proofs.lemmas.Option.{none-some, same_Some}
-use Rattle.broker_types.specs.Text.{Text, same}
-use Rattle.broker_types.specs.TextLaws.{same_self, same_true}
-use Rattle.broker_types.specs.Map.{Map, get}
-use Rattle.broker_types.specs.MapLaws.{get-keep, get-put, get-without}
+use Rattle.std.proofs.Common.{◌≡◌, ◌≢◌, ◌⊎◌, ◌∷◌, if◌then◌else◌, [], nat_lt, max, cond, Bool, true, false, Option, Some}
+use Rattle.broker_model.specs.Words.{None, Ok, option_map, ⊤, option_map_or, refl, sym, ◌∙◌, ap, subst, inl, inr}
+use Rattle.broker_model.specs.Words.{false≢true, false_from_ne_true, ltb-false, none-some, same_Some, Text, same}
+use Rattle.broker_model.specs.Words.{same_self, same_true, Map, get, get-keep, get-put, get-without, Broker, Waiting}
+use Rattle.broker_model.specs.Words.{waiting_ends, names_of, Answered, Done, nothing, token_identifier, wrapping_token}
+use Rattle.broker_model.specs.Words.{◌>>=◌, some_or, ok_step, Sound, drop_waiting, token_text, are_new, Status, Words}
+use Rattle.broker_model.specs.Words.{ok_inj, moved_waits, others_wait, act, Command, command_of, on_cubbyhole}
+use Rattle.broker_model.specs.Words.{on_issued, on_lease, on_mount, on_policy, on_secret, on_token, on_wrapping, Does}
+use Rattle.broker_model.specs.Words.{SameUnless, is_kept, forms, OperationsDoAsTold, Outcome, Wrapped, counted}
+use Rattle.broker_model.specs.Words.{kept_entry, response_to, wrapped, permits, request_of, step, traits, may_change}
+use Rattle.broker_model.specs.Words.{FoundResponse, act_on_wrappings, found, found_at, found_under, handed_out}
+use Rattle.broker_model.specs.Words.{rewrapped}
 use Rattle.broker_types.specs.Broker as broker
-use Rattle.broker_types.specs.Broker.{Broker, Waiting, waiting_ends}
-use Rattle.broker_types.specs.Names.{names_of}
-use Rattle.broker_types.specs.Operation.{Answered, Done, nothing}
-use Rattle.broker_types.specs.IdentifierPlaces.{token_identifier, wrapping_token}
-use Rattle.broker_types.specs.Refuse.{◌>>=◌, some_or}
-use Rattle.broker_types.specs.RefuseLaws.{ok_step}
-use Rattle.broker_types.specs.Sound.{Sound}
-use Rattle.broker_types.specs.Spending.{drop_waiting}
-use Rattle.broker_types.specs.TokenText.{token_text}
-use Rattle.broker_types.specs.Used.{are_new}
-use Rattle.broker_types.specs.declared.status.Status.{Status}
 use Rattle.broker_types.specs.declared.status.Status.TheVariants as status
-use Rattle.broker_types.specs.declared.words.Words.{Words}
-use Rattle.records.specs.ValueLaws.{ok_inj}
 use Rattle.records.specs.declared.kind.Kind.TheVariants as kind
-use Rattle.wrapping.specs.ResponseLaws.{moved_waits, others_wait}
-use Rattle.broker_model.specs.Act.{act}
-use Rattle.broker_model.specs.Command.{Command, command_of, on_cubbyhole, on_issued, on_lease, on_mount, on_policy}
-use Rattle.broker_model.specs.Command.{on_secret, on_token, on_wrapping}
-use Rattle.broker_model.specs.Effects.{Does, SameUnless, is_kept}
-use Rattle.broker_model.specs.Forms.{forms}
-use Rattle.broker_model.specs.Laws.{OperationsDoAsTold}
-use Rattle.broker_model.specs.Order.{Outcome, Wrapped, counted, kept_entry, response_to, wrapped}
-use Rattle.broker_model.specs.Permission.{permits}
-use Rattle.broker_model.specs.Step.{request_of, step, traits}
-use Rattle.broker_model.specs.Traits.{may_change}
 use Rattle.broker_model.specs.declared.commands.CubbyholeCommand.TheVariants as cubbyhole
 use Rattle.broker_model.specs.declared.commands.IssuedCommand.TheVariants as issued
 use Rattle.broker_model.specs.declared.commands.LeaseCommand.TheVariants as lease
 use Rattle.broker_model.specs.declared.commands.MountCommand.TheVariants as mount
 use Rattle.broker_model.specs.declared.commands.PolicyCommand.TheVariants as policy
 use Rattle.broker_model.specs.declared.commands.SecretCommand.TheVariants as secret
-use Rattle.broker_model.specs.declared.commands.TokenCommand.{TokenCommand}
+use Rattle.histories.specs.Words.{TokenCommand, WrappingCommand, Asking, clocked, Rewraps, TakesTokenOut, Unwraps}
+use Rattle.histories.specs.Words.{AllKeptResponsesStay, IsOver, moved_by, IsGranted, orphaning_by, revoked_by}
 use Rattle.broker_model.specs.declared.commands.TokenCommand.TheVariants as token
-use Rattle.broker_model.specs.declared.commands.WrappingCommand.{WrappingCommand}
 use Rattle.broker_model.specs.declared.commands.WrappingCommand.TheVariants as response
 use Rattle.broker_model.specs.parts.Tokens as tokens
-use Rattle.broker_model.specs.parts.Wrappings.{FoundResponse, act_on_wrappings, found}
-use Rattle.broker_model.specs.parts.Wrappings.{found_at, found_under, handed_out, rewrapped}
-use Rattle.histories.specs.History.{Asking, clocked}
-use Rattle.histories.specs.KeptResponses.{Rewraps, TakesTokenOut, Unwraps}
-use Rattle.histories.specs.KeptStay.{AllKeptResponsesStay, IsOver, moved_by}
-use Rattle.histories.specs.Revocation.{IsGranted, orphaning_by, revoked_by}
-use Rattle.histories.proofs.KeptReplies.{acted, bad, command_is, found_under_meant, handed_same}
-use Rattle.histories.proofs.KeptReplies.{next_waiting, served_200, unwrap_found, unwrap_hands_out}
+use Rattle.histories.proofs.KeptReplies.{acted, bad, command_is, found_under_meant, handed_same, next_waiting}
+use Rattle.histories.proofs.KeptReplies.{served_200, unwrap_found, unwrap_hands_out}
 use Rattle.histories.proofs.OrderCases.{IsTurnedAway, IsTurnedDown, spent, some_ok}
-use Rattle.histories.proofs.OrderKeeps.{end_spent_waiting, first_new, own_new, spent_clock}
-use Rattle.histories.proofs.OrderKeeps.{spent_used, spent_waiting, wrapped_cases}
+use Rattle.histories.proofs.OrderKeeps.{end_spent_waiting, first_new, own_new, spent_clock, spent_used, spent_waiting}
+use Rattle.histories.proofs.OrderKeeps.{wrapped_cases}
 use Rattle.histories.proofs.Requests.{acts_same, asked_at, means_at_clock}
 use Rattle.histories.proofs.Served.{Served, cases, nothing_is_no_reply}
 

@@ -1,23 +1,10 @@
 -- Laws of histories.
-use Rattle.std.specs.Prelude.{◌≡◌, ◌<◌, ◌≤◌, ◌⊎◌, ℕ, zero, suc, max, [], ◌∷◌}
-use Rattle.std.specs.Prelude.{Bool, true, false, nat_lt, Option, Some, None}
-use Rattle.std.specs.Prelude.{slice_index_or}
-use Rattle.std.specs.Option.{option_map_or}
-use Rattle.std.proofs.Common.{refl, sym, ◌∙◌, ap, subst, inl, inr, arith}
-use Rattle.std.proofs.lemmas.Bool.{ltb-true, cases_order}
-use Rattle.std.proofs.lemmas.Option.{none-some, same_Some}
-use Rattle.std.proofs.Math.Nat.{eq-or-lt_of_le}
-use Rattle.broker_types.specs.Text.{Text}
-use Rattle.broker_types.specs.Map.{get}
-use Rattle.broker_types.specs.Broker.{Broker, Waiting, waiting_ends}
-use Rattle.broker_types.specs.Evolves.{Evolves, WaitedBefore}
-use Rattle.broker_types.specs.EvolvesLaws.{evolves_trans}
-use Rattle.broker_types.specs.RemovalLaws.{at_moment_evolves}
-use Rattle.broker_types.specs.SearchLaws.{kept_get}
-use Rattle.broker_types.specs.SpendingLaws.{evolves_self}
-use Rattle.broker_types.specs.Used.{are_new, use_up}
-use Rattle.histories.specs.History.{Asking, AskedAt, History, clocked, given_out}
-use Rattle.histories.specs.KeptResponses.{KeepsReply}
+use Rattle.std.proofs.Common.{◌≡◌, ◌<◌, ◌≤◌, ◌⊎◌, ◌∷◌, ℕ, zero, suc, max, [], Bool, true, false, nat_lt, Option, Some}
+use Rattle.broker_model.specs.Words.{None, slice_index_or, option_map_or, refl, sym, ◌∙◌, ap, subst, inl, inr, arith}
+use Rattle.broker_model.specs.Words.{ltb-true, cases_order, none-some, same_Some, eq-or-lt_of_le, Text, get, Broker}
+use Rattle.broker_model.specs.Words.{Waiting, waiting_ends, Evolves, WaitedBefore, evolves_trans, at_moment_evolves}
+use Rattle.broker_model.specs.Words.{kept_get, evolves_self, are_new, use_up}
+use Rattle.histories.specs.Words.{Asking, AskedAt, History, clocked, given_out, KeepsReply}
 use Rattle.histories.proofs.Ending.{origin_lasts}
 use Rattle.histories.proofs.Keeping.{EachKeeps, EachMarks, Keeps, WasBorn}
 use Rattle.histories.proofs.Used.{new_append}

@@ -1,61 +1,26 @@
 -- What becomes of the leases of a token that a request leaves, one by one.
-use Rattle.std.specs.Prelude.{◌≡◌, ◌<◌, ◌+◌, ◌-◌, ◌==◌, ℕ, min, Bool, true, false, not, cond, nat_lt, is_some}
-use Rattle.std.specs.Prelude.{if◌then◌else◌}
-use Rattle.std.specs.Prelude.{Option, Some, None, Ok, option_map}
-use Rattle.std.specs.Option.{option_map_or}
-use Rattle.std.proofs.Common.{refl, sym, ◌∙◌, ap, subst, inl, inr, arith}
-use Rattle.std.proofs.Math.Nat.{min-eq_left}
-use Rattle.std.proofs.lemmas.Bool.{false≢true, ltb-false, ltb-true, ne_eqb, not-true}
-use Rattle.std.proofs.lemmas.Option.{same_Some}
-use Rattle.broker_types.specs.Text.{Text, same}
-use Rattle.broker_types.specs.TextLaws.{same_true}
-use Rattle.broker_types.specs.Map.{Map, change, get, keep, map_values, put, without}
-use Rattle.broker_types.specs.MapLaws.{get-change, get-keep, get-put, get-without, valued_is}
-use Rattle.broker_types.specs.Broker.{Broker, Mount, Role}
-use Rattle.broker_types.specs.Limits.{longest_ttl}
-use Rattle.broker_types.specs.Names.{names_of, Names}
-use Rattle.broker_types.specs.Answer.{Response}
-use Rattle.broker_types.specs.Operation.{nothing, plainly, reply, Done}
-use Rattle.broker_types.specs.Refuse.{some_or, unless}
-use Rattle.broker_types.specs.RefuseLaws.{ok_step, unless_ok}
-use Rattle.broker_types.specs.Spending.{is_spent}
-use Rattle.broker_types.specs.Token.{Token, Tokens, Lease}
-use Rattle.broker_types.specs.declared.reply.Reply.{Reply}
+use Rattle.std.proofs.Common.{◌≡◌, ◌<◌, ◌+◌, ◌-◌, ◌==◌, if◌then◌else◌, ℕ, min, Bool, true, false, not, cond, nat_lt, Ok}
+use Rattle.broker_model.specs.Words.{is_some, Option, Some, None, option_map, option_map_or, refl, sym, ◌∙◌, ap, subst}
+use Rattle.broker_model.specs.Words.{inl, inr, arith, min-eq_left, false≢true, ltb-false, ltb-true, ne_eqb, not-true}
+use Rattle.broker_model.specs.Words.{same_Some, Text, same, same_true, Map, change, get, keep, map_values, put, without}
+use Rattle.broker_model.specs.Words.{get-change, get-keep, get-put, get-without, valued_is, Broker, Mount, Role}
+use Rattle.broker_model.specs.Words.{longest_ttl, names_of, Names, Response, nothing, plainly, reply, Done, some_or}
+use Rattle.broker_model.specs.Words.{unless, ok_step, unless_ok, is_spent, Token, Tokens, Lease, Reply, Part, ok_inj}
+use Rattle.broker_model.specs.Words.{Issued, is_last_use, longest, new_lease, disabled, credential_object, lease_reply}
+use Rattle.broker_model.specs.Words.{LeaseRenewal, Command, command_of, on_cubbyhole, on_issued, on_lease, on_mount}
+use Rattle.broker_model.specs.Words.{on_policy, on_secret, on_token, on_wrapping, traits, may_change, stay}
+use Rattle.broker_model.specs.Words.{policy_changes, cubbyhole_changes, act_on_issued, issued_changes, lease_changes}
+use Rattle.broker_model.specs.Words.{mount_changes, without_kept, Place, secret_changes, token_changes, token_fate}
+use Rattle.broker_model.specs.Words.{wrapping_changes}
 use Rattle.broker_types.specs.declared.status.Status.TheVariants as status
 use Rattle.broker_types.specs.declared.refusal.Refusal.TheVariants as refusal
 use Rattle.broker_types.specs.declared.refusal.Reason.TheVariants as reason
-use Rattle.records.specs.Parts.{Part}
-use Rattle.records.specs.ValueLaws.{ok_inj}
 use Rattle.records.specs.declared.kind.Kind.TheVariants as kind
-use Rattle.leases.specs.Roles.{Issued, is_last_use, longest, new_lease}
 use Rattle.leases.specs.Leases as leases
 use Rattle.leases.specs.Roles as roles
-use Rattle.mounts.specs.Mounts.{disabled}
-use Rattle.api_json.specs.Objects.{credential_object}
-use Rattle.api_json.specs.Reply.{lease_reply}
-use Rattle.api_json.specs.declared.lease_bodies.LeaseRenewal.{LeaseRenewal}
-use Rattle.broker_model.specs.Command.{Command, command_of, on_cubbyhole, on_issued, on_lease, on_mount}
-use Rattle.broker_model.specs.Command.{on_policy, on_secret}
-use Rattle.broker_model.specs.Command.{on_token, on_wrapping}
-use Rattle.broker_model.specs.Step.{traits}
-use Rattle.broker_model.specs.Traits.{may_change, stay}
-use Rattle.broker_model.specs.declared.commands.CubbyholeCommand.{CubbyholeCommand}
-use Rattle.broker_model.specs.declared.commands.IssuedCommand.{IssuedCommand}
-use Rattle.broker_model.specs.declared.commands.LeaseCommand.{LeaseCommand}
-use Rattle.broker_model.specs.declared.commands.MountCommand.{MountCommand}
-use Rattle.broker_model.specs.declared.commands.PolicyCommand.{PolicyCommand}
-use Rattle.broker_model.specs.declared.commands.SecretCommand.{SecretCommand}
-use Rattle.broker_model.specs.declared.commands.TokenCommand.{TokenCommand}
-use Rattle.broker_model.specs.declared.commands.WrappingCommand.{WrappingCommand}
-use Rattle.broker_model.specs.parts.AclPolicies.{policy_changes}
-use Rattle.broker_model.specs.parts.Cubbyholes.{cubbyhole_changes}
-use Rattle.broker_model.specs.parts.Issued.{act_on_issued, issued_changes}
-use Rattle.broker_model.specs.parts.Leases.{lease_changes}
-use Rattle.broker_model.specs.parts.Mounts.{mount_changes, without_kept}
-use Rattle.broker_model.specs.parts.Place.{Place}
-use Rattle.broker_model.specs.parts.Secrets.{secret_changes}
-use Rattle.broker_model.specs.parts.TokenCommands.{token_changes, token_fate}
-use Rattle.broker_model.specs.parts.WrappingCommands.{wrapping_changes}
+use Rattle.histories.specs.Words.{CubbyholeCommand, IssuedCommand, LeaseCommand, MountCommand, PolicyCommand}
+use Rattle.histories.specs.Words.{SecretCommand, TokenCommand, WrappingCommand, Asking, clocked, spent_by, EndsLease}
+use Rattle.histories.specs.Words.{IsIssuedTo, IsOfRole, IsRenewedLease, LeaseBecomes, RenewsLease, IsClient}
 use Rattle.broker_model.specs.declared.commands.CubbyholeCommand.TheVariants as of_cubbyhole
 use Rattle.broker_model.specs.declared.commands.IssuedCommand.TheVariants as of_issued
 use Rattle.broker_model.specs.declared.commands.LeaseCommand.TheVariants as of_lease
@@ -64,11 +29,6 @@ use Rattle.broker_model.specs.declared.commands.PolicyCommand.TheVariants as of_
 use Rattle.broker_model.specs.declared.commands.SecretCommand.TheVariants as of_secret
 use Rattle.broker_model.specs.declared.commands.TokenCommand.TheVariants as of_token
 use Rattle.broker_model.specs.declared.commands.WrappingCommand.TheVariants as of_response
-use Rattle.histories.specs.History.{Asking, clocked, spent_by}
-use Rattle.histories.specs.LeaseEnds.{EndsLease}
-use Rattle.histories.specs.LeaseOwners.{IsIssuedTo, IsOfRole}
-use Rattle.histories.specs.Own.{IsRenewedLease, LeaseBecomes, RenewsLease}
-use Rattle.histories.specs.Revocation.{IsClient}
 use Rattle.histories.proofs.Clients.{CarriesOut, from_clock}
 use Rattle.histories.proofs.OrderCases.{some_ok}
 

@@ -1,32 +1,13 @@
 -- What a 200 to `creds` gave its client token.
-use Rattle.std.specs.Prelude.{◌≡◌, ◌&&◌, Bool, false, if◌then◌else◌}
-use Rattle.std.specs.Prelude.{Option, Some, None, Ok, option_and_then, option_map}
-use Rattle.std.specs.Option.{option_map_or}
-use Rattle.std.proofs.Common.{sym, ◌∙◌, ap, arith}
-use Rattle.broker_types.specs.Text.{Text, same}
-use Rattle.broker_types.specs.TextLaws.{same_self}
-use Rattle.broker_types.specs.Map.{get, put}
-use Rattle.broker_types.specs.MapLaws.{get-map_values, get-put_self}
-use Rattle.broker_types.specs.Broker.{Broker}
-use Rattle.broker_types.specs.Lineage.{is_under}
-use Rattle.broker_types.specs.Names.{Names, names_of}
-use Rattle.broker_types.specs.Operation.{Done}
-use Rattle.broker_types.specs.RefuseLaws.{no_ok}
-use Rattle.broker_types.specs.Spending.{is_spent}
-use Rattle.broker_types.specs.Status.{status_code}
-use Rattle.broker_types.specs.Token.{Token, Tokens}
+use Rattle.std.proofs.Common.{◌≡◌, ◌&&◌, if◌then◌else◌, Bool, false, Option, Some, None, Ok, option_and_then, sym, ◌∙◌}
+use Rattle.broker_model.specs.Words.{option_map, option_map_or, ap, arith, Text, same, same_self, get, put}
+use Rattle.broker_model.specs.Words.{get-map_values, get-put_self, Broker, is_under, Names, names_of, Done, no_ok}
+use Rattle.broker_model.specs.Words.{is_spent, status_code, Token, Tokens, credential_object, lease_reply, reply_text}
+use Rattle.broker_model.specs.Words.{command_of, on_issued, OperationsDoAsTold, step, Place}
 use Rattle.broker_types.specs.declared.status.Status.TheVariants as status
 use Rattle.leases.specs.Leases as leases
-use Rattle.api_json.specs.Objects.{credential_object}
-use Rattle.api_json.specs.Reply.{lease_reply, reply_text}
-use Rattle.broker_model.specs.Command.{command_of, on_issued}
-use Rattle.broker_model.specs.Laws.{OperationsDoAsTold}
-use Rattle.broker_model.specs.Step.{step}
 use Rattle.broker_model.specs.declared.commands.IssuedCommand.TheVariants as of_issued
-use Rattle.broker_model.specs.parts.Place.{Place}
-use Rattle.histories.specs.History.{Asking, clocked, spent_by}
-use Rattle.histories.specs.LeaseOwners.{GivesLease}
-use Rattle.histories.specs.Revocation.{has_no_use}
+use Rattle.histories.specs.Words.{Asking, clocked, spent_by, GivesLease, has_no_use}
 use Rattle.histories.proofs.LeaseChanges.{DidIssue, did_issue, issued_at, issued_to}
 use Rattle.histories.proofs.Requests.{tells_body}
 use Rattle.histories.proofs.Served.{served}

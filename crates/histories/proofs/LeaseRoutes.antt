@@ -1,14 +1,11 @@
 -- What the paths mean that end leases.
-use Rattle.std.specs.Prelude.{◌++◌, [], ◌∷◌, codes}
-use Rattle.std.proofs.Common.{refl}
-use Rattle.broker_types.specs.Text.{same}
+use Rattle.std.proofs.Common.{◌++◌, ◌∷◌, [], codes, refl}
+use Rattle.broker_model.specs.Words.{same, AreInOrder, FoundByForm, NoneFoundByForm, Leases, Mounts}
 use Rattle.broker_types.specs.declared.ask.Verb.TheVariants as verb
-use Rattle.mounts.specs.Laws.{AreInOrder, FoundByForm, NoneFoundByForm}
 use Rattle.mounts.specs.declared.mount_type.MountType.TheVariants as type
 use Rattle.mounts.specs.declared.operation.LeaseOperation.TheVariants as of_leases
 use Rattle.mounts.specs.declared.operation.MountOperation.TheVariants as of_mounts
-use Rattle.mounts.specs.declared.operation.Operation.TheVariants.{Leases, Mounts}
-use Rattle.histories.specs.LeasePaths.{PathsEndLeases}
+use Rattle.histories.specs.Words.{PathsEndLeases}
 use Rattle.histories.proofs.Routes.{asked}
 
 module _ (found : FoundByForm) (none : NoneFoundByForm) (ordered : AreInOrder) where

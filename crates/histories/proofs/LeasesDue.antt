@@ -1,25 +1,10 @@
 -- A lease that comes to its end does not come back.
-use Rattle.std.specs.Prelude.{◌≡◌, ◌<◌, ◌⊎◌, nat_lt, max, false, Some, None, option_map, option_and_then}
-use Rattle.std.specs.Option.{option_map_or}
-use Rattle.std.proofs.Common.{sym, ◌∙◌, ap, inl, inr, arith}
-use Rattle.std.proofs.lemmas.Bool.{ltb-true}
-use Rattle.std.proofs.lemmas.Option.{none-some}
-use Rattle.broker_types.specs.Text.{Text}
-use Rattle.broker_types.specs.Map.{get}
-use Rattle.broker_types.specs.Broker.{Broker}
-use Rattle.broker_types.specs.Evolves.{Evolves}
-use Rattle.broker_types.specs.OptionLaws.{found_or_not}
-use Rattle.broker_types.specs.IdentifierPlaces.{lease_identifier, lease_of}
+use Rattle.std.proofs.Common.{◌≡◌, ◌<◌, ◌⊎◌, nat_lt, max, false, Some, None, option_map, option_and_then, sym, ◌∙◌, ap}
+use Rattle.broker_model.specs.Words.{option_map_or, inl, inr, arith, ltb-true, none-some, Text, get, Broker, Evolves}
+use Rattle.broker_model.specs.Words.{found_or_not, lease_identifier, lease_of, kept_get, Sound, Token, Lease, alive_is}
+use Rattle.broker_model.specs.Words.{forms, chained}
 use Rattle.broker_types.specs.IdentifierPlaces as place
-use Rattle.broker_types.specs.SearchLaws.{kept_get}
-use Rattle.broker_types.specs.Sound.{Sound}
-use Rattle.broker_types.specs.Token.{Token, Lease}
-use Rattle.broker_types.specs.TreeLaws.{alive_is}
-use Rattle.broker_model.specs.Forms.{forms}
-use Rattle.histories.specs.History.{Asking, clocked}
-use Rattle.broker_model.specs.EffectLaws.{chained}
-use Rattle.histories.specs.KeptResponses.{unwrapped_body}
-use Rattle.histories.specs.Revocation.{IsLeaseDue, LacksLease}
+use Rattle.histories.specs.Words.{Asking, clocked, unwrapped_body, IsLeaseDue, LacksLease}
 use Rattle.histories.proofs.Keeping.{Keeps}
 use Rattle.histories.proofs.LeasesGone.{stays_gone}
 

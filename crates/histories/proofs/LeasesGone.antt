@@ -1,19 +1,9 @@
 -- A lease that a request ends does not come back.
-use Rattle.std.specs.Prelude.{◌≡◌, ◌⊎◌, Some, None, option_map}
-use Rattle.std.proofs.Common.{sym, ◌∙◌, ap, inl, inr}
-use Rattle.std.proofs.lemmas.Option.{none-some}
-use Rattle.broker_types.specs.Text.{Text}
-use Rattle.broker_types.specs.Map.{get}
-use Rattle.broker_types.specs.Broker.{Broker}
-use Rattle.broker_types.specs.Evolves.{Evolves}
-use Rattle.broker_types.specs.IdentifierPlaces.{identifier_at, lease_identifier, lease_of}
+use Rattle.std.proofs.Common.{◌≡◌, ◌⊎◌, Some, None, option_map, sym, ◌∙◌, ap, inl, inr}
+use Rattle.broker_model.specs.Words.{none-some, Text, get, Broker, Evolves, identifier_at, lease_identifier, lease_of}
+use Rattle.broker_model.specs.Words.{Sound, Lease, forms}
 use Rattle.broker_types.specs.IdentifierPlaces as place
-use Rattle.broker_types.specs.Sound.{Sound}
-use Rattle.broker_types.specs.Token.{Lease}
-use Rattle.broker_model.specs.Forms.{forms}
-use Rattle.histories.specs.History.{Asking}
-use Rattle.histories.specs.KeptResponses.{unwrapped_body}
-use Rattle.histories.specs.Revocation.{LacksLease}
+use Rattle.histories.specs.Words.{Asking, unwrapped_body, LacksLease}
 use Rattle.histories.proofs.Ending.{IsLeaseGone, lease_lasts}
 use Rattle.histories.proofs.Keeping.{Keeps}
 use Rattle.histories.proofs.Lasting.{kept_evolves}

@@ -1,47 +1,21 @@
 -- A lease that a 204 revokes does not come back.
-use Rattle.std.specs.Prelude.{◌≡◌, ◌≢◌, ◌⊎◌, nat_lt, max, not, true, false, if◌then◌else◌, is_some}
-use Rattle.std.specs.Prelude.{Option, Some, None, Ok, option_and_then}
-use Rattle.std.specs.Option.{option_map_or}
-use Rattle.std.proofs.Common.{refl, sym, ◌∙◌, ap, subst, inl, inr, arith}
-use Rattle.std.proofs.lemmas.Bool.{false≢true}
-use Rattle.broker_types.specs.Answer.{IsRefused}
-use Rattle.broker_types.specs.Text.{Text, same}
-use Rattle.broker_types.specs.TextLaws.{same_self}
-use Rattle.broker_types.specs.Map.{Map, get, keep, without}
-use Rattle.broker_types.specs.MapLaws.{valued_is, without_is}
-use Rattle.broker_types.specs.Broker.{Broker, Mount}
-use Rattle.broker_types.specs.Names.{Names, names_of}
-use Rattle.broker_types.specs.Operation.{Done, nothing}
-use Rattle.broker_types.specs.OptionLaws.{found_or_not}
-use Rattle.broker_types.specs.IdentifierPlaces.{lease_of}
-use Rattle.broker_types.specs.RefuseLaws.{no_ok, ok_step}
-use Rattle.broker_types.specs.SearchLaws.{kept_get}
-use Rattle.broker_types.specs.Status.{status_code}
+use Rattle.std.proofs.Common.{◌≡◌, ◌≢◌, ◌⊎◌, if◌then◌else◌, nat_lt, max, not, true, false, is_some, Option, Some, None}
+use Rattle.broker_model.specs.Words.{Ok, option_and_then, option_map_or, refl, sym, ◌∙◌, ap, subst, inl, inr, arith}
+use Rattle.broker_model.specs.Words.{false≢true, IsRefused, Text, same, same_self, Map, get, keep, without, valued_is}
+use Rattle.broker_model.specs.Words.{without_is, Broker, Mount, Names, names_of, Done, nothing, found_or_not, lease_of}
+use Rattle.broker_model.specs.Words.{no_ok, ok_step, kept_get, status_code, Token, Tokens, Lease, alive_is, ok_inj}
+use Rattle.broker_model.specs.Words.{disabled, act, Command, command_of, on_lease, on_mount, chained}
+use Rattle.broker_model.specs.Words.{OperationsDoAsTold, Outcome, Wrapped, counted, response_to, unwrapped, wrapped}
+use Rattle.broker_model.specs.Words.{permits, no_content, request_of, step, traits, act_on_leases, act_on_mounts}
+use Rattle.broker_model.specs.Words.{without_kept}
 use Rattle.broker_types.specs.declared.status.Status.TheVariants as status
-use Rattle.broker_types.specs.Token.{Token, Tokens, Lease}
-use Rattle.broker_types.specs.TreeLaws.{alive_is}
-use Rattle.records.specs.ValueLaws.{ok_inj}
 use Rattle.kv2.specs.Secrets as secrets
 use Rattle.leases.specs.Leases as leases
 use Rattle.leases.specs.Roles as roles
-use Rattle.mounts.specs.Mounts.{disabled}
-use Rattle.broker_model.specs.Act.{act}
-use Rattle.broker_model.specs.Command.{Command, command_of, on_lease, on_mount}
-use Rattle.broker_model.specs.EffectLaws.{chained}
-use Rattle.broker_model.specs.Laws.{OperationsDoAsTold}
-use Rattle.broker_model.specs.Order.{Outcome, Wrapped, counted, response_to, unwrapped, wrapped}
-use Rattle.broker_model.specs.Permission.{permits}
-use Rattle.broker_model.specs.Responses.{no_content}
-use Rattle.broker_model.specs.Step.{request_of, step, traits}
-use Rattle.broker_model.specs.declared.commands.LeaseCommand.{LeaseCommand}
+use Rattle.histories.specs.Words.{LeaseCommand, MountCommand, Asking, clocked, unwrapped_body, AllLeasesStayRevoked}
+use Rattle.histories.specs.Words.{EndsLease, NamesBelow, NamesMount, is_below}
 use Rattle.broker_model.specs.declared.commands.LeaseCommand.TheVariants as of_lease
-use Rattle.broker_model.specs.declared.commands.MountCommand.{MountCommand}
 use Rattle.broker_model.specs.declared.commands.MountCommand.TheVariants as of_mount
-use Rattle.broker_model.specs.parts.Leases.{act_on_leases}
-use Rattle.broker_model.specs.parts.Mounts.{act_on_mounts, without_kept}
-use Rattle.histories.specs.History.{Asking, clocked}
-use Rattle.histories.specs.KeptResponses.{unwrapped_body}
-use Rattle.histories.specs.LeaseEnds.{AllLeasesStayRevoked, EndsLease, NamesBelow, NamesMount, is_below}
 use Rattle.histories.proofs.Clients.{end_is}
 use Rattle.histories.proofs.Lasting.{asked_keeps, left_since}
 use Rattle.histories.proofs.LeasesGone.{stays_gone}

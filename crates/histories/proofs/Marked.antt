@@ -1,36 +1,15 @@
 -- What each request marks of what it gives out, whether the broker that it is asked of is sound or not.
-use Rattle.std.specs.Prelude.{◌≡◌, ◌⊎◌, zero, suc, [], ◌∷◌, ℕ, Bool, true, Option, Some, None, Result, ⊤}
-use Rattle.std.specs.List.{list_any}
-use Rattle.std.proofs.Common.{refl, sym, ◌∙◌, ap, subst, inl, inr}
-use Rattle.std.proofs.lemmas.Bool.{false≢true}
-use Rattle.std.proofs.lemmas.Option.{none-some, same_Some}
-use Rattle.broker_types.specs.Text.{Text, same}
-use Rattle.broker_types.specs.Map.{Map, get}
-use Rattle.broker_types.specs.MapLaws.{without_is}
-use Rattle.broker_types.specs.Broker.{Broker, Waiting}
-use Rattle.broker_types.specs.Names.{Names, names_of}
-use Rattle.broker_types.specs.Operation.{Done}
-use Rattle.broker_types.specs.IdentifierPlaces.{IsUsed}
-use Rattle.broker_types.specs.Used.{are_new, use_up}
-use Rattle.broker_types.specs.declared.ask.Verb.{Verb}
-use Rattle.broker_types.specs.declared.refusal.Refusal.{Refusal}
-use Rattle.broker_model.specs.Act.{act}
-use Rattle.broker_model.specs.Laws.{OperationsDoAsTold}
-use Rattle.broker_model.specs.Traits.{Traits}
-use Rattle.broker_model.specs.Order.{Outcome, Wrapped, counted, ordered, wrapped}
-use Rattle.broker_model.specs.Permission.{permits}
-use Rattle.broker_model.specs.ProperLaws.{are_proper}
-use Rattle.broker_model.specs.Request.{Request}
-use Rattle.broker_model.specs.Step.{request_of, step, traits}
-use Rattle.broker_model.specs.NewIdentifierLaws.{first_in}
-use Rattle.histories.specs.History.{AreAsked, AreSteps, Asking, AskedAt, History, IsStep, clocked}
-use Rattle.histories.specs.Identifiers.{AreUsed}
+use Rattle.std.proofs.Common.{◌≡◌, ◌⊎◌, ◌∷◌, zero, suc, [], ℕ, Bool, true, Option, Some, None, Result, refl, sym, ◌∙◌}
+use Rattle.broker_model.specs.Words.{⊤, list_any, ap, subst, inl, inr, false≢true, none-some, same_Some, Text, same}
+use Rattle.broker_model.specs.Words.{Map, get, without_is, Broker, Waiting, Names, names_of, Done, IsUsed, are_new}
+use Rattle.broker_model.specs.Words.{use_up, Verb, Refusal, act, OperationsDoAsTold, Traits, Outcome, Wrapped, counted}
+use Rattle.broker_model.specs.Words.{ordered, wrapped, permits, are_proper, Request, request_of, step, traits, first_in}
+use Rattle.histories.specs.Words.{AreAsked, AreSteps, Asking, AskedAt, History, IsStep, clocked, AreUsed}
 use Rattle.histories.proofs.Keeping.{EachMarks, Marks}
 use Rattle.histories.proofs.Lasting.{waited_before}
 use Rattle.histories.proofs.OrderCases.{IsServed, IsTurnedAway, IsTurnedDown, order_cases, spent}
-use Rattle.histories.proofs.OrderKeeps.{AreProper, LeftBy, end_spent_used, end_spent_waiting}
-use Rattle.histories.proofs.OrderKeeps.{left, own_new, spent_used, spent_waiting}
-use Rattle.histories.proofs.OrderKeeps.{used_more}
+use Rattle.histories.proofs.OrderKeeps.{AreProper, LeftBy, end_spent_used, end_spent_waiting, left, own_new, spent_used}
+use Rattle.histories.proofs.OrderKeeps.{spent_waiting, used_more}
 use Rattle.histories.proofs.Placed.{moment_placed}
 use Rattle.histories.proofs.RequestsPlace.{requests_tell}
 use Rattle.histories.proofs.Used.{member_used}

@@ -1,42 +1,19 @@
 -- A creation that may be made passes each test of the definition.
-use Rattle.std.specs.Prelude.{◌≡◌, ◌⊎◌, ◌==◌, ◌||◌, ◌&&◌, [], ◌∷◌, List, All, Bool, true, false, not, Some, None, codes}
-use Rattle.std.specs.Prelude.{ℕ, Option, Result, Ok, is_none, ⊤}
-use Rattle.std.specs.List.{list_all}
-use Rattle.std.proofs.Common.{refl, sym, ◌∙◌, ap, inl, inr}
-use Rattle.std.proofs.lemmas.Bool.{false≢true, and_parts, eq-eqb, eqb-true, false_from_ne_true, or_cases, or_right}
-use Rattle.std.proofs.lemmas.List.Elements.{All-head, All-tail}
-use Rattle.broker_types.specs.Text.{Text, same}
-use Rattle.broker_types.specs.TextLaws.{same_self, same_true}
-use Rattle.broker_types.specs.Broker.{Broker}
-use Rattle.broker_types.specs.Name.{is_name}
-use Rattle.broker_types.specs.Names.{Names}
-use Rattle.broker_types.specs.Operation.{Done, reply}
-use Rattle.broker_types.specs.Refuse.{◌>>=◌, some_or, unless}
-use Rattle.broker_types.specs.Sound.{Sound}
-use Rattle.broker_types.specs.Token.{Token}
-use Rattle.broker_types.specs.TreeLaws.{alive_is}
+use Rattle.std.proofs.Common.{◌≡◌, ◌⊎◌, ◌==◌, ◌||◌, ◌&&◌, ◌∷◌, [], List, All, Bool, true, false, not, Some, None, codes}
+use Rattle.broker_model.specs.Words.{ℕ, Option, Result, Ok, is_none, ⊤, list_all, refl, sym, ◌∙◌, ap, inl, inr}
+use Rattle.broker_model.specs.Words.{false≢true, and_parts, eq-eqb, eqb-true, false_from_ne_true, or_cases, or_right}
+use Rattle.broker_model.specs.Words.{All-head, All-tail, Text, same, same_self, same_true, Broker, is_name, Names, Done}
+use Rattle.broker_model.specs.Words.{reply, ◌>>=◌, some_or, unless, Sound, Token, alive_is, Refusal, Reply, has, grants}
+use Rattle.broker_model.specs.Words.{AllThatIsGranted, RootMayDoAll, Sudo, TokenCreation, forms, has_no_end, have_root}
+use Rattle.broker_model.specs.Words.{is_privileged, makes_orphans, making_path, may_make, new_parent, new_policies}
+use Rattle.broker_model.specs.Words.{new_token, create, made}
 use Rattle.broker_types.specs.declared.ask.Verb.TheVariants as verb
 use Rattle.broker_types.specs.declared.refusal.Denial.TheVariants as denial
 use Rattle.broker_types.specs.declared.refusal.Reason.TheVariants as reason
-use Rattle.broker_types.specs.declared.refusal.Refusal.{Refusal}
 use Rattle.broker_types.specs.declared.refusal.Refusal.TheVariants as refusal
-use Rattle.broker_types.specs.declared.reply.Reply.{Reply}
-use Rattle.records.specs.Children.{has}
-use Rattle.policies.specs.Grants.{grants}
-use Rattle.policies.specs.Laws.{AllThatIsGranted, RootMayDoAll}
-use Rattle.policies.specs.declared.capability.Capability.TheVariants.{Sudo}
-use Rattle.api_json.specs.declared.token_bodies.TokenCreation.{TokenCreation}
 use Rattle.broker_model.specs.CreationLaws as creation
-use Rattle.broker_model.specs.Forms.{forms}
-use Rattle.broker_model.specs.declared.making.Making.{Making}
-use Rattle.broker_model.specs.parts.TokenCreation.{has_no_end, have_root, is_privileged, makes_orphans, making_path}
-use Rattle.broker_model.specs.parts.TokenCreation.{may_make, new_parent, new_policies, new_token}
-use Rattle.broker_model.specs.parts.Tokens.{create, made}
-use Rattle.histories.specs.Allowed.{AsksItsOwn, AsksNoRoot, MayCreate}
-use Rattle.histories.specs.Callers.{IsAllowed}
-use Rattle.histories.specs.Creations.{HasPolicies, HasRoot, HasSudo}
-use Rattle.histories.specs.History.{Asking, clocked, spent_by}
-use Rattle.histories.specs.Paths.{path_of}
+use Rattle.histories.specs.Words.{Making, AsksItsOwn, AsksNoRoot, MayCreate, IsAllowed, HasPolicies, HasRoot, HasSudo}
+use Rattle.histories.specs.Words.{Asking, clocked, spent_by, path_of}
 use Rattle.histories.proofs.Clients.{from_clock}
 use Rattle.histories.proofs.Created.{has_policies}
 use Rattle.histories.proofs.TokenLaws.{granted_so, path_is}

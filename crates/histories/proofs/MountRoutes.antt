@@ -1,36 +1,20 @@
 -- What the paths mean in a mount that was enabled, and those of policies, of mounts and of cubbyholes.
-use Rattle.std.specs.Prelude.{◌≡◌, ◌&&◌, ◌||◌, ◌++◌, [], ◌∷◌, ℕ, Bool, true, false, not, Option, Some, None}
-use Rattle.std.specs.Prelude.{Result, codes, if◌then◌else◌, unwrap_or}
-use Rattle.std.specs.List.{list_all}
-use Rattle.std.proofs.Common.{refl, ◌∙◌, ap}
-use Rattle.std.proofs.lemmas.Bool.{and_parts, false≢true}
-use Rattle.broker_types.specs.Name.{is_mount_name, is_name}
-use Rattle.broker_types.specs.Broker.{Engine, Mount, issued, kv}
-use Rattle.broker_types.specs.Refuse.{◌>>=◌}
-use Rattle.broker_types.specs.Text.{Text, same}
-use Rattle.broker_types.specs.declared.ask.Verb.{Verb}
+use Rattle.std.proofs.Common.{◌≡◌, ◌&&◌, ◌||◌, ◌++◌, ◌∷◌, if◌then◌else◌, [], ℕ, Bool, true, false, not, Option, Some}
+use Rattle.broker_model.specs.Words.{None, Result, codes, unwrap_or, list_all, refl, ◌∙◌, ap, and_parts, false≢true}
+use Rattle.broker_model.specs.Words.{is_mount_name, is_name, Engine, Mount, issued, kv, ◌>>=◌, Text, same, Verb}
+use Rattle.broker_model.specs.Words.{Refusal, or_else, split-lacking, slash, mount_no_slash, are_bytes, parameter}
+use Rattle.broker_model.specs.Words.{AreInOrder, FoundByForm, NoneFoundByForm, Route, operation_for, route_of}
+use Rattle.broker_model.specs.Words.{route_rows, engine_type, fixed_type, type_at, type_of, MountType, Operation}
+use Rattle.broker_model.specs.Words.{Cubbyholes, Mounts, Policies, Secrets, Command, command_for}
 use Rattle.broker_types.specs.declared.ask.Verb.TheVariants as verb
-use Rattle.broker_types.specs.declared.refusal.Refusal.{Refusal}
-use Rattle.records.specs.Rows.{or_else}
-use Rattle.records.specs.SplitLaws.{split-lacking}
-use Rattle.records.specs.Splits.{slash}
-use Rattle.records.specs.SecretNameLaws.{mount_no_slash}
-use Rattle.mounts.specs.Forms.{are_bytes, parameter}
-use Rattle.mounts.specs.Laws.{AreInOrder, FoundByForm, NoneFoundByForm}
-use Rattle.mounts.specs.Route.{Route, operation_for, route_of}
-use Rattle.mounts.specs.RouteTable.{route_rows}
-use Rattle.mounts.specs.Types.{engine_type, fixed_type, type_at, type_of}
-use Rattle.mounts.specs.declared.mount_type.MountType.{MountType}
 use Rattle.mounts.specs.declared.mount_type.MountType.TheVariants as type
 use Rattle.mounts.specs.declared.operation.CubbyholeOperation.TheVariants as of_cubbyholes
 use Rattle.mounts.specs.declared.operation.IssuedOperation.TheVariants as of_issued
 use Rattle.mounts.specs.declared.operation.MountOperation.TheVariants as of_mounts
-use Rattle.mounts.specs.declared.operation.Operation.{Operation}
-use Rattle.mounts.specs.declared.operation.Operation.TheVariants.{Cubbyholes, Issued, Mounts, Policies, Secrets}
+use Rattle.mounts.specs.declared.operation.Operation.TheVariants.{Issued}
 use Rattle.mounts.specs.declared.operation.PolicyOperation.TheVariants as of_policies
 use Rattle.mounts.specs.declared.operation.SecretOperation.TheVariants as of_secrets
-use Rattle.broker_model.specs.Command.{Command, command_for}
-use Rattle.histories.specs.MountPaths.{MeansIn, PathsOfIssued, PathsOfSecrets, PathsOfSettings}
+use Rattle.histories.specs.Words.{MeansIn, PathsOfIssued, PathsOfSecrets, PathsOfSettings}
 use Rattle.histories.proofs.Routes.{StandsFor, asked, route_to, routed_at}
 
 -- ---- the name of a mount

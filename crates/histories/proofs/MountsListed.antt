@@ -1,26 +1,13 @@
 -- Which mounts the list shows.
-use Rattle.std.specs.Prelude.{◌≡◌, ◌≢◌, List, [], ◌∷◌, map, true, false, cond, All, Some, None, codes, option_map}
-use Rattle.std.specs.List.{fold}
-use Rattle.std.specs.Map.{lookup}
+use Rattle.std.proofs.Common.{◌≡◌, ◌≢◌, ◌∷◌, List, [], map, true, false, cond, All, Some, None, codes, option_map, refl}
+use Rattle.broker_model.specs.Words.{fold, lookup, sym, ◌∙◌, ap, subst, inl, inr, All-head, All-tail, none-some, Text}
+use Rattle.broker_model.specs.Words.{same, text_cmp, same_true, Map, empty, entries, get, map_values, put, with_values}
+use Rattle.broker_model.specs.Words.{entries-map_values, get-lookup, get-map_values, Engine, Mount, issued, kv, mapped}
+use Rattle.broker_model.specs.Words.{put_is, put_keeps, put_there, each_entry, listed_types, printed, typed, with_type}
+use Rattle.broker_model.specs.Words.{engine_type, type_of, MountType, MountObject, shown_mount}
 use Rattle.std.specs.FinMap as fin
-use Rattle.std.proofs.Common.{refl, sym, ◌∙◌, ap, subst, inl, inr}
-use Rattle.std.proofs.lemmas.List.Elements.{All-head, All-tail}
-use Rattle.std.proofs.lemmas.Option.{none-some}
-use Rattle.broker_types.specs.Text.{Text, same, text_cmp}
-use Rattle.broker_types.specs.TextLaws.{same_true}
-use Rattle.broker_types.specs.Map.{Map, empty, entries, get, map_values, put, with_values}
-use Rattle.broker_types.specs.MapLaws.{entries-map_values, get-lookup, get-map_values}
-use Rattle.broker_types.specs.Broker.{Engine, Mount, issued, kv}
-use Rattle.broker_types.specs.OptionLaws.{mapped}
-use Rattle.broker_types.specs.PutLaws.{put_is, put_keeps, put_there}
-use Rattle.broker_types.specs.SearchLaws.{each_entry}
-use Rattle.mounts.specs.Mounts.{listed_types, printed, typed, with_type}
-use Rattle.mounts.specs.Types.{engine_type, type_of}
-use Rattle.mounts.specs.declared.mount_type.MountType.{MountType}
 use Rattle.mounts.specs.declared.mount_type.MountType.TheVariants as type
-use Rattle.api_json.specs.declared.mount_objects.MountObject.{MountObject}
-use Rattle.broker_model.specs.parts.Mounts.{shown_mount}
-use Rattle.histories.specs.Shown.{IsMountShown, mount_shown}
+use Rattle.histories.specs.Words.{IsMountShown, mount_shown}
 
 -- ---- types put one after another
 

@@ -1,53 +1,24 @@
 -- What an open request means, and what it leaves.
-use Rattle.std.specs.Prelude.{◌≡◌, ◌||◌, ℕ, List, [], ◌∷◌, true, false, not, nat_lt}
-use Rattle.std.specs.Prelude.{Option, Some, None, Result, Ok, Err, codes, ⊤}
-use Rattle.std.specs.Option.{option_map_or}
-use Rattle.std.proofs.Common.{refl, sym, ◌∙◌, ap, subst, inl, inr}
-use Rattle.std.proofs.lemmas.Bool.{false≢true}
+use Rattle.std.proofs.Common.{◌≡◌, ◌||◌, ◌∷◌, ℕ, List, [], true, false, not, nat_lt, Option, Some, None, Result, Ok, ap}
+use Rattle.broker_model.specs.Words.{Err, codes, ⊤, option_map_or, refl, sym, ◌∙◌, subst, inl, inr, false≢true, Text}
+use Rattle.broker_model.specs.Words.{same, same_self, Map, Broker, Mount, Waiting, at_moment, Names, names_of, Done}
+use Rattle.broker_model.specs.Words.{◌>>=◌, unless, no_ok, ok_step, are_new, use_up, Ask, Refusal, Words, ok_inj, Route}
+use Rattle.broker_model.specs.Words.{cut, operation_at, facts, Opens, Never, Always, WithItsOwn, Operation, Cubbyholes}
+use Rattle.broker_model.specs.Words.{Secrets, Policies, Mounts, Leases, Wrappings, body_members, act, Command}
+use Rattle.broker_model.specs.Words.{on_wrapping, command_for, command_of, OwnIsMeant, KeepsMaps, OperationsDoAsTold}
+use Rattle.broker_model.specs.Words.{Outcome, Wrapped, counted, finish, needed, permission_denied, serve, wrap, wrapped}
+use Rattle.broker_model.specs.Words.{permits, Request, is_open, request_of, step, traits, read_as, is_own}
+use Rattle.broker_model.specs.Words.{is_own_if_read, opened_by, opening, token_meant, token_named, wrapping_changes}
 use Rattle.serde_json.specs.Data.{Members}
-use Rattle.broker_types.specs.Text.{Text, same}
-use Rattle.broker_types.specs.TextLaws.{same_self}
-use Rattle.broker_types.specs.Map.{Map}
-use Rattle.broker_types.specs.Broker.{Broker, Mount, Waiting, at_moment}
-use Rattle.broker_types.specs.Names.{Names, names_of}
-use Rattle.broker_types.specs.Operation.{Done}
-use Rattle.broker_types.specs.Refuse.{◌>>=◌, unless}
-use Rattle.broker_types.specs.RefuseLaws.{no_ok, ok_step}
-use Rattle.broker_types.specs.Used.{are_new, use_up}
-use Rattle.broker_types.specs.declared.ask.Ask.{Ask}
 use Rattle.broker_types.specs.declared.ask.Verb.TheVariants as verb
-use Rattle.broker_types.specs.declared.refusal.Refusal.{Refusal}
 use Rattle.broker_types.specs.declared.refusal.Refusal.TheVariants as refusal
 use Rattle.broker_types.specs.declared.refusal.Reason.TheVariants as reason
-use Rattle.broker_types.specs.declared.words.Words.{Words}
-use Rattle.records.specs.ValueLaws.{ok_inj}
-use Rattle.mounts.specs.Route.{Route, cut, operation_at}
-use Rattle.mounts.specs.RouteTable.{facts}
-use Rattle.mounts.specs.declared.operation.Opens.{Opens}
-use Rattle.mounts.specs.declared.operation.Opens.TheVariants.{Never, Always, WithItsOwn}
-use Rattle.mounts.specs.declared.operation.Operation.{Operation}
-use Rattle.mounts.specs.declared.operation.Operation.TheVariants.{Cubbyholes, Tokens, Secrets, Policies, Mounts, Leases}
-use Rattle.mounts.specs.declared.operation.Operation.TheVariants.{Issued, Wrappings}
+use Rattle.mounts.specs.declared.operation.Operation.TheVariants.{Tokens, Issued}
 use Rattle.mounts.specs.declared.operation.WrappingOperation.TheVariants as of_responses
-use Rattle.api_json.specs.Json.{body_members}
 use Rattle.api_json.specs.Readers as reader
-use Rattle.broker_model.specs.Act.{act}
-use Rattle.broker_model.specs.Command.{Command, on_wrapping, command_for, command_of}
-use Rattle.broker_model.specs.Laws.{OwnIsMeant}
-use Rattle.broker_model.specs.Effects.{KeepsMaps}
-use Rattle.broker_model.specs.Laws.{OperationsDoAsTold}
-use Rattle.broker_model.specs.Order.{Outcome, Wrapped, counted, finish, needed, permission_denied, serve, wrap, wrapped}
-use Rattle.broker_model.specs.Permission.{permits}
-use Rattle.broker_model.specs.Request.{Request}
-use Rattle.broker_model.specs.ServedAsks.{is_open}
-use Rattle.broker_model.specs.Step.{request_of, step, traits}
-use Rattle.broker_model.specs.declared.commands.WrappingCommand.{WrappingCommand}
+use Rattle.histories.specs.Words.{WrappingCommand, DiffersInWaiting, MeansItsOwn, OpenChangesNoToken, TheseAreOpen}
+use Rattle.histories.specs.Words.{WrittenMeans, on_named}
 use Rattle.broker_model.specs.declared.commands.WrappingCommand.TheVariants as response
-use Rattle.broker_model.specs.parts.Bodies.{read_as}
-use Rattle.broker_model.specs.parts.WrappingCommands.{is_own, is_own_if_read, opened_by, opening}
-use Rattle.broker_model.specs.parts.WrappingCommands.{token_meant, token_named, wrapping_changes}
-use Rattle.histories.specs.Open.{DiffersInWaiting, MeansItsOwn, OpenChangesNoToken, TheseAreOpen}
-use Rattle.histories.specs.Paths.{WrittenMeans, on_named}
 use Rattle.histories.proofs.OrderCases.{with_caller}
 use Rattle.histories.proofs.OrderKeeps.{wrapped_cases}
 use Rattle.histories.proofs.Routes.{OpenedAreRoutes, fixed_route, may_open}

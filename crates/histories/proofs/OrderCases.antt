@@ -1,26 +1,11 @@
 -- The cases of the order of one request.
-use Rattle.std.specs.Prelude.{◌≡◌, ◌⊎◌, ◌||◌, ℕ, Bool, true, false, not, nat_lt, if◌then◌else◌}
-use Rattle.std.specs.Prelude.{Option, Some, None, Result, Ok, Err, is_some}
-use Rattle.std.proofs.Common.{refl, sym, ◌∙◌, ap, subst, inl, inr}
-use Rattle.broker_types.specs.Text.{Text}
-use Rattle.broker_types.specs.Map.{get}
-use Rattle.broker_types.specs.Broker.{Broker, at_moment}
-use Rattle.broker_types.specs.Names.{Names}
-use Rattle.broker_types.specs.Operation.{Done}
-use Rattle.broker_types.specs.Refuse.{some_or, unless}
-use Rattle.broker_types.specs.RefuseLaws.{no_ok, ok_step, unless_ok}
-use Rattle.broker_types.specs.Spending.{spend, drop_waiting}
-use Rattle.broker_types.specs.Used.{are_new}
-use Rattle.broker_types.specs.declared.ask.Verb.{Verb}
-use Rattle.broker_types.specs.declared.refusal.Refusal.{Refusal}
+use Rattle.std.proofs.Common.{◌≡◌, ◌⊎◌, ◌||◌, if◌then◌else◌, ℕ, Bool, true, false, not, nat_lt, Option, Some, None, Ok}
+use Rattle.broker_model.specs.Words.{Result, Err, is_some, refl, sym, ◌∙◌, ap, subst, inl, inr, Text, get, Broker}
+use Rattle.broker_model.specs.Words.{at_moment, Names, Done, some_or, unless, no_ok, ok_step, unless_ok, spend}
+use Rattle.broker_model.specs.Words.{drop_waiting, are_new, Verb, Refusal, ok_inj, Outcome, Traits, Wrapped, denied}
+use Rattle.broker_model.specs.Words.{for_caller, finish, needed, ordered, permission_denied, serve, wrapped, Request}
 use Rattle.broker_types.specs.declared.refusal.Refusal.TheVariants as refusal
 use Rattle.broker_types.specs.declared.refusal.Reason.TheVariants as reason
-use Rattle.records.specs.ValueLaws.{ok_inj}
-use Rattle.broker_model.specs.Order.{Outcome}
-use Rattle.broker_model.specs.Traits.{Traits}
-use Rattle.broker_model.specs.Order.{Wrapped, denied, for_caller, finish, needed, ordered, permission_denied}
-use Rattle.broker_model.specs.Order.{serve, wrapped}
-use Rattle.broker_model.specs.Request.{Request}
 
 -- ---- steps of a definition
 

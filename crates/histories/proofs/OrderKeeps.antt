@@ -1,49 +1,21 @@
 -- What a request keeps, whatever the operations are, as long as each is proper.
-use Rattle.std.specs.Prelude.{◌≡◌, ◌≢◌, ◌⊎◌, ◌||◌, ℕ, max, List, [], ◌∷◌, Bool, true, false, not, cond, nat_lt}
-use Rattle.std.specs.Prelude.{if◌then◌else◌, Option, Some, None, Result, Ok, Err, is_none, option_map, ⊤}
-use Rattle.std.specs.List.{list_any}
-use Rattle.std.specs.Option.{option_map_or}
-use Rattle.std.proofs.Common.{refl, sym, ◌∙◌, ap, subst, inl, inr}
-use Rattle.std.proofs.lemmas.Bool.{false≢true, and_parts, ltb-true, and_from}
-use Rattle.std.proofs.lemmas.Option.{none-some, same_Some}
-use Rattle.broker_types.specs.Text.{Text, same}
-use Rattle.broker_types.specs.Map.{Map, get, without}
-use Rattle.broker_types.specs.MapLaws.{get-put, get-put_self, get-without_self, without_is}
-use Rattle.broker_types.specs.PutLaws.{put_is}
-use Rattle.broker_types.specs.TextLaws.{same_self}
-use Rattle.broker_types.specs.TokenText.{token_text}
-use Rattle.broker_types.specs.Broker.{Broker, Waiting, at_moment, revoke, waiting_ends}
-use Rattle.broker_types.specs.Evolves.{Evolves, WaitedBefore, IsNew}
-use Rattle.broker_types.specs.EvolvesLaws.{evolves_trans}
-use Rattle.broker_types.specs.Names.{Names, names_of}
-use Rattle.broker_types.specs.OptionLaws.{is_nothing}
-use Rattle.broker_types.specs.Operation.{Answered, nothing, reply, kept_text, missing, Done}
-use Rattle.broker_types.specs.IdentifierPlaces.{IsUsed, token_identifier, wrapping_token}
-use Rattle.broker_types.specs.RemovalLaws.{at_moment_evolves}
-use Rattle.broker_types.specs.SearchLaws.{kept_get}
-use Rattle.broker_types.specs.Sound.{SoundIdentifiers, SoundWaiting}
-use Rattle.broker_types.specs.Spending.{end_spent, is_spent}
-use Rattle.broker_types.specs.SpendingLaws.{evolves_self, spend_evolves, end_spent_evolves, drop_evolves}
-use Rattle.broker_types.specs.Used.{are_new, use_up}
-use Rattle.broker_types.specs.declared.ask.Verb.{Verb}
-use Rattle.broker_types.specs.declared.reply.Reply.{Reply}
-use Rattle.broker_types.specs.declared.refusal.Refusal.{Refusal}
-use Rattle.broker_types.specs.UsedLaws.{rest_new}
-use Rattle.wrapping.specs.SoundLaws.{store_evolves}
-use Rattle.wrapping.specs.Wrapping.{with_waiting}
-use Rattle.histories.specs.History.{Asking, clocked}
-use Rattle.histories.specs.KeptResponses.{KeepsReply, first_entry}
+use Rattle.std.proofs.Common.{◌≡◌, ◌≢◌, ◌⊎◌, ◌||◌, ◌∷◌, if◌then◌else◌, ℕ, max, List, [], Bool, true, false, not, cond}
+use Rattle.broker_model.specs.Words.{nat_lt, Option, Some, None, Result, Ok, Err, is_none, option_map, ⊤, list_any}
+use Rattle.broker_model.specs.Words.{option_map_or, refl, sym, ◌∙◌, ap, subst, inl, inr, false≢true, and_parts}
+use Rattle.broker_model.specs.Words.{ltb-true, and_from, none-some, same_Some, Text, same, Map, get, without, get-put}
+use Rattle.broker_model.specs.Words.{get-put_self, get-without_self, without_is, put_is, same_self, token_text, Broker}
+use Rattle.broker_model.specs.Words.{Waiting, at_moment, revoke, waiting_ends, Evolves, WaitedBefore, IsNew}
+use Rattle.broker_model.specs.Words.{evolves_trans, Names, names_of, is_nothing, Answered, nothing, reply, kept_text}
+use Rattle.broker_model.specs.Words.{missing, Done, IsUsed, token_identifier, wrapping_token, at_moment_evolves}
+use Rattle.broker_model.specs.Words.{kept_get, SoundIdentifiers, SoundWaiting, end_spent, is_spent, evolves_self}
+use Rattle.broker_model.specs.Words.{spend_evolves, end_spent_evolves, drop_evolves, are_new, use_up, Verb, Reply}
+use Rattle.broker_model.specs.Words.{Refusal, rest_new, store_evolves, with_waiting, Outcome, Traits, Wrapped, denied}
+use Rattle.broker_model.specs.Words.{finish, kept_entry, needed, ordered, response_to, unwrapped, wrap, wrap_200}
+use Rattle.broker_model.specs.Words.{wrap_info, wrapped, wraps, IsProper, reply_text, wrap_reply, Request, ok}
+use Rattle.histories.specs.Words.{Asking, clocked, KeepsReply, first_entry}
 use Rattle.histories.proofs.Keeping.{HandedOut, IsBorn, Keeps}
-use Rattle.broker_model.specs.Order.{Outcome}
 use Rattle.histories.proofs.Lasting.{waited_before}
-use Rattle.broker_model.specs.Traits.{Traits}
-use Rattle.broker_model.specs.Order.{Wrapped, denied, finish, kept_entry, needed, ordered, response_to}
-use Rattle.broker_model.specs.Order.{unwrapped, wrap, wrap_200, wrap_info, wrapped, wraps}
-use Rattle.broker_model.specs.Order.{IsProper}
 use Rattle.histories.proofs.OrderCases.{IsServed, IsTurnedAway, IsTurnedDown, order_cases, spent}
-use Rattle.api_json.specs.Reply.{reply_text, wrap_reply}
-use Rattle.broker_model.specs.Request.{Request}
-use Rattle.broker_model.specs.Responses.{ok}
 
 -- ---- identifiers
 

@@ -1,54 +1,21 @@
 -- What is another's stays: what makes a token go, what changes of one that stands, and who reads a cubbyhole.
-use Rattle.std.specs.Prelude.{◌≡◌, ◌≢◌, ◌⊎◌, ◌&&◌, ◌||◌, ◌-◌, ◌==◌, ℕ, zero, suc, [], true, false, not, nat_lt}
-use Rattle.std.specs.Prelude.{if◌then◌else◌, Option, Some, None, Ok, is_none, is_some, option_map}
-use Rattle.std.specs.List.{list_any}
-use Rattle.std.specs.Option.{option_map_or}
-use Rattle.std.proofs.Common.{refl, sym, ◌∙◌, ap, subst, inl, inr, arith}
-use Rattle.std.proofs.lemmas.Bool.{false≢true, and_parts, eqb-true}
-use Rattle.std.proofs.lemmas.Option.{none-some, same_Some}
-use Rattle.std.specs.FinMap.{get-empty}
-use Rattle.broker_types.specs.Text.{Text, same, text_cmp}
-use Rattle.broker_types.specs.Laws.{IsTree}
-use Rattle.broker_types.specs.Map.{Map, get, keys, len}
-use Rattle.broker_types.specs.MapLaws.{valued_none}
-use Rattle.broker_types.specs.Broker.{Broker}
-use Rattle.broker_types.specs.Lineage.{climb, ends_within, is_under}
-use Rattle.broker_types.specs.LineageLaws.{climb_above, climb_at, ends_above, ends_at}
-use Rattle.broker_types.specs.Names.{names_of}
-use Rattle.broker_types.specs.Operation.{reply, Done}
-use Rattle.broker_types.specs.OptionLaws.{found_or_not}
-use Rattle.broker_types.specs.Refuse.{some_or, unless}
-use Rattle.broker_types.specs.RefuseLaws.{no_ok, ok_step}
-use Rattle.broker_types.specs.Sound.{Sound}
-use Rattle.broker_types.specs.Spending.{is_spent, one_less}
-use Rattle.broker_types.specs.Token.{Token, Tokens}
-use Rattle.broker_types.specs.Status.{status_code}
+use Rattle.std.proofs.Common.{◌≡◌, ◌≢◌, ◌⊎◌, ◌&&◌, ◌||◌, ◌-◌, ◌==◌, if◌then◌else◌, ℕ, zero, suc, [], true, false, not}
+use Rattle.broker_model.specs.Words.{nat_lt, Option, Some, None, Ok, is_none, is_some, option_map, list_any}
+use Rattle.broker_model.specs.Words.{option_map_or, refl, sym, ◌∙◌, ap, subst, inl, inr, arith, false≢true, and_parts}
+use Rattle.broker_model.specs.Words.{eqb-true, none-some, same_Some, get-empty, Text, same, text_cmp, IsTree, Map, get}
+use Rattle.broker_model.specs.Words.{keys, len, valued_none, Broker, climb, ends_within, is_under, climb_above}
+use Rattle.broker_model.specs.Words.{climb_at, ends_above, ends_at, names_of, reply, Done, found_or_not, some_or}
+use Rattle.broker_model.specs.Words.{unless, no_ok, ok_step, Sound, is_spent, one_less, Token, Tokens, status_code}
+use Rattle.broker_model.specs.Words.{Reply, children, folder, ok_inj, keys_object, plain_reply, reply_text, act}
+use Rattle.broker_model.specs.Words.{Command, on_cubbyhole, command_of, allowed, chained, forms, OperationsDoAsTold}
+use Rattle.broker_model.specs.Words.{Outcome, Wrapped, response_to, permits, ok, request_of, step, traits, are_none}
+use Rattle.broker_model.specs.Words.{is_privileged, making_path, new_policies}
 use Rattle.broker_types.specs.declared.refusal.Refusal.TheVariants as refusal
-use Rattle.broker_types.specs.declared.reply.Reply.{Reply}
 use Rattle.broker_types.specs.declared.status.Status.TheVariants as status
-use Rattle.records.specs.Children.{children, folder}
-use Rattle.records.specs.ValueLaws.{ok_inj}
 use Rattle.cubbyhole.specs.Cubbyhole as of_cubbyhole
-use Rattle.api_json.specs.Objects.{keys_object}
-use Rattle.api_json.specs.Reply.{plain_reply, reply_text}
-use Rattle.broker_model.specs.Act.{act}
-use Rattle.broker_model.specs.Command.{Command, on_cubbyhole, command_of}
-use Rattle.broker_model.specs.CreationLaws.{allowed}
-use Rattle.broker_model.specs.EffectLaws.{chained}
-use Rattle.broker_model.specs.Forms.{forms}
-use Rattle.broker_model.specs.Laws.{OperationsDoAsTold}
-use Rattle.broker_model.specs.Order.{Outcome, Wrapped, response_to}
-use Rattle.broker_model.specs.Permission.{permits}
-use Rattle.broker_model.specs.Responses.{ok}
-use Rattle.broker_model.specs.Step.{request_of, step, traits}
-use Rattle.broker_model.specs.declared.commands.CubbyholeCommand.{CubbyholeCommand}
+use Rattle.histories.specs.Words.{CubbyholeCommand, Asking, clocked, spent_by, AllOwnStays, AnswersOwn, EndsWithClient}
+use Rattle.histories.specs.Words.{TokenGoes, IsListAt, IsObjectAt, IsClient, has_no_use, left_by_caller}
 use Rattle.broker_model.specs.declared.commands.CubbyholeCommand.TheVariants as cubbyhole
-use Rattle.broker_model.specs.parts.Lists.{are_none}
-use Rattle.broker_model.specs.parts.TokenCreation.{is_privileged, making_path, new_policies}
-use Rattle.histories.specs.History.{Asking, clocked, spent_by}
-use Rattle.histories.specs.Laws.{AllOwnStays}
-use Rattle.histories.specs.Own.{AnswersOwn, EndsWithClient, TokenGoes, IsListAt, IsObjectAt}
-use Rattle.histories.specs.Revocation.{IsClient, has_no_use, left_by_caller}
 use Rattle.histories.proofs.Clients.{CarriesOut, Course, from_clock}
 use Rattle.histories.proofs.Created.{new_unspent}
 use Rattle.histories.proofs.CubbyholeEdits.{edits_stand}

@@ -1,24 +1,14 @@
 -- Where the identifiers of a broker come from that follows another one.
-use Rattle.std.specs.Prelude.{◌≡◌, ◌⊎◌, not, nat_lt, ℕ, max, List, [], Bool, true, false, if◌then◌else◌}
-use Rattle.std.specs.Prelude.{Option, Some, None, option_map, option_and_then}
-use Rattle.std.specs.List.{list_any}
-use Rattle.std.specs.Option.{option_map_or}
-use Rattle.std.proofs.Common.{refl, sym, ◌∙◌, ap, subst, inl, inr}
-use Rattle.std.proofs.lemmas.Bool.{false≢true}
-use Rattle.broker_types.specs.Text.{Text, same}
-use Rattle.broker_types.specs.Map.{Map, get, keep, map_values, without}
-use Rattle.broker_types.specs.MapLaws.{valued_is, without_is}
-use Rattle.broker_types.specs.Broker.{Broker, Waiting, at_moment, revoke, revoke_orphan, waiting_ends}
-use Rattle.broker_types.specs.Lineage.{is_under, orphaned_by, with_live_leases}
-use Rattle.broker_types.specs.OptionLaws.{mapped}
-use Rattle.broker_types.specs.IdentifierPlaces.{OnePlaceEach, Place, identifier_at, lease_identifier, lease_of}
-use Rattle.broker_types.specs.IdentifierPlaces.{token_identifier}
+use Rattle.std.proofs.Common.{◌≡◌, ◌⊎◌, if◌then◌else◌, not, nat_lt, ℕ, max, List, [], Bool, true, false, Option, Some}
+use Rattle.broker_model.specs.Words.{None, option_map, option_and_then, list_any, option_map_or, refl, sym, ◌∙◌, ap}
+use Rattle.broker_model.specs.Words.{subst, inl, inr, false≢true, Text, same, Map, get, keep, map_values, without}
+use Rattle.broker_model.specs.Words.{valued_is, without_is, Broker, Waiting, at_moment, revoke, revoke_orphan}
+use Rattle.broker_model.specs.Words.{waiting_ends, is_under, orphaned_by, with_live_leases, mapped, OnePlaceEach}
+use Rattle.broker_model.specs.Words.{identifier_at, lease_identifier, lease_of, token_identifier, kept_get}
+use Rattle.broker_model.specs.Words.{drop_waiting, end_spent, is_spent, one_less, spend, Token, Tokens, Lease, alive_is}
+use Rattle.broker_model.specs.Words.{chained}
+use Rattle.broker_types.specs.IdentifierPlaces.{Place}
 use Rattle.broker_types.specs.IdentifierPlaces as place
-use Rattle.broker_types.specs.SearchLaws.{kept_get}
-use Rattle.broker_types.specs.Spending.{drop_waiting, end_spent, is_spent, one_less, spend}
-use Rattle.broker_types.specs.Token.{Token, Tokens, Lease}
-use Rattle.broker_types.specs.TreeLaws.{alive_is}
-use Rattle.broker_model.specs.EffectLaws.{chained}
 use Rattle.histories.proofs.OrderCases.{spent}
 
 -- ---- where an identifier was

@@ -1,26 +1,12 @@
 -- Laws of requests without their wrap TTL.
-use Rattle.std.specs.Prelude.{◌≡◌, ◌||◌, ℕ, Bool, false, not, nat_lt, Option, Result, Ok}
-use Rattle.std.proofs.Common.{◌∙◌, ap}
-use Rattle.broker_types.specs.Text.{Text}
-use Rattle.broker_types.specs.Broker.{Broker, at_moment}
-use Rattle.broker_types.specs.Names.{Names}
-use Rattle.broker_types.specs.Operation.{reply, Done}
-use Rattle.broker_types.specs.Refuse.{◌>>=◌, unless}
-use Rattle.broker_types.specs.Used.{are_new}
-use Rattle.broker_types.specs.declared.ask.Verb.{Verb}
-use Rattle.broker_types.specs.declared.reply.Reply.{Reply}
-use Rattle.broker_types.specs.declared.refusal.Refusal.{Refusal}
+use Rattle.std.proofs.Common.{◌≡◌, ◌||◌, ℕ, Bool, false, not, nat_lt, Option, Result, Ok, ◌∙◌, ap}
+use Rattle.broker_model.specs.Words.{Text, Broker, at_moment, Names, reply, Done, ◌>>=◌, unless, are_new, Verb, Reply}
+use Rattle.broker_model.specs.Words.{Refusal, Outcome, ok, Traits, Wrapped, finish, needed, ordered, permission_denied}
+use Rattle.broker_model.specs.Words.{response_to, serve, unwrapped, wrapped, reply_text, Request}
 use Rattle.broker_types.specs.declared.refusal.Refusal.TheVariants as refusal
 use Rattle.broker_types.specs.declared.refusal.Reason.TheVariants as reason
-use Rattle.broker_model.specs.Order.{Outcome}
-use Rattle.broker_model.specs.Responses.{ok}
-use Rattle.broker_model.specs.Traits.{Traits}
-use Rattle.broker_model.specs.Order.{Wrapped, finish, needed, ordered, permission_denied, response_to, serve}
-use Rattle.broker_model.specs.Order.{unwrapped, wrapped}
 use Rattle.histories.proofs.OrderCases.{IsServed, spent, with_caller}
 use Rattle.histories.proofs.OrderKeeps.{own_new}
-use Rattle.api_json.specs.Reply.{reply_text}
-use Rattle.broker_model.specs.Request.{Request}
 
 -- the request without its wrap TTL
 abbrev pub plain : {Command : Type 0} → Request Command → Request Command

@@ -1,44 +1,20 @@
 -- What a 404 to a read of a version shows: one that is deleted or destroyed, without what it held; or there is none.
-use Rattle.std.specs.Prelude.{◌≡◌, ◌≢◌, ◌⊎◌, ◌==◌, ℕ, Bool, true, false, is_some, if◌then◌else◌}
-use Rattle.std.specs.Prelude.{Option, Some, None, Result, Ok, Err, option_and_then, option_map}
+use Rattle.std.proofs.Common.{◌≡◌, ◌≢◌, ◌⊎◌, ◌==◌, if◌then◌else◌, ℕ, Bool, true, false, is_some, Option, Some, None, Ok}
+use Rattle.broker_model.specs.Words.{Result, Err, option_and_then, option_map, refl, sym, ◌∙◌, ap, subst, inl, inr}
+use Rattle.broker_model.specs.Words.{eqb-true, none-some, Text, entries, get, Response, refused, names_of, missing}
+use Rattle.broker_model.specs.Words.{reply, Done, mapped, mapped_none, not_there, some_or, no_ok, ok_step, Key, Version}
+use Rattle.broker_model.specs.Words.{spend, Refusal, Reply, Status, ok_inj, secret_name, Found, asked_number, numbered}
+use Rattle.broker_model.specs.Words.{secret_object, plain_reply, reply_text, act, Command, command_of, on_secret}
+use Rattle.broker_model.specs.Words.{chained, Outcome, Wrapped, permission_denied, response_to, permits, not_found}
+use Rattle.broker_model.specs.Words.{request_of, step, traits, Place, object_left, version_answered, version_reply}
+use Rattle.broker_model.specs.Words.{version_shown}
 use Rattle.std.specs.FinMap as fin
-use Rattle.std.proofs.Common.{refl, sym, ◌∙◌, ap, subst, inl, inr}
-use Rattle.std.proofs.lemmas.Bool.{eqb-true}
-use Rattle.std.proofs.lemmas.Option.{none-some}
-use Rattle.broker_types.specs.Text.{Text}
-use Rattle.broker_types.specs.Map.{entries, get}
-use Rattle.broker_types.specs.Answer.{Response, refused}
-use Rattle.broker_types.specs.Names.{names_of}
-use Rattle.broker_types.specs.Operation.{missing, reply, Done}
-use Rattle.broker_types.specs.OptionLaws.{mapped, mapped_none, not_there}
-use Rattle.broker_types.specs.Refuse.{some_or}
-use Rattle.broker_types.specs.RefuseLaws.{no_ok, ok_step}
-use Rattle.broker_types.specs.Secret.{Key, Version}
-use Rattle.broker_types.specs.Spending.{spend}
 use Rattle.broker_types.specs.declared.refusal.Reason.TheVariants as reason
-use Rattle.broker_types.specs.declared.refusal.Refusal.{Refusal}
 use Rattle.broker_types.specs.declared.refusal.Refusal.TheVariants as refusal
-use Rattle.broker_types.specs.declared.reply.Reply.{Reply}
-use Rattle.broker_types.specs.declared.status.Status.{Status}
 use Rattle.broker_types.specs.declared.status.Status.TheVariants as status
-use Rattle.records.specs.ValueLaws.{ok_inj}
 use Rattle.kv2.specs.Secrets as secrets
-use Rattle.kv2.specs.Secrets.{secret_name}
-use Rattle.kv2.specs.Versions.{Found, asked_number, numbered}
-use Rattle.api_json.specs.Objects.{secret_object}
-use Rattle.api_json.specs.Reply.{plain_reply, reply_text}
-use Rattle.broker_model.specs.Act.{act}
-use Rattle.broker_model.specs.Command.{Command, command_of, on_secret}
-use Rattle.broker_model.specs.EffectLaws.{chained}
-use Rattle.broker_model.specs.Order.{Outcome, Wrapped, permission_denied, response_to}
-use Rattle.broker_model.specs.Permission.{permits}
-use Rattle.broker_model.specs.Responses.{not_found}
-use Rattle.broker_model.specs.Step.{request_of, step, traits}
 use Rattle.broker_model.specs.declared.commands.SecretCommand.TheVariants as secret
-use Rattle.broker_model.specs.parts.Place.{Place}
-use Rattle.broker_model.specs.parts.SecretReplies.{object_left, version_answered, version_reply, version_shown}
-use Rattle.histories.specs.History.{Asking, clocked}
-use Rattle.histories.specs.Versions.{LacksVersion, ShowsEnded}
+use Rattle.histories.specs.Words.{Asking, clocked, LacksVersion, ShowsEnded}
 use Rattle.histories.proofs.EventSecrets.{is_200}
 use Rattle.histories.proofs.OrderCases.{some_ok, spent}
 use Rattle.histories.proofs.OrderKeeps.{wrapped_cases}

@@ -1,25 +1,12 @@
 -- Why a request that means a command is refused: by policies, by its identifiers, or by the command.
-use Rattle.std.specs.Prelude.{◌≡◌, ◌⊎◌, ◌||◌, Bool, true, false, not, nat_lt, Option, Some, None, Result, Ok, Err, ⊤}
-use Rattle.std.proofs.Common.{refl, sym, ◌∙◌, ap, inl, inr}
-use Rattle.broker_types.specs.Text.{Text}
-use Rattle.broker_types.specs.Map.{Map}
-use Rattle.broker_types.specs.Answer.{refused}
-use Rattle.broker_types.specs.Broker.{Broker, Mount}
-use Rattle.broker_types.specs.Names.{names_of}
-use Rattle.broker_types.specs.Refuse.{◌>>=◌, some_or, unless}
-use Rattle.broker_types.specs.RefuseLaws.{no_ok, ok_step, unless_ok}
-use Rattle.broker_types.specs.Used.{are_new}
+use Rattle.std.proofs.Common.{◌≡◌, ◌⊎◌, ◌||◌, Bool, true, false, not, nat_lt, Option, Some, None, Result, Ok, Err, refl}
+use Rattle.broker_model.specs.Words.{⊤, sym, ◌∙◌, ap, inl, inr, Text, Map, refused, Broker, Mount, names_of, ◌>>=◌}
+use Rattle.broker_model.specs.Words.{some_or, unless, no_ok, ok_step, unless_ok, are_new, Refusal, ok_inj, act, Command}
+use Rattle.broker_model.specs.Words.{command_of, Outcome, Wrapped, finish, needed, permission_denied, serve, wrapped}
+use Rattle.broker_model.specs.Words.{permits, Request, request_of, step, traits}
 use Rattle.broker_types.specs.declared.refusal.Reason.TheVariants as reason
-use Rattle.broker_types.specs.declared.refusal.Refusal.{Refusal}
 use Rattle.broker_types.specs.declared.refusal.Refusal.TheVariants as refusal
-use Rattle.records.specs.ValueLaws.{ok_inj}
-use Rattle.broker_model.specs.Act.{act}
-use Rattle.broker_model.specs.Command.{Command, command_of}
-use Rattle.broker_model.specs.Order.{Outcome, Wrapped, finish, needed, permission_denied, serve, wrapped}
-use Rattle.broker_model.specs.Permission.{permits}
-use Rattle.broker_model.specs.Request.{Request}
-use Rattle.broker_model.specs.Step.{request_of, step, traits}
-use Rattle.histories.specs.History.{Asking, clocked}
+use Rattle.histories.specs.Words.{Asking, clocked}
 use Rattle.histories.proofs.InOrder.{in_order}
 use Rattle.histories.proofs.OrderCases.{IsCaller, spent}
 use Rattle.histories.proofs.Requests.{spent_mounts}

@@ -1,42 +1,19 @@
 -- What a refused request leaves, and what policies decide.
-use Rattle.std.specs.Prelude.{◌≡◌, ◌≢◌, ◌≤◌, ◌||◌, ℕ, List, Bool, true, false, not, nat_lt, is_some, if◌then◌else◌}
-use Rattle.std.specs.Prelude.{Option, Some, None, Result, Ok, Err, ⊤}
-use Rattle.std.specs.Option.{option_map_or}
-use Rattle.std.proofs.Common.{refl, sym, ◌∙◌, ap, subst, inl, inr, arith}
-use Rattle.std.proofs.lemmas.Bool.{false≢true}
-use Rattle.std.proofs.lemmas.Option.{none-some}
-use Rattle.broker_types.specs.Text.{Text, same}
-use Rattle.broker_types.specs.Map.{Map, get}
-use Rattle.broker_types.specs.MapLaws.{valued_is}
-use Rattle.broker_types.specs.Answer.{IsRefused}
-use Rattle.broker_types.specs.Broker.{Broker, Mount, Waiting, at_moment}
-use Rattle.broker_types.specs.Names.{Names, names_of}
-use Rattle.broker_types.specs.Operation.{Answered, nothing, reply, kept_text, missing, Done}
-use Rattle.broker_types.specs.Refuse.{◌>>=◌, unless}
-use Rattle.broker_types.specs.RefuseLaws.{ok_step, unless_ok}
-use Rattle.broker_types.specs.Spending.{spend, drop_waiting, end_spent, one_less}
-use Rattle.broker_types.specs.Status.{status_code}
-use Rattle.broker_types.specs.Token.{Token}
-use Rattle.broker_types.specs.Used.{are_new, use_up}
-use Rattle.broker_types.specs.declared.ask.Ask.{Ask}
-use Rattle.broker_types.specs.declared.refusal.Refusal.{Refusal}
+use Rattle.std.proofs.Common.{◌≡◌, ◌≢◌, ◌≤◌, ◌||◌, if◌then◌else◌, ℕ, List, Bool, true, false, not, nat_lt, is_some, Ok}
+use Rattle.broker_model.specs.Words.{Option, Some, None, Result, Err, ⊤, option_map_or, refl, sym, ◌∙◌, ap, subst, inl}
+use Rattle.broker_model.specs.Words.{inr, arith, false≢true, none-some, Text, same, Map, get, valued_is, IsRefused}
+use Rattle.broker_model.specs.Words.{Broker, Mount, Waiting, at_moment, Names, names_of, Answered, nothing, reply}
+use Rattle.broker_model.specs.Words.{kept_text, missing, Done, ◌>>=◌, unless, ok_step, unless_ok, spend, drop_waiting}
+use Rattle.broker_model.specs.Words.{end_spent, one_less, status_code, Token, are_new, use_up, Ask, Refusal, Words}
+use Rattle.broker_model.specs.Words.{ok_inj, act, Command, on_wrapping, command_of, OperationsDoAsTold, Outcome}
+use Rattle.broker_model.specs.Words.{Wrapped, counted, denied, finish, for_caller, needed, permission_denied}
+use Rattle.broker_model.specs.Words.{response_to, serve, unwrapped, may_ask, permits, Request, operated, request_of}
+use Rattle.broker_model.specs.Words.{step, traits}
 use Rattle.broker_types.specs.declared.refusal.Refusal.TheVariants as refusal
 use Rattle.broker_types.specs.declared.refusal.Reason.TheVariants as reason
-use Rattle.broker_types.specs.declared.words.Words.{Words}
-use Rattle.records.specs.ValueLaws.{ok_inj}
-use Rattle.broker_model.specs.Act.{act}
-use Rattle.broker_model.specs.Command.{Command, on_wrapping, command_of}
-use Rattle.broker_model.specs.Laws.{OperationsDoAsTold}
-use Rattle.broker_model.specs.Order.{Outcome, Wrapped, counted, denied, finish, for_caller, needed}
-use Rattle.broker_model.specs.Order.{permission_denied, response_to, serve}
-use Rattle.broker_model.specs.Order.{unwrapped}
-use Rattle.broker_model.specs.Permission.{may_ask, permits}
-use Rattle.broker_model.specs.Request.{Request}
-use Rattle.broker_model.specs.ServedAsks.{operated}
-use Rattle.broker_model.specs.Step.{request_of, step, traits}
 use Rattle.broker_model.specs.declared.commands.WrappingCommand.TheVariants as response
-use Rattle.histories.specs.Refused.{Calls, ChangesNothingElse, HasNoCaller, HasResponse, IsDenial, PoliciesDecide}
-use Rattle.histories.specs.Refused.{RefusedChangeNothing, WrapNeedsTtl, is_granted}
+use Rattle.histories.specs.Words.{Calls, ChangesNothingElse, HasNoCaller, HasResponse, IsDenial, PoliciesDecide}
+use Rattle.histories.specs.Words.{RefusedChangeNothing, WrapNeedsTtl, is_granted}
 use Rattle.histories.proofs.InOrder.{in_order}
 use Rattle.histories.proofs.OrderCases.{IsCaller, spent, with_caller}
 use Rattle.histories.proofs.OrderKeeps.{wrapped_cases}

@@ -1,44 +1,20 @@
 -- What a renewal that was answered with 200 renewed.
-use Rattle.std.specs.Prelude.{◌≡◌, ◌≢◌, ◌+◌, ◌-◌, ◌==◌, ℕ, min, is_some, if◌then◌else◌}
-use Rattle.std.specs.Prelude.{Some, None, Ok, option_and_then, option_map}
-use Rattle.std.proofs.Common.{refl, sym, ◌∙◌, ap, subst, inl, inr, arith}
-use Rattle.std.proofs.lemmas.Bool.{ne_eqb}
-use Rattle.std.proofs.lemmas.Option.{none-some, same_Some}
-use Rattle.broker_types.specs.Text.{Text, same}
-use Rattle.broker_types.specs.TextLaws.{same_self}
-use Rattle.broker_types.specs.Map.{change, first_where, get}
-use Rattle.broker_types.specs.MapLaws.{get-change, valued_is}
-use Rattle.broker_types.specs.Broker.{Broker}
-use Rattle.broker_types.specs.Names.{names_of}
-use Rattle.broker_types.specs.Operation.{Done}
-use Rattle.broker_types.specs.OptionLaws.{found_or_not, is_there}
-use Rattle.broker_types.specs.IdentifierPlaces.{lease_of}
-use Rattle.broker_types.specs.Refuse.{unless}
-use Rattle.broker_types.specs.RefuseLaws.{no_ok, ok_step, unless_ok}
-use Rattle.broker_types.specs.SearchLaws.{first_where_is}
-use Rattle.broker_types.specs.Status.{status_code}
-use Rattle.broker_types.specs.Token.{Lease, Token, Tokens}
+use Rattle.std.proofs.Common.{◌≡◌, ◌≢◌, ◌+◌, ◌-◌, ◌==◌, if◌then◌else◌, ℕ, min, is_some, Some, None, Ok, option_and_then}
+use Rattle.broker_model.specs.Words.{option_map, refl, sym, ◌∙◌, ap, subst, inl, inr, arith, ne_eqb, none-some}
+use Rattle.broker_model.specs.Words.{same_Some, Text, same, same_self, change, first_where, get, get-change, valued_is}
+use Rattle.broker_model.specs.Words.{Broker, names_of, Done, found_or_not, is_there, lease_of, unless, no_ok, ok_step}
+use Rattle.broker_model.specs.Words.{unless_ok, first_where_is, status_code, Lease, Token, Tokens, has_lease}
+use Rattle.broker_model.specs.Words.{token_entry, ok_inj, auth_object, lease_reply, reply_text, on_lease, on_token}
+use Rattle.broker_model.specs.Words.{chained, OperationsDoAsTold, step, act_on_tokens, known, new_end, renew_token}
 use Rattle.broker_types.specs.declared.refusal.Reason.TheVariants as reason
 use Rattle.broker_types.specs.declared.refusal.Refusal.TheVariants as refusal
-use Rattle.records.specs.Rows.{has_lease}
-use Rattle.records.specs.TokenEntry.{token_entry}
-use Rattle.records.specs.ValueLaws.{ok_inj}
 use Rattle.leases.specs.Leases as leases
 use Rattle.token_tree.specs.Tokens as tree
-use Rattle.api_json.specs.Objects.{auth_object}
-use Rattle.api_json.specs.Reply.{lease_reply, reply_text}
-use Rattle.broker_model.specs.Command.{on_lease, on_token}
-use Rattle.broker_model.specs.EffectLaws.{chained}
-use Rattle.broker_model.specs.Laws.{OperationsDoAsTold}
-use Rattle.broker_model.specs.Step.{step}
 use Rattle.broker_model.specs.declared.commands.LeaseCommand.TheVariants as of_lease
-use Rattle.broker_model.specs.declared.commands.TokenCommand.{TokenCommand}
+use Rattle.histories.specs.Words.{TokenCommand, told_of, with_token, Asking, clocked, spent_by, IsRenewedLease}
+use Rattle.histories.specs.Words.{IsRenewedTo, RenewalOf, RenewsLease, RenewsToken, increment_of, TellsRenewed}
+use Rattle.histories.specs.Words.{TellsRenewedLease}
 use Rattle.broker_model.specs.declared.commands.TokenCommand.TheVariants as of_token
-use Rattle.broker_model.specs.parts.Tokens.{act_on_tokens, known, new_end, renew_token}
-use Rattle.histories.specs.Creations.{told_of, with_token}
-use Rattle.histories.specs.History.{Asking, clocked, spent_by}
-use Rattle.histories.specs.Own.{IsRenewedLease, IsRenewedTo, RenewalOf, RenewsLease, RenewsToken, increment_of}
-use Rattle.histories.specs.Shown.{TellsRenewed, TellsRenewedLease}
 use Rattle.histories.proofs.Clients.{from_clock}
 use Rattle.histories.proofs.Descent.{HasNewEnd, before_use, renewed_to}
 use Rattle.histories.proofs.Disabled.{token_left}

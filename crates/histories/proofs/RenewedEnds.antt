@@ -1,13 +1,7 @@
 -- The end of a token that is renewed is as documented.
-use Rattle.std.specs.Prelude.{◌≡◌, ◌≢◌, ◌+◌, ◌==◌, ℕ, min, Bool, true, if◌then◌else◌}
-use Rattle.std.proofs.Common.{sym, ◌∙◌, ap}
-use Rattle.std.proofs.lemmas.Bool.{ne_eqb}
-use Rattle.broker_types.specs.Limits.{longest_ttl}
-use Rattle.broker_types.specs.Token.{Token}
-use Rattle.records.specs.TokenEntry.{token_entry}
-use Rattle.broker_model.specs.parts.TokenCreation.{or_longest}
-use Rattle.broker_model.specs.parts.Tokens.{new_end, periodic_end, prolonged_end}
-use Rattle.histories.specs.Own.{IsNewEnd}
+use Rattle.std.proofs.Common.{◌≡◌, ◌≢◌, ◌+◌, ◌==◌, if◌then◌else◌, ℕ, min, Bool, true, sym, ◌∙◌, ap, ne_eqb}
+use Rattle.broker_model.specs.Words.{longest_ttl, Token, token_entry, or_longest, new_end, periodic_end, prolonged_end}
+use Rattle.histories.specs.Words.{IsNewEnd}
 
 module _ (now increment : ℕ) (x : Token) where
   -- how far ahead, of one that is not periodic, and of any

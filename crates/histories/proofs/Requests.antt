@@ -1,50 +1,21 @@
 -- What each request of a history keeps.
-use Rattle.std.specs.Prelude.{◌≡◌, ◌⊎◌, ℕ, zero, suc, List, [], ◌∷◌, Bool, true}
-use Rattle.std.specs.Prelude.{false, Option, Some, None, Result, Ok, Err}
-use Rattle.std.proofs.Common.{refl, sym, ◌∙◌, ap, subst}
-use Rattle.std.proofs.lemmas.Bool.{false≢true}
-use Rattle.std.proofs.lemmas.Option.{none-some, same_Some}
+use Rattle.std.proofs.Common.{◌≡◌, ◌⊎◌, ◌∷◌, ℕ, zero, suc, List, [], Bool, true, false, Option, Some, None, Result, Ok}
+use Rattle.broker_model.specs.Words.{Err, refl, sym, ◌∙◌, ap, subst, false≢true, none-some, same_Some, Text, Map}
+use Rattle.broker_model.specs.Words.{Response, Broker, Mount, Names, names_of, reply, Done, ◌>>=◌, ok_step, Sound, Ask}
+use Rattle.broker_model.specs.Words.{Refusal, Reply, Words, ok_inj, Route, route_of, Operation, WrappingOperation}
+use Rattle.broker_model.specs.Words.{body_members, plain_reply, reply_text, act, Command, on_cubbyhole, on_token}
+use Rattle.broker_model.specs.Words.{on_secret, on_policy, on_mount, on_lease, on_issued, on_wrapping, command_by}
+use Rattle.broker_model.specs.Words.{command_for, command_of, meant_by, forms, OperationsDoAsTold, Outcome, ordered}
+use Rattle.broker_model.specs.Words.{permits, are_proper, Request, ok, request_of, step, traits, unwrapped_ask, opens}
+use Rattle.broker_model.specs.Words.{token_meant, wrapping_command, act_on_wrappings}
 use Rattle.serde_json.specs.Data.{object}
 use Rattle.serde_json.specs.Written.{compact_text}
-use Rattle.broker_types.specs.Text.{Text}
-use Rattle.broker_types.specs.Map.{Map}
-use Rattle.broker_types.specs.Answer.{Response}
-use Rattle.broker_types.specs.Broker.{Broker, Mount}
-use Rattle.broker_types.specs.Names.{Names, names_of}
-use Rattle.broker_types.specs.Operation.{reply, Done}
-use Rattle.broker_types.specs.Refuse.{◌>>=◌}
-use Rattle.broker_types.specs.RefuseLaws.{ok_step}
-use Rattle.broker_types.specs.Sound.{Sound}
-use Rattle.broker_types.specs.declared.ask.Ask.{Ask}
-use Rattle.broker_types.specs.declared.refusal.Refusal.{Refusal}
-use Rattle.broker_types.specs.declared.reply.Reply.{Reply}
-use Rattle.broker_types.specs.declared.words.Words.{Words}
-use Rattle.records.specs.ValueLaws.{ok_inj}
-use Rattle.mounts.specs.Route.{Route, route_of}
-use Rattle.mounts.specs.declared.operation.Operation.{Operation}
 use Rattle.mounts.specs.declared.operation.Operation.TheVariants as operation
-use Rattle.mounts.specs.declared.operation.WrappingOperation.{WrappingOperation}
 use Rattle.mounts.specs.declared.operation.WrappingOperation.TheVariants as of_responses
-use Rattle.api_json.specs.Json.{body_members}
 use Rattle.api_json.specs.Readers as reader
-use Rattle.api_json.specs.Reply.{plain_reply, reply_text}
-use Rattle.broker_model.specs.Act.{act}
-use Rattle.broker_model.specs.Command.{Command, on_cubbyhole, on_token, on_secret, on_policy, on_mount, on_lease}
-use Rattle.broker_model.specs.Command.{on_issued, on_wrapping, command_by, command_for, command_of, meant_by}
-use Rattle.broker_model.specs.Forms.{forms}
-use Rattle.broker_model.specs.Laws.{OperationsDoAsTold}
-use Rattle.broker_model.specs.Order.{Outcome, ordered}
-use Rattle.broker_model.specs.Permission.{permits}
-use Rattle.broker_model.specs.ProperLaws.{are_proper}
-use Rattle.broker_model.specs.Request.{Request}
-use Rattle.broker_model.specs.Responses.{ok}
-use Rattle.broker_model.specs.Step.{request_of, step, traits, unwrapped_ask}
-use Rattle.broker_model.specs.declared.commands.WrappingCommand.{WrappingCommand}
+use Rattle.histories.specs.Words.{WrappingCommand, AreAsked, Asking, AskedAt, History, IsAsked, clocked, answer_by}
+use Rattle.histories.specs.Words.{object_text, unwrapped_answer, unwrapped_body}
 use Rattle.broker_model.specs.declared.commands.WrappingCommand.TheVariants as response
-use Rattle.broker_model.specs.parts.WrappingCommands.{opens, token_meant, wrapping_command}
-use Rattle.broker_model.specs.parts.Wrappings.{act_on_wrappings}
-use Rattle.histories.specs.History.{AreAsked, Asking, AskedAt, History, IsAsked, clocked}
-use Rattle.histories.specs.KeptResponses.{answer_by, object_text, unwrapped_answer, unwrapped_body}
 use Rattle.histories.proofs.Keeping.{EachKeeps, Keeps}
 use Rattle.histories.proofs.OrderCases.{IsServed, spent}
 use Rattle.histories.proofs.OrderKeeps.{request_keeps}

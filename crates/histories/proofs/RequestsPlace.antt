@@ -1,29 +1,14 @@
 -- Each request gives out all that is new in the places of the broker that it leaves.
-use Rattle.std.specs.Prelude.{◌≡◌, ◌⊎◌, [], ◌∷◌, Bool, Option, Ok, Result}
-use Rattle.std.proofs.Common.{refl, sym, subst, inl, inr}
-use Rattle.broker_types.specs.Text.{Text}
-use Rattle.broker_types.specs.Broker.{Broker}
-use Rattle.broker_types.specs.Names.{Names, names_of}
-use Rattle.broker_types.specs.Operation.{Done}
-use Rattle.broker_types.specs.Spending.{end_spent}
-use Rattle.broker_types.specs.TokenText.{token_text}
-use Rattle.broker_types.specs.declared.ask.Verb.{Verb}
-use Rattle.broker_types.specs.declared.refusal.Refusal.{Refusal}
-use Rattle.wrapping.specs.Wrapping.{with_waiting}
-use Rattle.broker_model.specs.Act.{act}
-use Rattle.broker_model.specs.Traits.{Traits}
-use Rattle.broker_model.specs.Laws.{OperationsDoAsTold}
-use Rattle.broker_model.specs.NewIdentifierLaws.{later_in}
-use Rattle.broker_model.specs.Order.{Outcome, Wrapped, counted, kept_entry, ordered, wrapped}
-use Rattle.broker_model.specs.Permission.{permits}
-use Rattle.broker_model.specs.Request.{Request}
-use Rattle.broker_model.specs.Step.{request_of, step, traits}
-use Rattle.histories.specs.History.{Asking, clocked}
+use Rattle.std.proofs.Common.{◌≡◌, ◌⊎◌, ◌∷◌, [], Bool, Option, Ok, Result, refl, sym, subst, inl, inr}
+use Rattle.broker_model.specs.Words.{Text, Broker, Names, names_of, Done, end_spent, token_text, Verb, Refusal}
+use Rattle.broker_model.specs.Words.{with_waiting, act, Traits, OperationsDoAsTold, later_in, Outcome, Wrapped, counted}
+use Rattle.broker_model.specs.Words.{kept_entry, ordered, wrapped, permits, Request, request_of, step, traits}
+use Rattle.histories.specs.Words.{Asking, clocked}
 use Rattle.histories.proofs.EffectsPlace.{Tells, accessor_in, placed_of, stored_placed, token_in}
 use Rattle.histories.proofs.OrderCases.{IsServed, IsTurnedAway, IsTurnedDown, order_cases, spent}
 use Rattle.histories.proofs.OrderKeeps.{IsWrapped, wrapped_cases}
-use Rattle.histories.proofs.Placed.{Placed, drop_placed, end_placed, placed_more}
-use Rattle.histories.proofs.Placed.{placed_self, placed_trans, same_maps, spent_placed}
+use Rattle.histories.proofs.Placed.{Placed, drop_placed, end_placed, placed_more, placed_self, placed_trans, same_maps}
+use Rattle.histories.proofs.Placed.{spent_placed}
 
 module _ {Command : Type 0} (permits : Broker → Option Text → Verb → Text → Bool) (traits : Command → Traits)
     (act : Broker → Option Text → Names → Command → Result Done Refusal) (now : Broker) (q : Request Command)

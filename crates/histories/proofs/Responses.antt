@@ -1,32 +1,14 @@
 -- What is done with a response that waits, whoever asks, is not refused.
-use Rattle.std.specs.Prelude.{◌≡◌, ◌⊎◌, true, false, Option, Some, None, Ok, option_map, ⊤}
-use Rattle.std.proofs.Common.{refl, ◌∙◌, ap, inl, inr}
-use Rattle.broker_types.specs.Text.{Text}
-use Rattle.broker_types.specs.Map.{Map, get}
-use Rattle.broker_types.specs.Answer.{Response}
-use Rattle.broker_types.specs.Broker.{Broker, Waiting}
-use Rattle.broker_types.specs.Names.{Names, names_of}
-use Rattle.broker_types.specs.Operation.{Done, plainly, reply}
-use Rattle.broker_types.specs.Refuse.{◌>>=◌, some_or}
-use Rattle.broker_types.specs.Used.{are_new}
+use Rattle.std.proofs.Common.{◌≡◌, ◌⊎◌, true, false, Option, Some, None, Ok, option_map, refl, ◌∙◌, ap, inl, inr}
+use Rattle.broker_model.specs.Words.{⊤, Text, Map, get, Response, Broker, Waiting, Names, names_of, Done, plainly}
+use Rattle.broker_model.specs.Words.{reply, ◌>>=◌, some_or, are_new, act, command_of, on_wrapping, finish, response_to}
+use Rattle.broker_model.specs.Words.{ok, is_open, operated, step, traits, is_wrap, FoundResponse, act_on_wrappings}
+use Rattle.broker_model.specs.Words.{found, found_under, handed_out, rewrapped, shown_response}
 use Rattle.broker_types.specs.declared.refusal.Reason.TheVariants as reason
 use Rattle.broker_types.specs.declared.refusal.Refusal.TheVariants as refusal
 use Rattle.broker_types.specs.declared.status.Status.TheVariants as status
-use Rattle.broker_model.specs.Act.{act}
-use Rattle.broker_model.specs.Command.{command_of, on_wrapping}
-use Rattle.broker_model.specs.Order.{finish, response_to}
-use Rattle.broker_model.specs.Responses.{ok}
-use Rattle.broker_model.specs.ServedAsks.{is_open, operated}
-use Rattle.broker_model.specs.Step.{step, traits}
-use Rattle.broker_model.specs.declared.commands.WrappingCommand.{WrappingCommand}
+use Rattle.histories.specs.Words.{WrappingCommand, AreNew, IsAllowed, Asking, clocked, spent_by, PoliciesDecide}
 use Rattle.broker_model.specs.declared.commands.WrappingCommand.TheVariants as command
-use Rattle.broker_model.specs.parts.WrappingCommands.{is_wrap}
-use Rattle.broker_model.specs.parts.Wrappings.{FoundResponse, act_on_wrappings, found, found_under, handed_out}
-use Rattle.broker_model.specs.parts.Wrappings.{rewrapped, shown_response}
-use Rattle.histories.specs.Allowed.{AreNew}
-use Rattle.histories.specs.Callers.{IsAllowed}
-use Rattle.histories.specs.History.{Asking, clocked, spent_by}
-use Rattle.histories.specs.Refused.{PoliciesDecide}
 use Rattle.histories.proofs.Carried.{answers, carried_for, carried_openly, never_wrapped}
 use Rattle.histories.proofs.Found.{both_new}
 

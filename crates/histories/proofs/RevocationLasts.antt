@@ -1,68 +1,31 @@
 -- What is revoked, and whatever else ended, does not come back.
-use Rattle.std.specs.Prelude.{◌≡◌, ◌≢◌, ◌<◌, ◌≤◌, ◌⊎◌, ◌||◌, ◌&&◌, not, nat_lt}
-use Rattle.std.specs.Prelude.{ℕ, max, List, [], ◌∷◌, Bool, true, false}
-use Rattle.std.specs.Prelude.{is_some, if◌then◌else◌, cond, Option, Some, None}
-use Rattle.std.specs.Prelude.{Result, Ok, Err, option_map, option_and_then}
-use Rattle.std.proofs.Common.{refl, sym, ◌∙◌, ap, subst, inl, inr, arith}
-use Rattle.std.proofs.lemmas.Bool.{false≢true, false_from_ne_true, ltb-true, ltb-false}
-use Rattle.std.proofs.lemmas.Option.{none-some, same_Some}
-use Rattle.broker_types.specs.Text.{Text, same}
-use Rattle.broker_types.specs.Map.{Map, get}
-use Rattle.broker_types.specs.MapLaws.{get-change, get-without, valued_is}
-use Rattle.broker_types.specs.Answer.{IsRefused, Response, refused}
+use Rattle.std.proofs.Common.{◌≡◌, ◌≢◌, ◌<◌, ◌≤◌, ◌⊎◌, ◌||◌, ◌&&◌, ◌∷◌, if◌then◌else◌, not, nat_lt, ℕ, max, List, []}
+use Rattle.broker_model.specs.Words.{Bool, true, false, is_some, cond, Option, Some, None, Result, Ok, Err, option_map}
+use Rattle.broker_model.specs.Words.{option_and_then, refl, sym, ◌∙◌, ap, subst, inl, inr, arith, false≢true}
+use Rattle.broker_model.specs.Words.{false_from_ne_true, ltb-true, ltb-false, none-some, same_Some, Text, same, Map}
+use Rattle.broker_model.specs.Words.{get, get-change, get-without, valued_is, IsRefused, Response, refused, Broker}
+use Rattle.broker_model.specs.Words.{Waiting, Evolves, HasEnded, tree_of, IsTree, Names, names_of, Answered, nothing}
+use Rattle.broker_model.specs.Words.{reply, kept_text, missing, Done, found_or_not, lease_of, token_identifier, ◌>>=◌}
+use Rattle.broker_model.specs.Words.{some_or, unless, at_moment_ends, at_moment_evolves, Sound, spend, drop_waiting}
+use Rattle.broker_model.specs.Words.{end_spent, one_less, status_code, Token, Lease, same_true, alive_is, alive_tree}
+use Rattle.broker_model.specs.Words.{left_outlasts, outlasting_is_left, under_tokens, values_tree, are_new, use_up}
+use Rattle.broker_model.specs.Words.{Refusal, no_ok, ok_step, ok_inj, act, Command, on_token, on_wrapping, command_of}
+use Rattle.broker_model.specs.Words.{forms, OperationsDoAsTold, Outcome, Wrapped, denied, finish, for_caller, needed}
+use Rattle.broker_model.specs.Words.{permission_denied, response_to, serve, unwrapped, wrapped, permits, Request, ok}
+use Rattle.broker_model.specs.Words.{no_content, is_open, request_of, step, traits, wrapping_names, act_on_tokens}
+use Rattle.broker_model.specs.Words.{holder, revoke_token, revoke_alone, FoundResponse, found, found_under, rewrapped}
+use Rattle.broker_model.specs.Words.{act_on_wrappings}
 use Rattle.broker_types.specs.Broker as broker
-use Rattle.broker_types.specs.Broker.{Broker, Waiting}
-use Rattle.broker_types.specs.Evolves.{Evolves, HasEnded}
-use Rattle.broker_types.specs.FewerLaws.{tree_of}
-use Rattle.broker_types.specs.Laws.{IsTree}
-use Rattle.broker_types.specs.Names.{Names, names_of}
-use Rattle.broker_types.specs.Operation.{Answered, nothing, reply, kept_text, missing, Done}
-use Rattle.broker_types.specs.OptionLaws.{found_or_not}
-use Rattle.broker_types.specs.IdentifierPlaces.{lease_of, token_identifier}
 use Rattle.broker_types.specs.IdentifierPlaces as place
-use Rattle.broker_types.specs.Refuse.{◌>>=◌, some_or, unless}
-use Rattle.broker_types.specs.RemovalLaws.{at_moment_ends, at_moment_evolves}
-use Rattle.broker_types.specs.Sound.{Sound}
-use Rattle.broker_types.specs.Spending.{spend, drop_waiting, end_spent, one_less}
-use Rattle.broker_types.specs.Status.{status_code}
-use Rattle.broker_types.specs.Token.{Token, Lease}
-use Rattle.broker_types.specs.TextLaws.{same_true}
-use Rattle.broker_types.specs.TreeLaws.{alive_is, alive_tree, left_outlasts}
-use Rattle.broker_types.specs.TreeLaws.{outlasting_is_left, under_tokens, values_tree}
-use Rattle.broker_types.specs.Used.{are_new, use_up}
-use Rattle.broker_types.specs.declared.refusal.Refusal.{Refusal}
 use Rattle.broker_types.specs.declared.refusal.Refusal.TheVariants as refusal
 use Rattle.broker_types.specs.declared.refusal.Reason.TheVariants as reason
 use Rattle.broker_types.specs.declared.status.Status.TheVariants as status
-use Rattle.broker_types.specs.RefuseLaws.{no_ok, ok_step}
-use Rattle.records.specs.ValueLaws.{ok_inj}
-use Rattle.broker_model.specs.Act.{act}
-use Rattle.broker_model.specs.Command.{Command, on_token}
-use Rattle.broker_model.specs.Command.{on_wrapping, command_of}
-use Rattle.broker_model.specs.Forms.{forms}
-use Rattle.broker_model.specs.Laws.{OperationsDoAsTold}
-use Rattle.broker_model.specs.Order.{Outcome, Wrapped, denied, finish, for_caller}
-use Rattle.broker_model.specs.Order.{needed, permission_denied, response_to}
-use Rattle.broker_model.specs.Order.{serve, unwrapped, wrapped}
-use Rattle.broker_model.specs.Permission.{permits}
-use Rattle.broker_model.specs.Request.{Request}
-use Rattle.broker_model.specs.Responses.{ok, no_content}
-use Rattle.broker_model.specs.ServedAsks.{is_open}
-use Rattle.broker_model.specs.Step.{request_of, step, traits}
-use Rattle.broker_model.specs.Traits.{wrapping_names}
-use Rattle.broker_model.specs.declared.commands.TokenCommand.{TokenCommand}
+use Rattle.histories.specs.Words.{TokenCommand, WrappingCommand, AreAsked, Asking, AskedAt, History, clocked, spent_by}
+use Rattle.histories.specs.Words.{unwrapped_body, EndsToken, FindsNone, IsDue, IsGone, IsGranted, Revocation, Revokes}
+use Rattle.histories.specs.Words.{RevokesAlone, with_later_leases, is_orphaning, is_revocation, named_by, orphaning_by}
+use Rattle.histories.specs.Words.{orphaning_of, revoked_by, revoked_of, taken_as}
 use Rattle.broker_model.specs.declared.commands.TokenCommand.TheVariants as token
-use Rattle.broker_model.specs.declared.commands.WrappingCommand.{WrappingCommand}
 use Rattle.broker_model.specs.declared.commands.WrappingCommand.TheVariants as response
-use Rattle.broker_model.specs.parts.Tokens.{act_on_tokens, holder, revoke_token, revoke_alone}
-use Rattle.broker_model.specs.parts.Wrappings.{FoundResponse, found, found_under, rewrapped, act_on_wrappings}
-use Rattle.histories.specs.History.{AreAsked, Asking, AskedAt, History, clocked, spent_by}
-use Rattle.histories.specs.KeptResponses.{unwrapped_body}
-use Rattle.histories.specs.Revocation.{EndsToken, FindsNone, IsDue, IsGone}
-use Rattle.histories.specs.Revocation.{IsGranted, Revocation, Revokes, RevokesAlone}
-use Rattle.histories.specs.Revocation.{with_later_leases}
-use Rattle.histories.specs.Revocation.{is_orphaning, is_revocation, named_by, orphaning_by}
-use Rattle.histories.specs.Revocation.{orphaning_of, revoked_by, revoked_of, taken_as}
 use Rattle.histories.proofs.Clients.{course}
 use Rattle.histories.proofs.Descent.{descends}
 use Rattle.histories.proofs.Ending.{IsLeaseGone, ended_lasts, gone_has_ended, lease_lasts, leases_are_gone}
@@ -72,8 +35,8 @@ use Rattle.histories.proofs.LeasesDue.{lease_stays_out}
 use Rattle.histories.proofs.OrderCases.{IsCaller, some_ok, spent, with_caller}
 use Rattle.histories.proofs.OrderKeeps.{end_spent_waiting, wrapped_cases}
 use Rattle.histories.proofs.Requests.{asked_at, history_keeps, means_at_clock}
-use Rattle.histories.proofs.Revoking.{below_are_gone, below_are_left, children_are_orphans}
-use Rattle.histories.proofs.Revoking.{orphaned_is_gone, others_are_left, others_stay, revoked_are_gone}
+use Rattle.histories.proofs.Revoking.{below_are_gone, below_are_left, children_are_orphans, orphaned_is_gone}
+use Rattle.histories.proofs.Revoking.{others_are_left, others_stay, revoked_are_gone}
 use Rattle.histories.proofs.Served.{Served, nothing_is_no_reply, refused_or_served, served}
 
 -- ---- a 204

@@ -1,27 +1,16 @@
 -- Laws of what a revocation leaves.
-use Rattle.std.specs.Prelude.{◌≡◌, ◌≢◌, ◌&&◌, ◌||◌, ◌⊎◌, ℕ, zero, suc, ◌∷◌, Bool, true, false, not, cond, if◌then◌else◌}
-use Rattle.std.specs.Prelude.{Option, Some, None, is_none, option_and_then, List, [], ◌==◌}
-use Rattle.std.specs.List.{AllByRecursion, IsDistinct, list_any}
-use Rattle.std.specs.Option.{option_map_or}
-use Rattle.std.proofs.Common.{refl, sym, ◌∙◌, ap, subst, inl, inr}
-use Rattle.std.proofs.lemmas.Bool.{and_parts, false≢true, false_from_ne_true}
-use Rattle.std.proofs.lemmas.Option.{none-some, same_Some}
-use Rattle.broker_types.specs.Text.{Text, same}
-use Rattle.broker_types.specs.Map.{get, len}
-use Rattle.broker_types.specs.Token.{Token, Tokens}
-use Rattle.broker_types.specs.Lineage.{ChainsEnd, climb, ends_within, is_under, lineage, without_descendants}
-use Rattle.broker_types.specs.Lineage.{without_parent}
-use Rattle.broker_types.specs.LineageLaws.{climb_above, climb_at, climb_enough, ends_above, ends_at, get-revoke}
-use Rattle.broker_types.specs.LineageLaws.{climb_distinct, is_under_trans, revoke_other, revoke_under}
-use Rattle.broker_types.specs.Laws.{IsTree}
-use Rattle.broker_types.specs.Broker.{Broker, revoke}
-use Rattle.broker_types.specs.OptionLaws.{found_or_not}
-use Rattle.broker_types.specs.Spending.{end_spent, is_spent}
-use Rattle.broker_types.specs.TextLaws.{same_self, same_true}
-use Rattle.broker_types.specs.TreeLaws.{lineage_child, lineage_orphan, orphan_child, orphan_gone, orphan_none}
-use Rattle.broker_types.specs.TreeLaws.{orphan_tree, orphan_unrelated, orphaned_is}
-use Rattle.broker_types.specs.TreeLaws.{revoke_tree, under_self, under_tokens}
-use Rattle.histories.specs.Revocation.{EndsWithCaller, has_no_use, left_by_caller}
+use Rattle.std.proofs.Common.{◌≡◌, ◌≢◌, ◌&&◌, ◌||◌, ◌⊎◌, ◌∷◌, if◌then◌else◌, ◌==◌, ℕ, zero, suc, Bool, true, false, not}
+use Rattle.broker_model.specs.Words.{cond, Option, Some, None, is_none, option_and_then, List, [], AllByRecursion}
+use Rattle.broker_model.specs.Words.{IsDistinct, list_any, option_map_or, refl, sym, ◌∙◌, ap, subst, inl, inr}
+use Rattle.broker_model.specs.Words.{and_parts, false≢true, false_from_ne_true, none-some, same_Some, Text, same, get}
+use Rattle.broker_model.specs.Words.{len, Token, Tokens, ChainsEnd, climb, ends_within, is_under, lineage}
+use Rattle.broker_model.specs.Words.{without_descendants, without_parent, climb_above, climb_at, climb_enough}
+use Rattle.broker_model.specs.Words.{ends_above, ends_at, get-revoke, climb_distinct, is_under_trans, revoke_other}
+use Rattle.broker_model.specs.Words.{IsTree, Broker, revoke, found_or_not, end_spent, is_spent, same_self, same_true}
+use Rattle.broker_model.specs.Words.{lineage_child, lineage_orphan, orphan_child, orphan_gone, orphan_none, orphan_tree}
+use Rattle.broker_model.specs.Words.{orphan_unrelated, orphaned_is, revoke_tree, under_self, under_tokens}
+use Rattle.broker_types.specs.LineageLaws.{revoke_under}
+use Rattle.histories.specs.Words.{EndsWithCaller, has_no_use, left_by_caller}
 
 -- ---- lineages of what is left
 

@@ -1,50 +1,27 @@
 -- What POST and PUT of fixed paths mean, and a request that may need no caller.
-use Rattle.std.specs.Prelude.{◌≡◌, ◌||◌, ◌&&◌, ◌++◌, ◌∷◌, ℕ, List, [], Bool}
-use Rattle.std.specs.Prelude.{true, false, not, Option, Some, None, option_map}
-use Rattle.std.specs.Prelude.{Result, Ok, codes}
-use Rattle.std.specs.List.{list_all}
-use Rattle.std.specs.Option.{option_map_or}
-use Rattle.std.proofs.Common.{refl, sym, ◌∙◌, ap}
-use Rattle.std.proofs.lemmas.Bool.{and_parts}
-use Rattle.std.proofs.lemmas.Option.{none-some}
-use Rattle.broker_types.specs.Map.{Map, get}
-use Rattle.broker_types.specs.Broker.{Mount}
-use Rattle.broker_types.specs.Refuse.{◌>>=◌, some_or}
-use Rattle.broker_types.specs.Text.{Text, same}
-use Rattle.broker_types.specs.TextLaws.{same_true}
-use Rattle.broker_types.specs.declared.ask.Verb.{Verb}
+use Rattle.std.proofs.Common.{◌≡◌, ◌||◌, ◌&&◌, ◌++◌, ◌∷◌, ℕ, List, [], Bool, true, false, not, Option, Some, None, Ok}
+use Rattle.broker_model.specs.Words.{option_map, Result, codes, list_all, option_map_or, refl, sym, ◌∙◌, ap, and_parts}
+use Rattle.broker_model.specs.Words.{none-some, Map, get, Mount, ◌>>=◌, some_or, Text, same, same_true, Verb, Refusal}
+use Rattle.broker_model.specs.Words.{or_else, form_of, has_form, are_bytes, parameter, found_alone, is_or_apart, row_of}
+use Rattle.broker_model.specs.Words.{AreInOrder, FoundByForm, NoneFoundByForm, has_pattern, Route, cut, methods_of}
+use Rattle.broker_model.specs.Words.{operation_at, operation_for, route_at, route_by, route_of, within, RouteRow, facts}
+use Rattle.broker_model.specs.Words.{route_rows, fixed_type, type_at, type_of, MountType, Never, Always, WithItsOwn}
+use Rattle.broker_model.specs.Words.{Operation, Cubbyholes, Leases, Wrappings, Command, command_for, on_token}
 use Rattle.broker_types.specs.declared.ask.Verb.TheVariants as verb
-use Rattle.broker_types.specs.declared.refusal.Refusal.{Refusal}
 use Rattle.broker_types.specs.declared.refusal.Refusal.TheVariants as refusal
-use Rattle.records.specs.Rows.{or_else}
-use Rattle.mounts.specs.Forms.{form_of, has_form, are_bytes, parameter}
-use Rattle.mounts.specs.FoundLaws.{found_alone, is_or_apart, row_of}
-use Rattle.mounts.specs.Laws.{AreInOrder, FoundByForm, NoneFoundByForm}
-use Rattle.mounts.specs.Patterns.{has_pattern}
-use Rattle.mounts.specs.Route.{Route, cut, methods_of, operation_at, operation_for}
-use Rattle.mounts.specs.Route.{route_at, route_by, route_of, within}
-use Rattle.mounts.specs.RouteRow.{RouteRow}
-use Rattle.mounts.specs.RouteTable.{facts, route_rows}
-use Rattle.mounts.specs.Types.{fixed_type, type_at, type_of}
-use Rattle.mounts.specs.declared.mount_type.MountType.{MountType}
 use Rattle.mounts.specs.declared.mount_type.MountType.TheVariants as mount
 use Rattle.mounts.specs.declared.operation.CubbyholeOperation.TheVariants as of_cubbyholes
 use Rattle.mounts.specs.declared.operation.LeaseOperation.TheVariants as of_leases
-use Rattle.mounts.specs.declared.operation.Opens.TheVariants.{Never, Always, WithItsOwn}
-use Rattle.mounts.specs.declared.operation.Operation.{Operation}
-use Rattle.mounts.specs.declared.operation.Operation.TheVariants.{Cubbyholes, Leases, Tokens, Wrappings}
+use Rattle.mounts.specs.declared.operation.Operation.TheVariants.{Tokens}
 use Rattle.mounts.specs.declared.operation.TokenOperation.TheVariants as of_tokens
 use Rattle.mounts.specs.declared.operation.WrappingOperation.TheVariants as of_responses
 use Rattle.api_json.specs.Readers as reader
-use Rattle.broker_model.specs.Command.{Command, command_for, on_token}
 use Rattle.broker_model.specs.declared.commands.CubbyholeCommand.TheVariants as cubbyhole
 use Rattle.broker_model.specs.declared.commands.LeaseCommand.TheVariants as lease
 use Rattle.broker_model.specs.declared.commands.TokenCommand.TheVariants as token
 use Rattle.broker_model.specs.declared.commands.WrappingCommand.TheVariants as response
-use Rattle.broker_model.specs.declared.making.Making.TheVariants.{OfCaller, WithoutParent}
-use Rattle.histories.specs.LeasePaths.{AskedMeans}
-use Rattle.histories.specs.Paths.{PathsMeanCommands, WrittenMeans, on_found}
-use Rattle.histories.specs.Paths.{on_found_lease, on_named, on_none, on_object, on_path}
+use Rattle.histories.specs.Words.{OfCaller, WithoutParent, AskedMeans, PathsMeanCommands, WrittenMeans, on_found}
+use Rattle.histories.specs.Words.{on_found_lease, on_named, on_none, on_object, on_path}
 
 -- ---- a pattern that alone has the form of a path
 

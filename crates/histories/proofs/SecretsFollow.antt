@@ -1,65 +1,33 @@
 -- What becomes of each secret by a request: versions follow the writes, deletions and destructions that were asked for.
-use Rattle.std.specs.Prelude.{◌≡◌, ◌≢◌, ◌⊎◌, ◌<◌, ◌≤◌, ◌+◌, ◌-◌, ◌==◌, ◌||◌, ℕ, zero}
-use Rattle.std.specs.Prelude.{suc, List, [], ◌∷◌, Bool, true, false, not, cond}
-use Rattle.std.specs.Prelude.{if◌then◌else◌, Contains, is_none, is_some, nat_eq, Option, Some, None, Ok, option_map, ⊤}
+use Rattle.std.proofs.Common.{◌≡◌, ◌≢◌, ◌⊎◌, ◌<◌, ◌≤◌, ◌+◌, ◌-◌, ◌==◌, ◌||◌, ◌∷◌, if◌then◌else◌, ℕ, zero, suc, List, []}
+use Rattle.broker_model.specs.Words.{Bool, true, false, not, cond, Contains, is_none, is_some, nat_eq, Option, Some}
+use Rattle.broker_model.specs.Words.{None, Ok, option_map, ⊤, starts_with, refl, sym, ◌∙◌, ap, subst, inl, inr, arith}
+use Rattle.broker_model.specs.Words.{eq-eqb, eqb-true, false≢true, le-ltb, lt-ltb, ne_eqb, not-false, or_parts}
+use Rattle.broker_model.specs.Words.{none-some, Text, same, same_true, passing, Map, get, keep, change, put, without}
+use Rattle.broker_model.specs.Words.{get-change, get-keep, get-put, get-without, Broker, Mount, Names, names_of}
+use Rattle.broker_model.specs.Words.{nothing, reply, Done, some_or, unless, no_ok, ok_step, Key, Version, spend, Reply}
+use Rattle.broker_model.specs.Words.{ok_inj, Written, secret_name, write_is, get-change_versions, next_versions}
+use Rattle.broker_model.specs.Words.{nat_cmp, Settings, checked, check_and_set, described, destroyed, is_among}
+use Rattle.broker_model.specs.Words.{key_or_new, new_version, restored, soft_deleted, version_of, versions_kept}
+use Rattle.broker_model.specs.Words.{with_changed, with_version, disabled, KeySettings, SecretWrite, act, Command}
+use Rattle.broker_model.specs.Words.{command_of, on_cubbyhole, on_issued, on_lease, on_mount, on_policy, on_secret}
+use Rattle.broker_model.specs.Words.{on_token, on_wrapping, SameUnless, OperationsDoAsTold, step, traits, may_change}
+use Rattle.broker_model.specs.Words.{are_none, act_on_mounts, without_kept, Place, act_on_secrets, given_settings}
 use Rattle.std.specs.FinMap as fin
-use Rattle.std.specs.List.{starts_with}
-use Rattle.std.proofs.Common.{refl, sym, ◌∙◌, ap, subst, inl, inr, arith}
-use Rattle.std.proofs.lemmas.Bool.{eq-eqb, eqb-true, false≢true, le-ltb, lt-ltb, ne_eqb, not-false, or_parts}
-use Rattle.std.proofs.lemmas.Option.{none-some}
-use Rattle.broker_types.specs.Text.{Text, same}
-use Rattle.broker_types.specs.TextLaws.{same_true}
-use Rattle.broker_types.specs.ListLaws.{passing}
-use Rattle.broker_types.specs.Map.{Map, get, keep, change, put, without}
-use Rattle.broker_types.specs.MapLaws.{get-change, get-keep, get-put, get-without}
-use Rattle.broker_types.specs.Broker.{Broker, Mount}
-use Rattle.broker_types.specs.Names.{Names, names_of}
-use Rattle.broker_types.specs.Operation.{nothing, reply, Done}
-use Rattle.broker_types.specs.Refuse.{some_or, unless}
-use Rattle.broker_types.specs.RefuseLaws.{no_ok, ok_step}
-use Rattle.broker_types.specs.Secret.{Key, Version}
-use Rattle.broker_types.specs.Spending.{spend}
 use Rattle.broker_types.specs.declared.refusal.Refusal.TheVariants as refusal
 use Rattle.broker_types.specs.declared.refusal.Reason.TheVariants as reason
-use Rattle.broker_types.specs.declared.reply.Reply.{Reply}
-use Rattle.records.specs.ValueLaws.{ok_inj}
 use Rattle.records.specs.declared.kind.Kind.TheVariants as kind
 use Rattle.kv2.specs.Secrets as secrets
-use Rattle.kv2.specs.Secrets.{Written, secret_name}
-use Rattle.kv2.specs.SoundLaws.{write_is}
-use Rattle.kv2.specs.VersionLaws.{get-change_versions, next_versions}
-use Rattle.std.specs.Ordering.{nat_cmp}
-use Rattle.kv2.specs.Versions.{Settings, checked, check_and_set, described, destroyed}
-use Rattle.kv2.specs.Versions.{is_among, key_or_new, new_version, restored}
-use Rattle.kv2.specs.Versions.{soft_deleted, version_of, versions_kept, with_changed, with_version}
-use Rattle.mounts.specs.Mounts.{disabled}
-use Rattle.api_json.specs.declared.secret_bodies.KeySettings.{KeySettings}
-use Rattle.api_json.specs.declared.secret_bodies.SecretWrite.{SecretWrite}
-use Rattle.broker_model.specs.Act.{act}
-use Rattle.broker_model.specs.Command.{Command, command_of, on_cubbyhole, on_issued}
-use Rattle.broker_model.specs.Command.{on_lease, on_mount, on_policy, on_secret, on_token}
-use Rattle.broker_model.specs.Command.{on_wrapping}
-use Rattle.broker_model.specs.Effects.{SameUnless}
-use Rattle.broker_model.specs.Laws.{OperationsDoAsTold}
-use Rattle.broker_model.specs.Step.{step, traits}
-use Rattle.broker_model.specs.Traits.{may_change}
 use Rattle.broker_model.specs.declared.commands.CubbyholeCommand.TheVariants as of_cubbyhole
 use Rattle.broker_model.specs.declared.commands.IssuedCommand.TheVariants as of_issued
 use Rattle.broker_model.specs.declared.commands.LeaseCommand.TheVariants as of_lease
 use Rattle.broker_model.specs.declared.commands.MountCommand.TheVariants as of_mount
 use Rattle.broker_model.specs.declared.commands.PolicyCommand.TheVariants as of_policy
-use Rattle.broker_model.specs.declared.commands.SecretCommand.{SecretCommand}
+use Rattle.histories.specs.Words.{SecretCommand, Asking, clocked, AreKept, Commands, Comes, Deletes, SecretGoes}
+use Rattle.histories.specs.Words.{IsWritten, SecretStands, StandsUnwritten, VersionStands, Writes}
 use Rattle.broker_model.specs.declared.commands.SecretCommand.TheVariants as secret
 use Rattle.broker_model.specs.declared.commands.TokenCommand.TheVariants as of_token
 use Rattle.broker_model.specs.declared.commands.WrappingCommand.TheVariants as of_response
-use Rattle.broker_model.specs.parts.Lists.{are_none}
-use Rattle.broker_model.specs.parts.Mounts.{act_on_mounts, without_kept}
-use Rattle.broker_model.specs.parts.Place.{Place}
-use Rattle.broker_model.specs.parts.Secrets.{act_on_secrets, given_settings}
-use Rattle.histories.specs.History.{Asking, clocked}
-use Rattle.histories.specs.Versions.{AreKept, Commands, Comes, Deletes, SecretGoes, IsWritten, SecretStands}
-use Rattle.histories.specs.Versions.{StandsUnwritten}
-use Rattle.histories.specs.Versions.{VersionStands, Writes}
 use Rattle.histories.proofs.EventSecrets.{is_200, is_204, same_or_served, served_left, spent_same}
 use Rattle.histories.proofs.OrderCases.{spent}
 use Rattle.histories.proofs.Requests.{means_at_clock}

@@ -1,48 +1,20 @@
 -- What becomes of the versions of each secret by a request.
-use Rattle.std.specs.Prelude.{◌≡◌, ◌==◌, ◌||◌, not, nat_lt, ℕ, List, true, if◌then◌else◌}
-use Rattle.std.specs.Prelude.{Option, Some, None, Result, Ok, Err}
+use Rattle.std.proofs.Common.{◌≡◌, ◌==◌, ◌||◌, if◌then◌else◌, not, nat_lt, ℕ, List, true, Option, Some, None, Result}
+use Rattle.broker_model.specs.Words.{Ok, Err, refl, sym, ◌∙◌, ap, subst, arith, eq-eqb, any_contained, Text, same}
+use Rattle.broker_model.specs.Words.{same_self, Map, get, valued_is, Broker, Names, names_of, Done, nothing, plainly}
+use Rattle.broker_model.specs.Words.{mapped, unless, no_ok, ok_step, Key, Version, Sound, end_spent, status_code}
+use Rattle.broker_model.specs.Words.{are_new, Refusal, ok_inj, secret_name, get-change_versions, destroyed, is_among}
+use Rattle.broker_model.specs.Words.{with_changed, act, Command, on_secret, command_of, secrets_same, AllGiven}
+use Rattle.broker_model.specs.Words.{SecretsStay, forms, OperationsDoAsTold, Outcome, Wrapped, counted, finish, needed}
+use Rattle.broker_model.specs.Words.{permission_denied, serve, wrapped, permits, Request, request_of, step, traits}
+use Rattle.broker_model.specs.Words.{Place}
 use Rattle.std.specs.FinMap as fin
-use Rattle.std.proofs.Common.{refl, sym, ◌∙◌, ap, subst, arith}
-use Rattle.std.proofs.lemmas.Bool.{eq-eqb}
-use Rattle.broker_types.specs.ListLaws.{any_contained}
-use Rattle.broker_types.specs.Text.{Text, same}
-use Rattle.broker_types.specs.TextLaws.{same_self}
-use Rattle.broker_types.specs.Map.{Map, get}
-use Rattle.broker_types.specs.MapLaws.{valued_is}
-use Rattle.broker_types.specs.Broker.{Broker}
-use Rattle.broker_types.specs.Names.{Names, names_of}
-use Rattle.broker_types.specs.Operation.{Done, nothing, plainly}
-use Rattle.broker_types.specs.OptionLaws.{mapped}
-use Rattle.broker_types.specs.Refuse.{unless}
-use Rattle.broker_types.specs.RefuseLaws.{no_ok, ok_step}
-use Rattle.broker_types.specs.Secret.{Key, Version}
-use Rattle.broker_types.specs.Sound.{Sound}
-use Rattle.broker_types.specs.Spending.{end_spent}
-use Rattle.broker_types.specs.Status.{status_code}
-use Rattle.broker_types.specs.Used.{are_new}
-use Rattle.broker_types.specs.declared.refusal.Refusal.{Refusal}
 use Rattle.broker_types.specs.declared.refusal.Refusal.TheVariants as refusal
 use Rattle.broker_types.specs.declared.refusal.Reason.TheVariants as reason
 use Rattle.broker_types.specs.declared.status.Status.TheVariants as status
-use Rattle.records.specs.ValueLaws.{ok_inj}
 use Rattle.kv2.specs.Secrets as secrets
-use Rattle.kv2.specs.Secrets.{secret_name}
-use Rattle.kv2.specs.VersionLaws.{get-change_versions}
-use Rattle.kv2.specs.Versions.{destroyed, is_among, with_changed}
-use Rattle.broker_model.specs.Act.{act}
-use Rattle.broker_model.specs.Command.{Command, on_secret, command_of}
-use Rattle.broker_model.specs.EffectLaws.{secrets_same}
-use Rattle.broker_model.specs.Effects.{AllGiven, SecretsStay}
-use Rattle.broker_model.specs.Forms.{forms}
-use Rattle.broker_model.specs.Laws.{OperationsDoAsTold}
-use Rattle.broker_model.specs.Order.{Outcome, Wrapped, counted, finish, needed, permission_denied, serve, wrapped}
-use Rattle.broker_model.specs.Permission.{permits}
-use Rattle.broker_model.specs.Request.{Request}
-use Rattle.broker_model.specs.Step.{request_of, step, traits}
 use Rattle.broker_model.specs.declared.commands.SecretCommand.TheVariants as command
-use Rattle.broker_model.specs.parts.Place.{Place}
-use Rattle.histories.specs.History.{Asking, clocked}
-use Rattle.histories.specs.SecretsStay.{AllSecretsStay}
+use Rattle.histories.specs.Words.{Asking, clocked, AllSecretsStay}
 use Rattle.histories.proofs.EventSecrets.{end_same, spent_same, wrapped_same}
 use Rattle.histories.proofs.InOrder.{in_order}
 use Rattle.histories.proofs.OrderCases.{spent}

@@ -1,19 +1,9 @@
 -- A request whose answer is no refusal was served.
-use Rattle.std.specs.Prelude.{◌≡◌, ◌<◌, ◌≤◌, ◌⊎◌, ℕ, Option}
-use Rattle.std.proofs.Common.{sym, ◌∙◌, ap, subst, inl, inr, arith}
-use Rattle.broker_types.specs.Answer.{IsRefused, refused}
-use Rattle.broker_types.specs.Names.{names_of}
-use Rattle.broker_types.specs.Operation.{Answered, nothing, reply}
-use Rattle.broker_types.specs.Status.{status_code}
-use Rattle.broker_types.specs.Text.{Text}
-use Rattle.broker_types.specs.declared.refusal.Refusal.{Refusal}
-use Rattle.broker_types.specs.declared.reply.Reply.{Reply}
+use Rattle.std.proofs.Common.{◌≡◌, ◌<◌, ◌≤◌, ◌⊎◌, ℕ, Option, sym, ◌∙◌, ap, subst, inl, inr, arith}
+use Rattle.broker_model.specs.Words.{IsRefused, refused, names_of, Answered, nothing, reply, status_code, Text, Refusal}
+use Rattle.broker_model.specs.Words.{Reply, act, Outcome, permission_denied, permits, request_of, step, traits}
 use Rattle.broker_types.specs.declared.refusal.Refusal.TheVariants as refusal
-use Rattle.broker_model.specs.Act.{act}
-use Rattle.broker_model.specs.Order.{Outcome, permission_denied}
-use Rattle.broker_model.specs.Permission.{permits}
-use Rattle.broker_model.specs.Step.{request_of, step, traits}
-use Rattle.histories.specs.History.{Asking, clocked}
+use Rattle.histories.specs.Words.{Asking, clocked}
 use Rattle.histories.proofs.OrderCases.{IsServed, IsTurnedAway, IsTurnedDown, order_cases}
 
 -- the code of its answer

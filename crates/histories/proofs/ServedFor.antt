@@ -1,24 +1,9 @@
 -- A request that was served for its client token, and what it leaves of tokens.
-use Rattle.std.specs.Prelude.{◌≡◌, is_some, if◌then◌else◌, Option, Some, None, Ok}
-use Rattle.std.proofs.Common.{sym, ◌∙◌, ap, subst, inl, inr}
-use Rattle.std.proofs.lemmas.Bool.{false≢true}
-use Rattle.broker_types.specs.Text.{Text, same}
-use Rattle.broker_types.specs.Map.{get}
-use Rattle.broker_types.specs.MapLaws.{valued_none}
-use Rattle.broker_types.specs.Broker.{Broker}
-use Rattle.broker_types.specs.Names.{Names, names_of}
-use Rattle.broker_types.specs.Operation.{Done}
-use Rattle.broker_types.specs.OptionLaws.{found_or_not}
-use Rattle.broker_types.specs.Spending.{end_spent, one_less}
-use Rattle.broker_types.specs.Token.{Token, Tokens}
-use Rattle.records.specs.ValueLaws.{ok_inj}
-use Rattle.broker_model.specs.Act.{act}
-use Rattle.broker_model.specs.Command.{Command, command_of}
-use Rattle.broker_model.specs.Order.{Outcome, Wrapped, counted, wrapped}
-use Rattle.broker_model.specs.Permission.{permits}
-use Rattle.broker_model.specs.Step.{request_of, traits}
-use Rattle.histories.specs.History.{Asking, clocked, spent_by}
-use Rattle.histories.specs.Revocation.{IsClient, left_by_caller}
+use Rattle.std.proofs.Common.{◌≡◌, if◌then◌else◌, is_some, Option, Some, None, Ok, sym, ◌∙◌, ap, subst, inl, inr}
+use Rattle.broker_model.specs.Words.{false≢true, Text, same, get, valued_none, Broker, Names, names_of, Done}
+use Rattle.broker_model.specs.Words.{found_or_not, end_spent, one_less, Token, Tokens, ok_inj, act, Command, command_of}
+use Rattle.broker_model.specs.Words.{Outcome, Wrapped, counted, wrapped, permits, request_of, traits}
+use Rattle.histories.specs.Words.{Asking, clocked, spent_by, IsClient, left_by_caller}
 use Rattle.histories.proofs.OrderCases.{IsCaller, spent}
 use Rattle.histories.proofs.OrderKeeps.{wrapped_cases}
 use Rattle.histories.proofs.Requests.{means_at_clock}

@@ -1,60 +1,35 @@
 -- What becomes of roles, policies and mounts by a request.
-use Rattle.std.specs.Prelude.{◌≡◌, ◌≢◌, ◌⊎◌, ◌==◌, ◌&&◌, ◌||◌, ℕ, [], Bool, true, false, not, cond, is_some, nat_eq}
-use Rattle.std.specs.Prelude.{if◌then◌else◌, Option, Some, None, Ok, option_map, unwrap_or, codes}
-use Rattle.std.specs.List.{list_any, starts_with}
-use Rattle.std.specs.Option.{option_map_or}
-use Rattle.std.proofs.Common.{refl, sym, ◌∙◌, ap, subst, inl, inr, arith}
-use Rattle.std.proofs.lemmas.Bool.{and_parts, eqb-true, false≢true, not-true, or_parts}
-use Rattle.std.proofs.lemmas.Option.{none-some, same_Some}
-use Rattle.broker_types.specs.Text.{Text, same}
-use Rattle.broker_types.specs.TextLaws.{same_self, same_true}
-use Rattle.broker_types.specs.Map.{Map, change, get, put, without}
-use Rattle.broker_types.specs.MapLaws.{get-change, get-keep, get-put, get-put_self, get-without, get-without_self}
-use Rattle.broker_types.specs.MapLaws.{same_map}
-use Rattle.broker_types.specs.Broker.{Broker, Engine, Mount, Role, Waiting, issued, kv}
-use Rattle.broker_types.specs.Name.{is_name, reserved_names}
-use Rattle.broker_types.specs.Operation.{nothing, Done}
-use Rattle.broker_types.specs.Refuse.{some_or, unless}
-use Rattle.broker_types.specs.RefuseLaws.{no_ok, ok_step, unless_ok}
-use Rattle.broker_types.specs.Status.{status_code}
-use Rattle.broker_types.specs.Token.{Tokens}
+use Rattle.std.proofs.Common.{◌≡◌, ◌≢◌, ◌⊎◌, ◌==◌, ◌&&◌, ◌||◌, if◌then◌else◌, ℕ, [], Bool, true, false, not, cond, Some}
+use Rattle.broker_model.specs.Words.{is_some, nat_eq, Option, None, Ok, option_map, unwrap_or, codes, list_any}
+use Rattle.broker_model.specs.Words.{starts_with, option_map_or, refl, sym, ◌∙◌, ap, subst, inl, inr, arith, and_parts}
+use Rattle.broker_model.specs.Words.{eqb-true, false≢true, not-true, or_parts, none-some, same_Some, Text, same}
+use Rattle.broker_model.specs.Words.{same_self, same_true, Map, change, get, put, without, get-change, get-keep}
+use Rattle.broker_model.specs.Words.{get-put, get-put_self, get-without, get-without_self, same_map, Broker, Engine}
+use Rattle.broker_model.specs.Words.{Mount, Role, Waiting, issued, kv, is_name, reserved_names, nothing, Done, some_or}
+use Rattle.broker_model.specs.Words.{unless, no_ok, ok_step, unless_ok, status_code, Tokens, not_there, ok_inj}
+use Rattle.broker_model.specs.Words.{role_name, disabled, enabled, engine_asked, may_go, new_mount, plain_mount}
+use Rattle.broker_model.specs.Words.{RoleSettings, MountCreation, MountSettings, Command, command_of, on_cubbyhole}
+use Rattle.broker_model.specs.Words.{on_issued, on_lease, on_mount, on_policy, on_secret, on_token, on_wrapping}
+use Rattle.broker_model.specs.Words.{SameUnless, OperationsDoAsTold, Outcome, request_of, step, traits, may_change}
+use Rattle.broker_model.specs.Words.{without_kept, Place}
 use Rattle.broker_types.specs.declared.refusal.Reason.TheVariants as reason
 use Rattle.broker_types.specs.declared.refusal.Refusal.TheVariants as refusal
 use Rattle.broker_types.specs.declared.status.Status.TheVariants as status
-use Rattle.broker_types.specs.OptionLaws.{not_there}
-use Rattle.records.specs.ValueLaws.{ok_inj}
 use Rattle.records.specs.declared.kind.Kind.TheVariants as kind
 use Rattle.leases.specs.Roles as roles
-use Rattle.leases.specs.Roles.{role_name}
 use Rattle.kv2.specs.Secrets.{with_settings}
-use Rattle.mounts.specs.Mounts.{disabled, enabled, engine_asked, may_go, new_mount, plain_mount}
 use Rattle.policies.specs.Policies as policies
-use Rattle.api_json.specs.declared.issued_bodies.RoleSettings.{RoleSettings}
-use Rattle.api_json.specs.declared.mount_bodies.MountCreation.{MountCreation}
-use Rattle.api_json.specs.declared.secret_bodies.MountSettings.{MountSettings}
-use Rattle.broker_model.specs.Command.{Command, command_of, on_cubbyhole, on_issued, on_lease, on_mount, on_policy}
-use Rattle.broker_model.specs.Command.{on_secret, on_token, on_wrapping}
-use Rattle.broker_model.specs.Effects.{SameUnless}
-use Rattle.broker_model.specs.Laws.{OperationsDoAsTold}
-use Rattle.broker_model.specs.Order.{Outcome}
-use Rattle.broker_model.specs.Step.{request_of, step, traits}
-use Rattle.broker_model.specs.Traits.{may_change}
 use Rattle.broker_model.specs.declared.commands.CubbyholeCommand.TheVariants as of_cubbyhole
-use Rattle.broker_model.specs.declared.commands.IssuedCommand.{IssuedCommand}
+use Rattle.histories.specs.Words.{IssuedCommand, MountCommand, PolicyCommand, Asking, clocked, spent_by}
+use Rattle.histories.specs.Words.{AllSettingsFollow, Enables, IsEnabled, MeansEngine, MountBecomes, MountIsSet, OnMount}
+use Rattle.histories.specs.Words.{OnPolicy, OnRole, PolicyBecomes, RoleBecomes, Sets, SetsMount, role_given}
 use Rattle.broker_model.specs.declared.commands.IssuedCommand.TheVariants as of_issued
 use Rattle.broker_model.specs.declared.commands.LeaseCommand.TheVariants as of_lease
-use Rattle.broker_model.specs.declared.commands.MountCommand.{MountCommand}
 use Rattle.broker_model.specs.declared.commands.MountCommand.TheVariants as of_mount
-use Rattle.broker_model.specs.declared.commands.PolicyCommand.{PolicyCommand}
 use Rattle.broker_model.specs.declared.commands.PolicyCommand.TheVariants as of_policy
 use Rattle.broker_model.specs.declared.commands.SecretCommand.TheVariants as of_secret
 use Rattle.broker_model.specs.declared.commands.TokenCommand.TheVariants as of_token
 use Rattle.broker_model.specs.declared.commands.WrappingCommand.TheVariants as of_response
-use Rattle.broker_model.specs.parts.Mounts.{without_kept}
-use Rattle.broker_model.specs.parts.Place.{Place}
-use Rattle.histories.specs.History.{Asking, clocked, spent_by}
-use Rattle.histories.specs.Settings.{AllSettingsFollow, Enables, IsEnabled, MeansEngine, MountBecomes, MountIsSet}
-use Rattle.histories.specs.Settings.{OnMount, OnPolicy, OnRole, PolicyBecomes, RoleBecomes, Sets, SetsMount, role_given}
 use Rattle.histories.proofs.Disabled.{left}
 use Rattle.histories.proofs.EventSecrets.{is_204}
 use Rattle.histories.proofs.OrderCases.{IsTurnedAway, IsTurnedDown, some_ok, spent}

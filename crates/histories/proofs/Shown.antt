@@ -1,49 +1,24 @@
 -- What look-ups answer.
-use Rattle.std.specs.Prelude.{◌≡◌, ◌≢◌, ◌⊎◌, ◌<◌, ◌≤◌, ℕ, nat_lt, List, [], ◌∷◌, map, Bool, true, false, not}
-use Rattle.std.specs.Prelude.{is_none, is_some, if◌then◌else◌, Some, None, Result, Ok, option_and_then, option_map}
-use Rattle.std.specs.Prelude.{codes}
+use Rattle.std.proofs.Common.{◌≡◌, ◌≢◌, ◌⊎◌, ◌<◌, ◌≤◌, ◌∷◌, if◌then◌else◌, ℕ, nat_lt, List, [], map, Bool, true, false}
+use Rattle.broker_model.specs.Words.{not, is_none, is_some, Some, None, Result, Ok, option_and_then, option_map, codes}
+use Rattle.broker_model.specs.Words.{refl, sym, ◌∙◌, ap, subst, inl, inr, arith, false≢true, ltb-false, ltb-true}
+use Rattle.broker_model.specs.Words.{none-some, same_Some, Text, same, same_self, same_true, first_where, get, put}
+use Rattle.broker_model.specs.Words.{get-change, Response, Broker, Names, names_of, reply, Done, found_or_not, mapped}
+use Rattle.broker_model.specs.Words.{OnePlaceEach, lease_of, put_filled, put_keeps, put_there, some_or, unless, no_ok}
+use Rattle.broker_model.specs.Words.{ok_step, first_where_is, first_where_none, Version, one_less, status_code, Lease}
+use Rattle.broker_model.specs.Words.{Token, Refusal, Reply, credential_is, has_lease, lease_of_credential, ok_inj}
+use Rattle.broker_model.specs.Words.{metadata_of, oldest_of, version_metadata, AccessorsNameTheirTokens}
+use Rattle.broker_model.specs.Words.{NamedTokensHaveTheirAccessors, key_object, keys_object, mounts_object, plain_reply}
+use Rattle.broker_model.specs.Words.{reply_text, Command, command_of, on_issued, on_lease, on_mount, on_policy}
+use Rattle.broker_model.specs.Words.{on_secret, on_token, on_wrapping, chained, OperationsDoAsTold, Outcome, step}
+use Rattle.broker_model.specs.Words.{unwrapped_ask, are_none, Place, secret_told, version_told, known, look_up, named}
 use Rattle.std.specs.FinMap as fin
-use Rattle.std.proofs.Common.{refl, sym, ◌∙◌, ap, subst, inl, inr, arith}
-use Rattle.std.proofs.lemmas.Bool.{false≢true, ltb-false, ltb-true}
-use Rattle.std.proofs.lemmas.Option.{none-some, same_Some}
-use Rattle.broker_types.specs.Text.{Text, same}
-use Rattle.broker_types.specs.TextLaws.{same_self, same_true}
-use Rattle.broker_types.specs.Map.{first_where, get, put}
-use Rattle.broker_types.specs.MapLaws.{get-change}
-use Rattle.broker_types.specs.Answer.{Response}
-use Rattle.broker_types.specs.Broker.{Broker}
-use Rattle.broker_types.specs.Names.{Names, names_of}
-use Rattle.broker_types.specs.Operation.{reply, Done}
-use Rattle.broker_types.specs.OptionLaws.{found_or_not, mapped}
-use Rattle.broker_types.specs.IdentifierPlaces.{OnePlaceEach, lease_of}
-use Rattle.broker_types.specs.PutLaws.{put_filled, put_keeps, put_there}
-use Rattle.broker_types.specs.Refuse.{some_or, unless}
-use Rattle.broker_types.specs.RefuseLaws.{no_ok, ok_step}
-use Rattle.broker_types.specs.SearchLaws.{first_where_is, first_where_none}
-use Rattle.broker_types.specs.Secret.{Version}
-use Rattle.broker_types.specs.Spending.{one_less}
-use Rattle.broker_types.specs.Status.{status_code}
-use Rattle.broker_types.specs.Token.{Lease, Token}
-use Rattle.broker_types.specs.declared.refusal.Refusal.{Refusal}
 use Rattle.broker_types.specs.declared.refusal.Refusal.TheVariants as refusal
-use Rattle.broker_types.specs.declared.reply.Reply.{Reply}
-use Rattle.records.specs.Rows.{credential_is, has_lease, lease_of_credential}
-use Rattle.records.specs.ValueLaws.{ok_inj}
 use Rattle.leases.specs.Leases as leases
 use Rattle.leases.specs.Roles as roles
-use Rattle.kv2.specs.Metadata.{metadata_of, oldest_of, version_metadata}
 use Rattle.kv2.specs.Secrets as secrets
 use Rattle.policies.specs.Policies as policies
-use Rattle.token_tree.specs.Laws.{AccessorsNameTheirTokens, NamedTokensHaveTheirAccessors}
 use Rattle.token_tree.specs.Tokens as tree
-use Rattle.api_json.specs.Objects.{key_object, keys_object, mounts_object}
-use Rattle.api_json.specs.Reply.{plain_reply, reply_text}
-use Rattle.broker_model.specs.Command.{Command, command_of, on_issued, on_lease, on_mount, on_policy, on_secret}
-use Rattle.broker_model.specs.Command.{on_token, on_wrapping}
-use Rattle.broker_model.specs.EffectLaws.{chained}
-use Rattle.broker_model.specs.Laws.{OperationsDoAsTold}
-use Rattle.broker_model.specs.Order.{Outcome}
-use Rattle.broker_model.specs.Step.{step, unwrapped_ask}
 use Rattle.broker_model.specs.declared.commands.IssuedCommand.TheVariants as of_issued
 use Rattle.broker_model.specs.declared.commands.LeaseCommand.TheVariants as of_lease
 use Rattle.broker_model.specs.declared.commands.MountCommand.TheVariants as of_mount
@@ -51,17 +26,10 @@ use Rattle.broker_model.specs.declared.commands.PolicyCommand.TheVariants as of_
 use Rattle.broker_model.specs.declared.commands.SecretCommand.TheVariants as of_secret
 use Rattle.broker_model.specs.declared.commands.TokenCommand.TheVariants as of_token
 use Rattle.broker_model.specs.declared.commands.WrappingCommand.TheVariants as of_response
-use Rattle.broker_model.specs.parts.Lists.{are_none}
-use Rattle.broker_model.specs.parts.Place.{Place}
-use Rattle.broker_model.specs.parts.SecretReplies.{secret_told, version_told}
-use Rattle.broker_model.specs.parts.Tokens.{known, look_up, named}
-use Rattle.histories.specs.History.{Asking, clocked, spent_by}
-use Rattle.histories.specs.Shown.{AllAnswersShow, IsAccessorOf, IsPolicyName, IsValid, Lists, ListsMounts, SaysValid}
-use Rattle.histories.specs.Shown.{ShowsHolder, ShowsLease, ShowsPolicy, ShowsRole, ShowsSecret, ShowsSettings}
-use Rattle.histories.specs.Shown.{ShowsToken, Succeeds, version_shown}
-use Rattle.histories.specs.KeptResponses.{answer_by, unwrapped_answer, unwrapped_body}
-use Rattle.histories.specs.Revocation.{IsClient}
-use Rattle.histories.specs.Versions.{named as named_secret}
+use Rattle.histories.specs.Words.{Asking, clocked, spent_by, AllAnswersShow, IsAccessorOf, IsPolicyName, IsValid, Lists}
+use Rattle.histories.specs.Words.{ListsMounts, SaysValid, ShowsHolder, ShowsLease, ShowsPolicy, ShowsRole, ShowsSecret}
+use Rattle.histories.specs.Words.{ShowsSettings, ShowsToken, Succeeds, version_shown, answer_by, unwrapped_answer}
+use Rattle.histories.specs.Words.{unwrapped_body, IsClient, named as named_secret}
 use Rattle.histories.proofs.Clients.{from_clock}
 use Rattle.histories.proofs.MountsListed.{cubbyhole_shown, in_order, objects, only_shown, own_shown, system_shown}
 use Rattle.histories.proofs.OrderCases.{some_ok}

@@ -1,68 +1,35 @@
 -- How a request is answered that is not refused, command by command.
-use Rattle.std.specs.Prelude.{◌≡◌, ◌⊎◌, ℕ, Bool, true, false, not, is_some, if◌then◌else◌}
-use Rattle.std.specs.Prelude.{Option, Some, None, Result, Ok, codes}
-use Rattle.std.proofs.Common.{refl, sym, ◌∙◌, ap, subst, inl, inr}
-use Rattle.std.proofs.lemmas.Bool.{false≢true}
-use Rattle.broker_types.specs.Text.{Text, same}
-use Rattle.broker_types.specs.Answer.{IsRefused}
-use Rattle.broker_types.specs.Broker.{Broker}
-use Rattle.broker_types.specs.Names.{Names, names_of}
-use Rattle.broker_types.specs.Operation.{kept_text, missing, nothing, reply, Answered, Done}
-use Rattle.broker_types.specs.Refuse.{some_or, unless}
-use Rattle.broker_types.specs.RefuseLaws.{no_ok, ok_step}
+use Rattle.std.proofs.Common.{◌≡◌, ◌⊎◌, if◌then◌else◌, ℕ, Bool, true, false, not, is_some, Option, Some, None, Result}
+use Rattle.broker_model.specs.Words.{Ok, codes, refl, sym, ◌∙◌, ap, subst, inl, inr, false≢true, Text, same, IsRefused}
+use Rattle.broker_model.specs.Words.{Broker, Names, names_of, kept_text, missing, nothing, reply, Answered, Done}
+use Rattle.broker_model.specs.Words.{some_or, unless, no_ok, ok_step, Refusal, Reply, ok_inj, Found, act, Command}
+use Rattle.broker_model.specs.Words.{command_of, on_cubbyhole, on_issued, on_lease, on_mount, on_policy, on_secret}
+use Rattle.broker_model.specs.Words.{on_token, on_wrapping, Outcome, Wrapped, response_to, permits, no_content}
+use Rattle.broker_model.specs.Words.{request_of, step, traits, act_on_policies, act_on_cubbyhole, act_on_issued}
+use Rattle.broker_model.specs.Words.{act_on_leases, are_none, act_on_mounts, Place, object_left, version_reply}
+use Rattle.broker_model.specs.Words.{act_on_secrets, is_privileged, making_path, may_make, new_policies, act_on_tokens}
+use Rattle.broker_model.specs.Words.{holder, known, named, revoke_token, act_on_wrappings, found}
 use Rattle.broker_types.specs.declared.refusal.Reason.TheVariants as reason
-use Rattle.broker_types.specs.declared.refusal.Refusal.{Refusal}
 use Rattle.broker_types.specs.declared.refusal.Refusal.TheVariants as refusal
-use Rattle.broker_types.specs.declared.reply.Reply.{Reply}
 use Rattle.broker_types.specs.declared.status.Status.TheVariants as status
-use Rattle.records.specs.ValueLaws.{ok_inj}
 use Rattle.cubbyhole.specs.Cubbyhole as cubbyholes
 use Rattle.leases.specs.Leases as leases
 use Rattle.leases.specs.Roles as roles
 use Rattle.kv2.specs.Secrets as secrets
-use Rattle.kv2.specs.Versions.{Found}
 use Rattle.mounts.specs.Mounts as mounts
 use Rattle.policies.specs.Policies as policies
-use Rattle.broker_model.specs.Act.{act}
-use Rattle.broker_model.specs.Command.{Command, command_of, on_cubbyhole, on_issued, on_lease, on_mount, on_policy}
-use Rattle.broker_model.specs.Command.{on_secret, on_token, on_wrapping}
-use Rattle.broker_model.specs.Order.{Outcome, Wrapped, response_to}
-use Rattle.broker_model.specs.Permission.{permits}
-use Rattle.broker_model.specs.Responses.{no_content}
-use Rattle.broker_model.specs.Step.{request_of, step, traits}
-use Rattle.broker_model.specs.declared.commands.CubbyholeCommand.{CubbyholeCommand}
+use Rattle.histories.specs.Words.{CubbyholeCommand, IssuedCommand, LeaseCommand, MountCommand, PolicyCommand}
+use Rattle.histories.specs.Words.{SecretCommand, TokenCommand, WrappingCommand, Asking, clocked, AllStatusesFollow}
+use Rattle.histories.specs.Words.{IsNeverDone, ReadsEnded, cubbyhole_is_silent, is_silent, issued_is_silent}
+use Rattle.histories.specs.Words.{lease_is_silent, mount_is_silent, policy_is_silent, secret_is_silent, token_is_silent}
 use Rattle.broker_model.specs.declared.commands.CubbyholeCommand.TheVariants as of_cubbyhole
-use Rattle.broker_model.specs.declared.commands.IssuedCommand.{IssuedCommand}
 use Rattle.broker_model.specs.declared.commands.IssuedCommand.TheVariants as of_issued
-use Rattle.broker_model.specs.declared.commands.LeaseCommand.{LeaseCommand}
 use Rattle.broker_model.specs.declared.commands.LeaseCommand.TheVariants as of_lease
-use Rattle.broker_model.specs.declared.commands.MountCommand.{MountCommand}
 use Rattle.broker_model.specs.declared.commands.MountCommand.TheVariants as of_mount
-use Rattle.broker_model.specs.declared.commands.PolicyCommand.{PolicyCommand}
 use Rattle.broker_model.specs.declared.commands.PolicyCommand.TheVariants as of_policy
-use Rattle.broker_model.specs.declared.commands.SecretCommand.{SecretCommand}
 use Rattle.broker_model.specs.declared.commands.SecretCommand.TheVariants as of_secret
-use Rattle.broker_model.specs.declared.commands.TokenCommand.{TokenCommand}
 use Rattle.broker_model.specs.declared.commands.TokenCommand.TheVariants as of_token
-use Rattle.broker_model.specs.declared.commands.WrappingCommand.{WrappingCommand}
 use Rattle.broker_model.specs.declared.commands.WrappingCommand.TheVariants as of_response
-use Rattle.broker_model.specs.parts.AclPolicies.{act_on_policies}
-use Rattle.broker_model.specs.parts.Cubbyholes.{act_on_cubbyhole}
-use Rattle.broker_model.specs.parts.Issued.{act_on_issued}
-use Rattle.broker_model.specs.parts.Leases.{act_on_leases}
-use Rattle.broker_model.specs.parts.Lists.{are_none}
-use Rattle.broker_model.specs.parts.Mounts.{act_on_mounts}
-use Rattle.broker_model.specs.parts.Place.{Place}
-use Rattle.broker_model.specs.parts.SecretReplies.{object_left, version_reply}
-use Rattle.broker_model.specs.parts.Secrets.{act_on_secrets}
-use Rattle.broker_model.specs.parts.TokenCreation.{is_privileged, making_path, may_make, new_policies}
-use Rattle.broker_model.specs.parts.Tokens.{act_on_tokens, holder, known, named, revoke_token}
-use Rattle.broker_model.specs.parts.Wrappings.{act_on_wrappings, found}
-use Rattle.histories.specs.History.{Asking, clocked}
-use Rattle.histories.specs.Statuses.{AllStatusesFollow, IsNeverDone, ReadsEnded, cubbyhole_is_silent, is_silent}
-use Rattle.histories.specs.Statuses.{issued_is_silent}
-use Rattle.histories.specs.Statuses.{lease_is_silent, mount_is_silent, policy_is_silent, secret_is_silent}
-use Rattle.histories.specs.Statuses.{token_is_silent}
 use Rattle.histories.proofs.EventSecrets.{is_200}
 use Rattle.histories.proofs.OrderCases.{spent}
 use Rattle.histories.proofs.OrderKeeps.{wrapped_cases}

@@ -1,47 +1,17 @@
 -- Who makes which token, and what a 200 to a creation made.
-use Rattle.std.specs.Prelude.{◌≡◌, ◌<◌, ◌==◌, ◌&&◌, true, false, cond, if◌then◌else◌, Option, Some, None, Ok}
-use Rattle.std.specs.Option.{option_map_or}
-use Rattle.std.proofs.Common.{refl, sym, ◌∙◌, ap, inl, inr, arith}
-use Rattle.std.proofs.lemmas.Bool.{lt-ltb}
-use Rattle.broker_types.specs.Text.{Text, same}
-use Rattle.broker_types.specs.Map.{get, put}
-use Rattle.broker_types.specs.MapLaws.{get-put, get-put_self}
-use Rattle.broker_types.specs.Broker.{Broker}
-use Rattle.broker_types.specs.Lineage.{is_under}
-use Rattle.broker_types.specs.Names.{Names, names_of}
-use Rattle.broker_types.specs.Operation.{reply, Done}
-use Rattle.broker_types.specs.RefuseLaws.{no_ok, ok_step}
-use Rattle.broker_types.specs.Spending.{is_spent}
-use Rattle.broker_types.specs.Status.{status_code}
-use Rattle.broker_types.specs.Token.{Token, Tokens}
-use Rattle.broker_types.specs.TokenText.{token_text}
+use Rattle.std.proofs.Common.{◌≡◌, ◌<◌, ◌==◌, ◌&&◌, if◌then◌else◌, true, false, cond, Option, Some, None, Ok, refl, sym}
+use Rattle.broker_model.specs.Words.{option_map_or, ◌∙◌, ap, inl, inr, arith, lt-ltb, Text, same, get, put, get-put}
+use Rattle.broker_model.specs.Words.{get-put_self, Broker, is_under, Names, names_of, reply, Done, no_ok, ok_step}
+use Rattle.broker_model.specs.Words.{is_spent, status_code, Token, Tokens, token_text, token_entry, ok_inj}
+use Rattle.broker_model.specs.Words.{AllThatIsGranted, OnlyWhatIsGranted, RootMayDoAll, wrap_object, reply_text}
+use Rattle.broker_model.specs.Words.{wrap_reply, TokenCreation, act, Command, command_of, on_token, allowed}
+use Rattle.broker_model.specs.Words.{OperationsDoAsTold, Outcome, response_to, unwrapped, wrap_200, wraps, permits, ok}
+use Rattle.broker_model.specs.Words.{request_of, step, traits, is_privileged, making_path, may_make, new_parent}
+use Rattle.broker_model.specs.Words.{new_policies, new_token, auth_reply, known}
 use Rattle.broker_types.specs.declared.status.Status.TheVariants as status
-use Rattle.records.specs.TokenEntry.{token_entry}
-use Rattle.records.specs.ValueLaws.{ok_inj}
-use Rattle.policies.specs.Laws.{AllThatIsGranted, OnlyWhatIsGranted, RootMayDoAll}
-use Rattle.api_json.specs.Objects.{wrap_object}
-use Rattle.api_json.specs.Reply.{reply_text, wrap_reply}
-use Rattle.api_json.specs.declared.token_bodies.TokenCreation.{TokenCreation}
-use Rattle.broker_model.specs.Act.{act}
-use Rattle.broker_model.specs.Command.{Command, command_of, on_token}
-use Rattle.broker_model.specs.CreationLaws.{allowed}
-use Rattle.broker_model.specs.Laws.{OperationsDoAsTold}
-use Rattle.broker_model.specs.Order.{Outcome, response_to, unwrapped, wrap_200, wraps}
-use Rattle.broker_model.specs.Permission.{permits}
-use Rattle.broker_model.specs.Responses.{ok}
-use Rattle.broker_model.specs.Step.{request_of, step, traits}
 use Rattle.broker_model.specs.declared.commands.TokenCommand.TheVariants as token
-use Rattle.broker_model.specs.declared.making.Making.{Making}
-use Rattle.broker_model.specs.parts.TokenCreation.{is_privileged, making_path, may_make, new_parent, new_policies}
-use Rattle.broker_model.specs.parts.TokenCreation.{new_token}
-use Rattle.broker_model.specs.parts.TokenReplies.{auth_reply}
-use Rattle.broker_model.specs.parts.Tokens.{known}
-use Rattle.histories.specs.Creations.{GivesToken}
-use Rattle.histories.specs.History.{Asking, clocked, spent_by}
-use Rattle.histories.specs.KeptResponses.{telling_body, unwrapped_body}
-use Rattle.histories.specs.Laws.{AllMadeAsAllowed}
-use Rattle.histories.specs.Paths.{CreatesAtPath}
-use Rattle.histories.specs.Revocation.{has_no_use}
+use Rattle.histories.specs.Words.{Making, GivesToken, Asking, clocked, spent_by, telling_body, unwrapped_body}
+use Rattle.histories.specs.Words.{AllMadeAsAllowed, CreatesAtPath, has_no_use}
 use Rattle.histories.proofs.Created.{new_unspent}
 use Rattle.histories.proofs.Descent.{Makes, follows, parent_is}
 use Rattle.histories.proofs.OrderCases.{some_ok, spent}

@@ -1,53 +1,24 @@
 -- The laws of who makes which token, how long it lives, and whose each lease is.
-use Rattle.std.specs.Prelude.{◌≡◌, ◌≢◌, ◌≤◌, ◌⊎◌, ◌+◌, ◌-◌, ◌==◌, ◌||◌, ℕ, List, [], ◌∷◌, codes, Bool, true, false, min}
-use Rattle.std.specs.Prelude.{not, if◌then◌else◌, Option, Some, None, is_none, zero, suc, max, option_and_then}
-use Rattle.std.specs.List.{list_all, list_any}
-use Rattle.std.proofs.Common.{refl, sym, ◌∙◌, ap, subst, inl, inr, arith}
-use Rattle.std.proofs.Math.Nat.{min-le_left, min-le_right}
-use Rattle.std.proofs.lemmas.Bool.{false≢true, and_parts, eqb-true, false_from_ne_true, or_cases, or_right}
-use Rattle.std.proofs.lemmas.Option.{none-some, same_Some}
-use Rattle.broker_types.specs.Limits.{longest_ttl}
-use Rattle.broker_types.specs.Map.{Map, get}
-use Rattle.broker_types.specs.OptionLaws.{is_nothing, mapped_none}
-use Rattle.broker_types.specs.Text.{Text, same}
-use Rattle.broker_types.specs.TextLaws.{same_self, same_true}
-use Rattle.broker_types.specs.Token.{Token, Lease}
-use Rattle.broker_types.specs.MapLaws.{no_entry, one_entry}
-use Rattle.broker_types.specs.Broker.{Broker}
-use Rattle.broker_types.specs.Evolves.{WasBefore}
-use Rattle.broker_types.specs.First.{root_token}
-use Rattle.broker_types.specs.IdentifierPlaces.{lease_of}
-use Rattle.broker_types.specs.Identifier.{id}
-use Rattle.broker_types.specs.TokenText.{token_text}
-use Rattle.broker_types.specs.TreeLaws.{alive_is}
+use Rattle.std.proofs.Common.{◌≡◌, ◌≢◌, ◌≤◌, ◌⊎◌, ◌+◌, ◌-◌, ◌==◌, ◌||◌, ◌∷◌, if◌then◌else◌, ℕ, List, [], codes, Bool}
+use Rattle.broker_model.specs.Words.{true, false, min, not, Option, Some, None, is_none, zero, suc, max}
+use Rattle.broker_model.specs.Words.{option_and_then, list_all, list_any, refl, sym, ◌∙◌, ap, subst, inl, inr, arith}
+use Rattle.broker_model.specs.Words.{min-le_left, min-le_right, false≢true, and_parts, eqb-true, false_from_ne_true}
+use Rattle.broker_model.specs.Words.{or_cases, or_right, none-some, same_Some, longest_ttl, Map, get, is_nothing}
+use Rattle.broker_model.specs.Words.{mapped_none, Text, same, same_self, same_true, Token, Lease, no_entry, one_entry}
+use Rattle.broker_model.specs.Words.{Broker, WasBefore, root_token, lease_of, id, token_text, alive_is, has}
+use Rattle.broker_model.specs.Words.{token_entry, grants, AllThatIsGranted, IsGranted, OnlyWhatIsGranted, RootMayDoAll}
+use Rattle.broker_model.specs.Words.{is_root, Sudo, TokenCreation, allowed, no_more_policies, root_is_own, asked_time}
+use Rattle.broker_model.specs.Words.{asked_ttl, has_no_end, have_root, is_privileged, makes_orphans, making_path}
+use Rattle.broker_model.specs.Words.{new_parent, new_policies, new_token, or_longest, use_limit, new_end, prolonged_end}
+use Rattle.broker_model.specs.Words.{chained, OperationsDoAsTold}
 use Rattle.broker_types.specs.declared.ask.Verb.TheVariants as verb
-use Rattle.records.specs.Children.{has}
-use Rattle.records.specs.TokenEntry.{token_entry}
-use Rattle.policies.specs.Grants.{grants}
-use Rattle.policies.specs.Laws.{AllThatIsGranted, IsGranted, OnlyWhatIsGranted, RootMayDoAll}
-use Rattle.policies.specs.Policies.{is_root}
-use Rattle.policies.specs.declared.capability.Capability.TheVariants.{Sudo}
-use Rattle.api_json.specs.declared.token_bodies.TokenCreation.{TokenCreation}
-use Rattle.broker_model.specs.CreationLaws.{allowed, no_more_policies, root_is_own}
-use Rattle.broker_model.specs.declared.making.Making.{Making}
-use Rattle.broker_model.specs.declared.making.Making.TheVariants.{OfCaller, WithoutParent}
-use Rattle.broker_model.specs.parts.TokenCreation.{asked_time, asked_ttl, has_no_end, have_root, is_privileged}
-use Rattle.broker_model.specs.parts.TokenCreation.{makes_orphans, making_path, new_parent, new_policies, new_token}
-use Rattle.broker_model.specs.parts.TokenCreation.{or_longest, use_limit}
-use Rattle.broker_model.specs.parts.Tokens.{new_end, prolonged_end}
-use Rattle.broker_model.specs.EffectLaws.{chained}
-use Rattle.broker_model.specs.Laws.{OperationsDoAsTold}
-use Rattle.histories.specs.Creations.{HasRoot, HasSudo, IsWithin, MightMake}
-use Rattle.histories.specs.History.{AreAsked, AskedAt, Asking, History, clocked, Beginning, IsAsked, begun}
-use Rattle.histories.specs.Lifetimes.{EndsInTime, AllEndInTime, EndInTimeAt}
-use Rattle.histories.specs.Own.{with_changed}
-use Rattle.histories.specs.Paths.{CreatesAtPath, path_of}
-use Rattle.histories.specs.LeaseOwners.{IsIssuedTo}
-use Rattle.histories.specs.Laws.{AllLeasesAreOfCallers, AllTokensEndInTime, TokensEndInTimeSinceStart}
+use Rattle.histories.specs.Words.{Making, OfCaller, WithoutParent, HasRoot, HasSudo, IsWithin, MightMake, AreAsked}
+use Rattle.histories.specs.Words.{AskedAt, Asking, History, clocked, Beginning, IsAsked, begun, EndsInTime}
+use Rattle.histories.specs.Words.{AllEndInTime, EndInTimeAt, with_changed, CreatesAtPath, path_of, IsIssuedTo}
+use Rattle.histories.specs.Words.{AllLeasesAreOfCallers, AllTokensEndInTime, TokensEndInTimeSinceStart}
 use Rattle.histories.proofs.Clients.{from_clock, Course, course}
 use Rattle.histories.proofs.Created.{has_no_end_, has_policies, lasts}
-use Rattle.histories.proofs.Descent.{Makes}
-use Rattle.histories.proofs.Descent.{follows}
+use Rattle.histories.proofs.Descent.{Makes, follows}
 use Rattle.histories.proofs.LeaseGiven.{gives_lease}
 use Rattle.histories.proofs.Requests.{asked_at}
 

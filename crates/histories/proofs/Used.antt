@@ -1,16 +1,8 @@
 -- Laws of the identifiers that were given out.
-use Rattle.std.specs.Prelude.{◌≡◌, ◌≢◌, ◌⊎◌, ◌++◌, List, [], ◌∷◌, true, false, not, ◌||◌, cond}
-use Rattle.std.specs.Prelude.{Some, None, is_none, ⊤}
-use Rattle.std.specs.List.{list_any, IsDistinct}
-use Rattle.std.proofs.Common.{refl, sym, ◌∙◌, ap, subst, inl, inr}
-use Rattle.std.proofs.lemmas.Bool.{false≢true, and_parts, and_from, not-true}
-use Rattle.std.proofs.lemmas.Option.{none-some}
-use Rattle.broker_types.specs.Text.{Text, same}
-use Rattle.broker_types.specs.Map.{Map, get, put}
-use Rattle.broker_types.specs.MapLaws.{get-put}
-use Rattle.broker_types.specs.TextLaws.{same_self, same_true}
-use Rattle.broker_types.specs.Used.{are_new, use_up}
-use Rattle.broker_types.specs.LineageLaws.{all_apart}
+use Rattle.std.proofs.Common.{◌≡◌, ◌≢◌, ◌⊎◌, ◌++◌, ◌∷◌, ◌||◌, List, [], true, false, not, cond, Some, None, is_none, ap}
+use Rattle.broker_model.specs.Words.{⊤, list_any, IsDistinct, refl, sym, ◌∙◌, subst, inl, inr, false≢true, and_parts}
+use Rattle.broker_model.specs.Words.{and_from, not-true, none-some, Text, same, Map, get, put, get-put, same_self}
+use Rattle.broker_model.specs.Words.{same_true, are_new, use_up, all_apart}
 
 -- ---- lists
 

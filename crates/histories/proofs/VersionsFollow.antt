@@ -1,60 +1,29 @@
 -- Versions follow the writes, deletions and destructions that were asked for: each part of the law.
-use Rattle.std.specs.Prelude.{◌≡◌, ◌≢◌, ◌⊎◌, ◌+◌, ◌==◌, ◌||◌, ℕ, zero, suc, List, [], ◌∷◌, Bool, true, false, not, cond}
-use Rattle.std.specs.Prelude.{if◌then◌else◌, is_none, is_some, Contains, nat_eq, nat_lt, Option, option_map, unwrap_or}
-use Rattle.std.specs.Prelude.{Some, None, Ok}
+use Rattle.std.proofs.Common.{◌≡◌, ◌≢◌, ◌⊎◌, ◌+◌, ◌==◌, ◌||◌, ◌∷◌, if◌then◌else◌, ℕ, zero, suc, List, [], Bool, true}
+use Rattle.broker_model.specs.Words.{false, not, cond, is_none, is_some, Contains, nat_eq, nat_lt, Option, option_map}
+use Rattle.broker_model.specs.Words.{unwrap_or, Some, None, Ok, starts_with, option_map_or, nat_cmp, refl, sym, ◌∙◌, ap}
+use Rattle.broker_model.specs.Words.{subst, inl, inr, arith, eq-eqb, eqb-false, eqb-true, false≢true, ltb-false}
+use Rattle.broker_model.specs.Words.{ltb-true, none-some, same_Some, any_contained, Text, same, same_self, Map, entries}
+use Rattle.broker_model.specs.Words.{get, get-keep, get-put_self, get-without_self, valued_is, Broker, Mount, Names}
+use Rattle.broker_model.specs.Words.{names_of, missing, nothing, plainly, reply, Done, found_or_not, mapped, some_or}
+use Rattle.broker_model.specs.Words.{no_ok, ok_step, Key, Version, spend, status_code, Status, ok_inj, Written}
+use Rattle.broker_model.specs.Words.{secret_name, with_key, written, get-change_versions, Found, asked_number, checked}
+use Rattle.broker_model.specs.Words.{described, destroyed, is_among, numbered, key_or_new, restored, soft_deleted}
+use Rattle.broker_model.specs.Words.{versions_kept, with_changed, with_version, disabled, secret_object, plain_reply}
+use Rattle.broker_model.specs.Words.{reply_text, KeySettings, SecretWrite, VersionObject, act, Command, command_of}
+use Rattle.broker_model.specs.Words.{on_mount, on_secret, chained, OperationsDoAsTold, step, without_kept, Place}
+use Rattle.broker_model.specs.Words.{object_left, version_answered, version_made, version_reply, version_shown}
+use Rattle.broker_model.specs.Words.{written_reply, act_on_secrets, given_settings}
 use Rattle.std.specs.FinMap as fin
-use Rattle.std.specs.List.{starts_with}
-use Rattle.std.specs.Option.{option_map_or}
-use Rattle.std.specs.Ordering.{nat_cmp}
-use Rattle.std.proofs.Common.{refl, sym, ◌∙◌, ap, subst, inl, inr, arith}
-use Rattle.std.proofs.lemmas.Bool.{eq-eqb, eqb-false, eqb-true, false≢true, ltb-false, ltb-true}
-use Rattle.std.proofs.lemmas.Option.{none-some, same_Some}
-use Rattle.broker_types.specs.ListLaws.{any_contained}
-use Rattle.broker_types.specs.Text.{Text, same}
-use Rattle.broker_types.specs.TextLaws.{same_self}
-use Rattle.broker_types.specs.Map.{Map, entries, get}
-use Rattle.broker_types.specs.MapLaws.{get-keep, get-put_self, get-without_self, valued_is}
-use Rattle.broker_types.specs.Broker.{Broker, Mount}
-use Rattle.broker_types.specs.Names.{Names, names_of}
-use Rattle.broker_types.specs.Operation.{missing, nothing, plainly, reply, Done}
-use Rattle.broker_types.specs.OptionLaws.{found_or_not, mapped}
-use Rattle.broker_types.specs.Refuse.{some_or}
-use Rattle.broker_types.specs.RefuseLaws.{no_ok, ok_step}
-use Rattle.broker_types.specs.Secret.{Key, Version}
-use Rattle.broker_types.specs.Spending.{spend}
-use Rattle.broker_types.specs.Status.{status_code}
 use Rattle.broker_types.specs.declared.refusal.Refusal.TheVariants as refusal
-use Rattle.broker_types.specs.declared.status.Status.{Status}
 use Rattle.broker_types.specs.declared.status.Status.TheVariants as status
-use Rattle.records.specs.ValueLaws.{ok_inj}
 use Rattle.kv2.specs.Secrets as secrets
-use Rattle.kv2.specs.Secrets.{Written, secret_name, with_key, written}
-use Rattle.kv2.specs.VersionLaws.{get-change_versions}
-use Rattle.kv2.specs.Versions.{Found, asked_number, checked, described, destroyed, is_among, numbered, key_or_new}
-use Rattle.kv2.specs.Versions.{restored, soft_deleted, versions_kept, with_changed, with_version}
-use Rattle.mounts.specs.Mounts.{disabled}
-use Rattle.api_json.specs.Objects.{secret_object}
-use Rattle.api_json.specs.Reply.{plain_reply, reply_text}
-use Rattle.api_json.specs.declared.secret_bodies.KeySettings.{KeySettings}
-use Rattle.api_json.specs.declared.secret_bodies.SecretWrite.{SecretWrite}
-use Rattle.api_json.specs.declared.version_list.VersionObject.{VersionObject}
-use Rattle.broker_model.specs.Act.{act}
-use Rattle.broker_model.specs.Command.{Command, command_of, on_mount, on_secret}
-use Rattle.broker_model.specs.EffectLaws.{chained}
-use Rattle.broker_model.specs.Laws.{OperationsDoAsTold}
-use Rattle.broker_model.specs.Step.{step}
 use Rattle.broker_model.specs.declared.commands.MountCommand.TheVariants as of_mount
-use Rattle.broker_model.specs.declared.commands.SecretCommand.{SecretCommand}
+use Rattle.histories.specs.Words.{SecretCommand, AreAsked, Asking, IsAsked, AskedAt, History, clocked}
+use Rattle.histories.specs.Words.{AllVersionsFollow, AreSet, Commands, Deletes, DidSet, DidWrite, DisablesAbove}
+use Rattle.histories.specs.Words.{SecretGoes, Holds, IsAsAsked, IsNewKey, ReadsVersion, StandsUnwritten, WroteBefore}
+use Rattle.histories.specs.Words.{Writes, named}
 use Rattle.broker_model.specs.declared.commands.SecretCommand.TheVariants as secret
-use Rattle.broker_model.specs.parts.Mounts.{without_kept}
-use Rattle.broker_model.specs.parts.Place.{Place}
-use Rattle.broker_model.specs.parts.SecretReplies.{object_left, version_answered, version_made, version_reply}
-use Rattle.broker_model.specs.parts.SecretReplies.{version_shown, written_reply}
-use Rattle.broker_model.specs.parts.Secrets.{act_on_secrets, given_settings}
-use Rattle.histories.specs.History.{AreAsked, Asking, IsAsked, AskedAt, History, clocked}
-use Rattle.histories.specs.Versions.{AllVersionsFollow, AreSet, Commands, Deletes, DidSet, DidWrite, DisablesAbove}
-use Rattle.histories.specs.Versions.{SecretGoes, Holds, IsAsAsked, IsNewKey, ReadsVersion, StandsUnwritten}
-use Rattle.histories.specs.Versions.{WroteBefore, Writes, named}
 use Rattle.histories.proofs.EventSecrets.{is_404, served_left}
 use Rattle.histories.proofs.OrderCases.{some_ok, spent}
 use Rattle.histories.proofs.ReadsEnded.{read_404}
@@ -562,7 +531,7 @@ versions_follow told b history h = record {
   gone = λ i a q at goes. goes_away a (asked_at b history i a h at).outcome q goes;
   read = λ i a p n at means success. reads_version told a (asked_at b history i a h at).outcome p n means success;
   read_404 = λ i a p n at means is_404. read_404 a (asked_at b history i a h at).outcome p n means is_404;
-  given_settings = λ j x q n object at holds. given_at told b history j x q n object h at holds;
+  given = λ j x q n object at holds. given_at told b history j x q n object h at holds;
 }
   where
     by_before : (a : Asking) (q : Text) (o : Option Key) → get (clocked a).secrets q ≡ o

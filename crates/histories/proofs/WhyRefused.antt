@@ -1,64 +1,33 @@
 -- Why a request is refused that policies grant.
-use Rattle.std.specs.Prelude.{◌≡◌, ◌≢◌, ◌⊎◌, ◌==◌, ◌||◌, ◌&&◌, ℕ, [], ◌∷◌, Bool, true, false, not, nat_lt}
-use Rattle.std.specs.Prelude.{is_some, if◌then◌else◌, Option, Some, None, Result, Ok, Err, option_and_then, option_map}
-use Rattle.std.specs.Prelude.{◌-◌, ⊤, codes}
+use Rattle.std.proofs.Common.{◌≡◌, ◌≢◌, ◌⊎◌, ◌==◌, ◌||◌, ◌&&◌, ◌∷◌, if◌then◌else◌, ◌-◌, ℕ, [], Bool, true, false, not}
+use Rattle.broker_model.specs.Words.{nat_lt, is_some, Option, Some, None, Result, Ok, Err, option_and_then, option_map}
+use Rattle.broker_model.specs.Words.{⊤, codes, refl, sym, ◌∙◌, ap, inl, inr, eqb-true, false≢true, or_left, or_right}
+use Rattle.broker_model.specs.Words.{Text, same, greatest_version, are_new, same_true, entries, first_where, get}
+use Rattle.broker_model.specs.Words.{get-change, Broker, Mount, Role, Names, names_of, plainly, reply, Done, ◌>>=◌}
+use Rattle.broker_model.specs.Words.{some_or, unless, first_where_is, Key, one_less, Lease, Token, Refusal, has_lease}
+use Rattle.broker_model.specs.Words.{token_entry, metadata_of, Written, secret_name, write_over, written, Found}
+use Rattle.broker_model.specs.Words.{asked_number, check_and_set, key_or_new, numbered, text_of, lease_object}
+use Rattle.broker_model.specs.Words.{policy_object, role_object, lease_reply, plain_reply, SecretWrite, TokenRenewal}
+use Rattle.broker_model.specs.Words.{act, Command, on_cubbyhole, on_issued, on_lease, on_policy, on_secret, on_token}
+use Rattle.broker_model.specs.Words.{Outcome, Wrapped, finish, wrapped, wraps, permits, Request, operated, request_of}
+use Rattle.broker_model.specs.Words.{step, traits, shown_lease, Place, metadata_reply, version_answered, written_reply}
+use Rattle.broker_model.specs.Words.{auth_reply, token_reply, new_end}
 use Rattle.std.specs.FinMap as fin
-use Rattle.std.proofs.Common.{refl, sym, ◌∙◌, ap, inl, inr}
-use Rattle.std.proofs.lemmas.Bool.{eqb-true, false≢true, or_left, or_right}
-use Rattle.broker_types.specs.Text.{Text, same}
-use Rattle.broker_types.specs.Limits.{greatest_version}
-use Rattle.broker_types.specs.Used.{are_new}
-use Rattle.broker_types.specs.TextLaws.{same_true}
-use Rattle.broker_types.specs.Map.{entries, first_where, get}
-use Rattle.broker_types.specs.MapLaws.{get-change}
-use Rattle.broker_types.specs.Broker.{Broker, Mount, Role}
-use Rattle.broker_types.specs.Names.{Names, names_of}
-use Rattle.broker_types.specs.Operation.{plainly, reply, Done}
-use Rattle.broker_types.specs.Refuse.{◌>>=◌, some_or, unless}
-use Rattle.broker_types.specs.SearchLaws.{first_where_is}
-use Rattle.broker_types.specs.Secret.{Key}
-use Rattle.broker_types.specs.Spending.{one_less}
-use Rattle.broker_types.specs.Token.{Lease, Token}
 use Rattle.broker_types.specs.declared.refusal.Denial.TheVariants as denial
 use Rattle.broker_types.specs.declared.refusal.Field.TheVariants as field
 use Rattle.broker_types.specs.declared.refusal.Reason.TheVariants as reason
-use Rattle.broker_types.specs.declared.refusal.Refusal.{Refusal}
 use Rattle.broker_types.specs.declared.refusal.Refusal.TheVariants as refusal
-use Rattle.records.specs.Rows.{has_lease}
-use Rattle.records.specs.TokenEntry.{token_entry}
 use Rattle.leases.specs.Leases as leases
 use Rattle.token_tree.specs.Tokens as tree
-use Rattle.kv2.specs.Metadata.{metadata_of}
 use Rattle.kv2.specs.Secrets as secrets
-use Rattle.kv2.specs.Secrets.{Written, secret_name, write_over, written}
-use Rattle.kv2.specs.Versions.{Found, asked_number, check_and_set, key_or_new, numbered}
-use Rattle.policies.specs.Policies.{text_of}
-use Rattle.api_json.specs.Objects.{lease_object, policy_object, role_object}
-use Rattle.api_json.specs.Reply.{lease_reply, plain_reply}
-use Rattle.api_json.specs.declared.secret_bodies.SecretWrite.{SecretWrite}
-use Rattle.api_json.specs.declared.token_bodies.TokenRenewal.{TokenRenewal}
-use Rattle.broker_model.specs.Act.{act}
-use Rattle.broker_model.specs.Command.{Command, on_cubbyhole, on_issued, on_lease, on_policy, on_secret, on_token}
-use Rattle.broker_model.specs.Order.{Outcome, Wrapped, finish, wrapped, wraps}
-use Rattle.broker_model.specs.Permission.{permits}
-use Rattle.broker_model.specs.Request.{Request}
-use Rattle.broker_model.specs.ServedAsks.{operated}
-use Rattle.broker_model.specs.Step.{request_of, step, traits}
 use Rattle.broker_model.specs.declared.commands.CubbyholeCommand.TheVariants as of_cubbyhole
 use Rattle.broker_model.specs.declared.commands.IssuedCommand.TheVariants as of_issued
 use Rattle.broker_model.specs.declared.commands.LeaseCommand.TheVariants as of_lease
 use Rattle.broker_model.specs.declared.commands.PolicyCommand.TheVariants as of_policy
 use Rattle.broker_model.specs.declared.commands.SecretCommand.TheVariants as of_secret
 use Rattle.broker_model.specs.declared.commands.TokenCommand.TheVariants as of_token
-use Rattle.broker_model.specs.parts.Leases.{shown_lease}
-use Rattle.broker_model.specs.parts.Place.{Place}
-use Rattle.broker_model.specs.parts.SecretReplies.{metadata_reply, version_answered, written_reply}
-use Rattle.broker_model.specs.parts.TokenReplies.{auth_reply, token_reply}
-use Rattle.broker_model.specs.parts.Tokens.{new_end}
-use Rattle.histories.specs.History.{Asking, clocked, spent_by}
-use Rattle.histories.specs.Refused.{PoliciesDecide}
-use Rattle.histories.specs.Versions.{LacksVersion, named}
-use Rattle.histories.specs.WhyRefused.{AllTellWhy, Asks, FailsCheck, IsRefusedBy, LacksCheck, LacksId}
+use Rattle.histories.specs.Words.{Asking, clocked, spent_by, PoliciesDecide, LacksVersion, named, AllTellWhy, Asks}
+use Rattle.histories.specs.Words.{FailsCheck, IsRefusedBy, LacksCheck, LacksId}
 use Rattle.histories.proofs.Clients.{from_clock}
 use Rattle.histories.proofs.Requests.{asked_at}
 

@@ -1,45 +1,22 @@
 -- What is answered with a wrap TTL, where the identifiers are new, has the status that it would have without.
-use Rattle.std.specs.Prelude.{◌≡◌, ◌<◌, ◌||◌, ◌&&◌, [], ◌∷◌, List, Bool, true, false, not, nat_lt, if◌then◌else◌}
-use Rattle.std.specs.Prelude.{Option, Some, None, Result, Ok, Err, is_none, ⊤}
-use Rattle.std.specs.List.{AllByRecursion, IsDistinct, list_any}
-use Rattle.std.proofs.Common.{refl, sym, ◌∙◌, ap, arith}
-use Rattle.std.proofs.lemmas.Bool.{lt-ltb, or_right}
-use Rattle.broker_types.specs.Text.{Text, same}
-use Rattle.broker_types.specs.TextLaws.{same_self}
-use Rattle.broker_types.specs.Answer.{Response}
-use Rattle.broker_types.specs.Broker.{Broker}
-use Rattle.broker_types.specs.Map.{Map, get}
-use Rattle.broker_types.specs.Names.{Names, names_of}
-use Rattle.broker_types.specs.Operation.{Answered, Done, nothing, reply, kept_text, missing, plainly}
-use Rattle.broker_types.specs.Refuse.{◌>>=◌, unless}
-use Rattle.broker_types.specs.RefuseLaws.{ok_step}
-use Rattle.broker_types.specs.Status.{status_code}
-use Rattle.broker_types.specs.Used.{are_new}
+use Rattle.std.proofs.Common.{◌≡◌, ◌<◌, ◌||◌, ◌&&◌, ◌∷◌, if◌then◌else◌, [], List, Bool, true, false, not, nat_lt, Some}
+use Rattle.broker_model.specs.Words.{Option, None, Result, Ok, Err, is_none, ⊤, AllByRecursion, IsDistinct, list_any}
+use Rattle.broker_model.specs.Words.{refl, sym, ◌∙◌, ap, arith, lt-ltb, or_right, Text, same, same_self, Response}
+use Rattle.broker_model.specs.Words.{Broker, Map, get, Names, names_of, Answered, Done, nothing, reply, kept_text}
+use Rattle.broker_model.specs.Words.{missing, plainly, ◌>>=◌, unless, ok_step, status_code, are_new, Refusal, has}
+use Rattle.broker_model.specs.Words.{ok_inj, plain_reply, act, Command, command_of, on_cubbyhole, on_issued, on_lease}
+use Rattle.broker_model.specs.Words.{on_mount, on_policy, on_secret, on_token, on_wrapping, Outcome, Wrapped, finish}
+use Rattle.broker_model.specs.Words.{needed, response_to, unwrapped, wrap_200, permits, Request, is_wrapped, operated}
+use Rattle.broker_model.specs.Words.{request_of, step, traits, unwrapped_ask, names_needed}
 use Rattle.broker_types.specs.declared.refusal.Reason.TheVariants as reason
-use Rattle.broker_types.specs.declared.refusal.Refusal.{Refusal}
 use Rattle.broker_types.specs.declared.refusal.Refusal.TheVariants as refusal
-use Rattle.records.specs.Children.{has}
-use Rattle.records.specs.ValueLaws.{ok_inj}
-use Rattle.api_json.specs.Reply.{plain_reply}
-use Rattle.broker_model.specs.Act.{act}
-use Rattle.broker_model.specs.Command.{Command, command_of, on_cubbyhole, on_issued, on_lease, on_mount, on_policy}
-use Rattle.broker_model.specs.Command.{on_secret, on_token, on_wrapping}
-use Rattle.broker_model.specs.Order.{Outcome, Wrapped, finish, needed, response_to, unwrapped, wrap_200}
-use Rattle.broker_model.specs.Permission.{permits}
-use Rattle.broker_model.specs.Request.{Request}
-use Rattle.broker_model.specs.ServedAsks.{is_wrapped, operated}
-use Rattle.broker_model.specs.Step.{request_of, step, traits, unwrapped_ask}
-use Rattle.broker_model.specs.Traits.{names_needed}
 use Rattle.broker_model.specs.declared.commands.IssuedCommand.TheVariants as of_issued
 use Rattle.broker_model.specs.declared.commands.Needs.{Needs}
 use Rattle.broker_model.specs.declared.commands.Needs.TheVariants as needs
 use Rattle.broker_model.specs.declared.commands.TokenCommand.TheVariants as of_token
 use Rattle.broker_model.specs.declared.commands.WrappingCommand.TheVariants as of_responses
-use Rattle.histories.specs.Allowed.{AllNew, identifiers_made}
-use Rattle.histories.specs.Callers.{IsAllowed}
-use Rattle.histories.specs.History.{Asking, clocked, spent_by}
-use Rattle.histories.specs.KeptResponses.{answer_by, unwrapped_answer}
-use Rattle.histories.specs.Refused.{PoliciesDecide}
+use Rattle.histories.specs.Words.{AllNew, identifiers_made, IsAllowed, Asking, clocked, spent_by, answer_by}
+use Rattle.histories.specs.Words.{unwrapped_answer, PoliciesDecide}
 use Rattle.histories.proofs.Carried.{carried_for, leads_to, never_wrapped}
 use Rattle.histories.proofs.Requests.{command_plain}
 use Rattle.histories.proofs.Served.{refused_code}

@@ -1,15 +1,10 @@
 -- What the words and the paths of policies mean.
-use Rattle.std.specs.Prelude.{◌≡◌, ◌++◌, ◌-◌, ◌+◌, [], ◌∷◌, Bool, true, false, cond, length, take, codes}
-use Rattle.std.specs.Prelude.{if◌then◌else◌, Some, None, option_map}
-use Rattle.std.specs.Map.{lookup}
-use Rattle.std.proofs.Common.{refl, ◌∙◌, ap, arith}
-use Rattle.std.proofs.Math.Seq.{take-append_seam}
-use Rattle.broker_types.specs.Text.{Text, same}
-use Rattle.policies.specs.PolicyTexts.{ends_in_star, pattern_of, star, word_named}
-use Rattle.policies.specs.declared.capability.Capability.TheVariants.{Create, Delete, List, Read, Sudo, Update}
-use Rattle.policies.specs.declared.capability.Word.TheVariants.{Deny, Grant, Patch}
-use Rattle.policies.specs.declared.pattern.Pattern.TheVariants.{Exact, Prefix}
-use Rattle.histories.specs.Documented.{PoliciesAreRead, capability_words}
+use Rattle.std.proofs.Common.{◌≡◌, ◌++◌, ◌-◌, ◌+◌, ◌∷◌, if◌then◌else◌, [], Bool, true, false, cond, length, take, codes}
+use Rattle.broker_model.specs.Words.{Some, None, option_map, lookup, refl, ◌∙◌, ap, arith, take-append_seam, Text, same}
+use Rattle.broker_model.specs.Words.{ends_in_star, pattern_of, star, word_named, Create, Delete, Read, Sudo, Update}
+use Rattle.broker_model.specs.Words.{Deny, Grant, Patch, Exact, Prefix}
+use Rattle.policies.specs.declared.capability.Capability.TheVariants.{List}
+use Rattle.histories.specs.Words.{PoliciesAreRead, capability_words}
 
 words : (s : Text) → word_named s ≡ lookup (same s) capability_words
 words s =

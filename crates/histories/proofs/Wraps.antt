@@ -1,27 +1,13 @@
 -- A 200 to an ask with a wrap TTL is wrapped.
-use Rattle.std.specs.Prelude.{◌≡◌, ◌<◌, true, false, nat_lt, if◌then◌else◌, None, Ok}
-use Rattle.std.proofs.Common.{refl, sym, ◌∙◌, ap, arith}
-use Rattle.std.proofs.lemmas.Bool.{and_from, false≢true, lt-ltb}
-use Rattle.broker_types.specs.Names.{Names, names_of}
-use Rattle.broker_types.specs.Broker.{Broker}
-use Rattle.broker_types.specs.Operation.{Answered, nothing, reply, kept_text, missing}
-use Rattle.broker_types.specs.Sound.{Sound}
-use Rattle.broker_types.specs.Status.{status_code}
+use Rattle.std.proofs.Common.{◌≡◌, ◌<◌, if◌then◌else◌, true, false, nat_lt, None, Ok, refl, sym, ◌∙◌, ap, arith, lt-ltb}
+use Rattle.broker_model.specs.Words.{and_from, false≢true, Names, names_of, Broker, Answered, nothing, reply, kept_text}
+use Rattle.broker_model.specs.Words.{missing, Sound, status_code, ok_inj, act, Command, on_wrapping, command_of}
+use Rattle.broker_model.specs.Words.{is_kept, forms, OperationsDoAsTold, Outcome, Wrapped, kept_entry, response_to}
+use Rattle.broker_model.specs.Words.{unwrapped, wrap_200, wrapped, wraps, permits, are_proper, Request, request_of}
+use Rattle.broker_model.specs.Words.{step, traits}
 use Rattle.broker_types.specs.declared.status.Status.TheVariants as status
-use Rattle.records.specs.ValueLaws.{ok_inj}
-use Rattle.broker_model.specs.Act.{act}
-use Rattle.broker_model.specs.Command.{Command, on_wrapping, command_of}
-use Rattle.broker_model.specs.Effects.{is_kept}
-use Rattle.broker_model.specs.Forms.{forms}
-use Rattle.broker_model.specs.Laws.{OperationsDoAsTold}
-use Rattle.broker_model.specs.Order.{Outcome, Wrapped, kept_entry, response_to, unwrapped, wrap_200, wrapped, wraps}
-use Rattle.broker_model.specs.Permission.{permits}
-use Rattle.broker_model.specs.ProperLaws.{are_proper}
-use Rattle.broker_model.specs.Request.{Request}
-use Rattle.broker_model.specs.Step.{request_of, step, traits}
 use Rattle.broker_model.specs.declared.commands.WrappingCommand.TheVariants as of_response
-use Rattle.histories.specs.History.{Asking, clocked}
-use Rattle.histories.specs.KeptResponses.{KeepsReply, stays_plain, unwrapped_body}
+use Rattle.histories.specs.Words.{Asking, clocked, KeepsReply, stays_plain, unwrapped_body}
 use Rattle.histories.proofs.OrderCases.{spent}
 use Rattle.histories.proofs.OrderKeeps.{was_kept}
 use Rattle.histories.proofs.Requests.{means_at_clock, tells_body}

@@ -2,33 +2,15 @@
 -- the others only where what they ask for is not there or may not be made (Vault's documentation, "Tokens"; "Token auth
 -- method (API)"; "Lease, renew, and revoke"; "Response wrapping"; "/sys/policies"; "/sys/mounts"; "KV secrets engine -
 -- version 2 (API)"; "Cubbyhole secrets engine (API)"; the engine that issues credentials is this project's).
-use Rattle.std.specs.Prelude.{◌≡◌, ◌≢◌, ◌⊎◌, ◌<◌, ◌++◌, nat_eq, ℕ, List, [], ◌∷◌, Bool, true, false, Some, None, Ok}
-use Rattle.std.specs.Prelude.{codes, ⊤}
+use Rattle.std.specs.Prelude.{◌≡◌, ◌≢◌, ◌⊎◌, ◌<◌, ◌++◌, ◌∷◌, nat_eq, ℕ, List, [], Bool, true, false, Some, None, Ok, ⊤}
+use Rattle.broker_model.specs.Words.{codes, IsDistinct, starts_with, Text, same, get, Broker, Engine, Mount, Role}
+use Rattle.broker_model.specs.Words.{Waiting, IsNew, is_name, names_of, lease_of, Key, Version, status_code, Lease}
+use Rattle.broker_model.specs.Words.{Token, has, slash, is_policy, LeaseRenewal, MountCreation, SecretWrite}
+use Rattle.broker_model.specs.Words.{TokenCreation, TokenRenewal, Command, command_of, on_cubbyhole, on_issued}
+use Rattle.broker_model.specs.Words.{on_lease, on_secret, on_token, on_mount, on_policy, on_wrapping, no_content, ok}
+use Rattle.broker_model.specs.Words.{is_open, Place}
 use Rattle.std.specs.FinMap as fin
-use Rattle.std.specs.List.{IsDistinct, starts_with}
-use Rattle.broker_types.specs.Text.{Text, same}
-use Rattle.broker_types.specs.Map.{get}
-use Rattle.broker_types.specs.Broker.{Broker, Engine, Mount, Role, Waiting}
-use Rattle.broker_types.specs.Evolves.{IsNew}
-use Rattle.broker_types.specs.Name.{is_name}
-use Rattle.broker_types.specs.Names.{names_of}
-use Rattle.broker_types.specs.IdentifierPlaces.{lease_of}
-use Rattle.broker_types.specs.Secret.{Key, Version}
-use Rattle.broker_types.specs.Status.{status_code}
-use Rattle.broker_types.specs.Token.{Lease, Token}
 use Rattle.broker_types.specs.declared.status.Status.TheVariants as status
-use Rattle.records.specs.Children.{has}
-use Rattle.records.specs.Splits.{slash}
-use Rattle.policies.specs.PolicyTexts.{is_policy}
-use Rattle.api_json.specs.declared.lease_bodies.LeaseRenewal.{LeaseRenewal}
-use Rattle.api_json.specs.declared.mount_bodies.MountCreation.{MountCreation}
-use Rattle.api_json.specs.declared.secret_bodies.SecretWrite.{SecretWrite}
-use Rattle.api_json.specs.declared.token_bodies.TokenCreation.{TokenCreation}
-use Rattle.api_json.specs.declared.token_bodies.TokenRenewal.{TokenRenewal}
-use Rattle.broker_model.specs.Command.{Command, command_of, on_cubbyhole, on_issued, on_lease, on_secret, on_token}
-use Rattle.broker_model.specs.Command.{on_mount, on_policy, on_wrapping}
-use Rattle.broker_model.specs.Responses.{no_content, ok}
-use Rattle.broker_model.specs.ServedAsks.{is_open}
 use Rattle.broker_model.specs.declared.commands.CubbyholeCommand.{CubbyholeCommand}
 use Rattle.broker_model.specs.declared.commands.CubbyholeCommand.TheVariants as cubbyhole
 use Rattle.broker_model.specs.declared.commands.IssuedCommand.{IssuedCommand}
@@ -44,7 +26,6 @@ use Rattle.broker_model.specs.declared.commands.TokenCommand.TheVariants as toke
 use Rattle.broker_model.specs.declared.commands.WrappingCommand.TheVariants as response
 use Rattle.broker_model.specs.declared.making.Making.{Making}
 use Rattle.broker_model.specs.declared.making.Making.TheVariants.{WithoutParent}
-use Rattle.broker_model.specs.parts.Place.{Place}
 use Rattle.histories.specs.Callers.{IsAllowed}
 use Rattle.histories.specs.Creations.{AsksNoEnd, HasRoot, HasSudo}
 use Rattle.histories.specs.History.{AreAsked, Asking, AskedAt, History, clocked}

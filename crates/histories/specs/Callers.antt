@@ -1,10 +1,6 @@
 -- The law of who is served, as a statement (Vault's documentation, "Policies"; "Tokens"; "Response wrapping").
 use Rattle.std.specs.Prelude.{◌≡◌, ◌⊎◌, ℕ, true, false}
-use Rattle.broker_types.specs.Text.{Text}
-use Rattle.broker_types.specs.Map.{without}
-use Rattle.broker_types.specs.Broker.{Broker}
-use Rattle.broker_types.specs.Token.{Token}
-use Rattle.broker_model.specs.ServedAsks.{is_open}
+use Rattle.broker_model.specs.Words.{Text, without, Broker, Token, is_open}
 use Rattle.histories.specs.History.{AreAsked, Asking, AskedAt, History, clocked, spent_by}
 use Rattle.histories.specs.Refused.{Calls, HasNoCaller, HasResponse, IsDenial, IsDenied, is_granted}
 

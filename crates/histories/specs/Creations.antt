@@ -1,27 +1,11 @@
 -- The law of who may make which token, as a statement (Vault's documentation, "Token auth method (API)", create token;
 -- "Tokens", token hierarchies and orphan tokens, root tokens, periodic tokens; what `sudo` allows is this project's).
-use Rattle.std.specs.Prelude.{◌≡◌, ◌≢◌, ◌⊎◌, ◌<◌, ◌+◌, ◌-◌, ℕ, min, [], ◌∷◌, true, false, Some, None, Ok, is_none}
-use Rattle.std.specs.Prelude.{is_some, unwrap_or, codes}
-use Rattle.std.specs.FinMap.{from_entries}
-use Rattle.std.specs.Option.{option_map_or}
-use Rattle.broker_types.specs.Text.{Text}
-use Rattle.broker_types.specs.Map.{entries, get}
-use Rattle.broker_types.specs.Names.{names_of}
-use Rattle.broker_types.specs.Token.{Token}
-use Rattle.broker_types.specs.Broker.{Broker}
+use Rattle.std.specs.Prelude.{◌≡◌, ◌≢◌, ◌⊎◌, ◌<◌, ◌+◌, ◌-◌, ◌∷◌, ℕ, min, [], true, false, Some, None, Ok, is_none}
+use Rattle.broker_model.specs.Words.{is_some, unwrap_or, codes, from_entries, option_map_or, Text, entries, get}
+use Rattle.broker_model.specs.Words.{names_of, Token, Broker, Reply, are_bytes, IsGranted, Sudo, has, auth_object}
+use Rattle.broker_model.specs.Words.{reply_text, TokenCreation, AuthObject, command_of, on_token, ok}
 use Rattle.broker_types.specs.declared.ask.Verb.TheVariants as verb
-use Rattle.broker_types.specs.declared.reply.Reply.{Reply}
 use Rattle.broker_types.specs.declared.status.Status.TheVariants as status
-use Rattle.mounts.specs.Forms.{are_bytes}
-use Rattle.policies.specs.Laws.{IsGranted}
-use Rattle.policies.specs.declared.capability.Capability.TheVariants.{Sudo}
-use Rattle.records.specs.Children.{has}
-use Rattle.api_json.specs.Objects.{auth_object}
-use Rattle.api_json.specs.Reply.{reply_text}
-use Rattle.api_json.specs.declared.token_bodies.TokenCreation.{TokenCreation}
-use Rattle.api_json.specs.declared.token_objects.AuthObject.{AuthObject}
-use Rattle.broker_model.specs.Command.{command_of, on_token}
-use Rattle.broker_model.specs.Responses.{ok}
 use Rattle.broker_model.specs.declared.commands.TokenCommand.TheVariants as token
 use Rattle.broker_model.specs.declared.making.Making.{Making}
 use Rattle.broker_model.specs.declared.making.Making.TheVariants.{WithoutParent}

@@ -1,11 +1,7 @@
 -- The law of a mount that is disabled, as a statement (Vault's documentation, "/sys/mounts", disable secrets engine).
 use Rattle.std.specs.Prelude.{◌≡◌, ◌≢◌, ◌⊎◌, ℕ, true, false, None, Ok}
-use Rattle.broker_types.specs.Text.{Text}
-use Rattle.broker_types.specs.Map.{get}
-use Rattle.broker_types.specs.Broker.{Broker}
-use Rattle.broker_types.specs.IdentifierPlaces.{lease_of}
+use Rattle.broker_model.specs.Words.{Text, get, Broker, lease_of, on_mount, command_of}
 use Rattle.broker_types.specs.declared.status.Status.TheVariants as status
-use Rattle.broker_model.specs.Command.{on_mount, command_of}
 use Rattle.broker_model.specs.declared.commands.MountCommand.TheVariants as mount
 use Rattle.histories.specs.History.{AreAsked, Asking, AskedAt, History, clocked}
 use Rattle.histories.specs.LeaseEnds.{is_below}

@@ -1,37 +1,16 @@
 -- What permission, look-ups and lists are to be by the documentation, in its words, as statements (Vault's
 -- documentation, "Policies", root policy, capabilities, root-protected API endpoints; "Token auth method (API)", look
 -- up by accessor; "KV secrets engine - version 2 (API)" and "Cubbyhole secrets engine (API)", list secrets).
-use Rattle.std.specs.Prelude.{◌≡◌, ◌⊎◌, ◌++◌, ℕ, List, [], ◌∷◌, Contains, true, codes, Some, None, Ok}
-use Rattle.std.specs.Map.{lookup}
-use Rattle.broker_types.specs.Text.{Text, same}
-use Rattle.broker_types.specs.Map.{Map, empty, get}
-use Rattle.broker_types.specs.Broker.{Broker}
-use Rattle.broker_types.specs.Names.{Names}
-use Rattle.broker_types.specs.Operation.{Done}
-use Rattle.broker_types.specs.Token.{Token}
-use Rattle.broker_types.specs.declared.ask.Verb.{Verb}
+use Rattle.std.specs.Prelude.{◌≡◌, ◌⊎◌, ◌++◌, ◌∷◌, ℕ, List, [], Contains, true, codes, Some, None, Ok}
+use Rattle.broker_model.specs.Words.{lookup, Text, same, Map, empty, get, Broker, Names, Done, Token, Verb}
+use Rattle.broker_model.specs.Words.{is_ascending, children, has, lacks, slash, object_at, key_at, Route, asks_sudo}
+use Rattle.broker_model.specs.Words.{route_of, Cubbyholes, Secrets, grants, pattern_of, word_named, Capability, Word}
+use Rattle.broker_model.specs.Words.{Deny, Grant, Patch, Exact, Prefix, find_accessor, asked, permits, act_on_tokens}
 use Rattle.broker_types.specs.declared.ask.Verb.TheVariants as verb
-use Rattle.broker_types.specs.Sound.{is_ascending}
-use Rattle.records.specs.Children.{children, has}
-use Rattle.records.specs.Splits.{lacks, slash}
-use Rattle.cubbyhole.specs.Cubbyhole.{object_at}
-use Rattle.kv2.specs.Secrets.{key_at}
-use Rattle.mounts.specs.Route.{Route, asks_sudo, route_of}
 use Rattle.mounts.specs.declared.operation.CubbyholeOperation.TheVariants as cubbyhole
-use Rattle.mounts.specs.declared.operation.Operation.TheVariants.{Cubbyholes, Secrets}
 use Rattle.mounts.specs.declared.operation.SecretOperation.TheVariants as secret
-use Rattle.policies.specs.Grants.{grants}
-use Rattle.policies.specs.PolicyTexts.{pattern_of, word_named}
-use Rattle.policies.specs.declared.capability.Capability.{Capability}
 use Rattle.policies.specs.declared.capability.Capability.TheVariants as capability
-use Rattle.policies.specs.declared.capability.Word.{Word}
-use Rattle.policies.specs.declared.capability.Word.TheVariants.{Deny, Grant, Patch}
-use Rattle.policies.specs.declared.pattern.Pattern.TheVariants.{Exact, Prefix}
-use Rattle.token_tree.specs.Tokens.{find_accessor}
-use Rattle.broker_model.specs.Capabilities.{asked}
-use Rattle.broker_model.specs.Permission.{permits}
 use Rattle.broker_model.specs.declared.commands.TokenCommand.TheVariants as token
-use Rattle.broker_model.specs.parts.Tokens.{act_on_tokens}
 
 -- ---- root
 

@@ -1,18 +1,7 @@
 -- Histories: what the events of a run ask of the broker, one after another (this project's definition).
-use Rattle.std.specs.Prelude.{◌≡◌, ◌≢◌, ◌<◌, ◌≤◌, ◌^◌, ℕ, List, [], ◌∷◌, Option, Some, None, slice_index_or, ⊤}
-use Rattle.std.specs.List.{flat_map}
-use Rattle.std.specs.Option.{option_map_or}
-use Rattle.broker_types.specs.Text.{Text}
-use Rattle.broker_types.specs.Moment.{greatest_moment}
-use Rattle.broker_types.specs.Broker.{Broker, at_moment}
-use Rattle.broker_types.specs.First.{first_broker}
-use Rattle.broker_types.specs.Sound.{Sound}
-use Rattle.broker_types.specs.Spending.{spend}
-use Rattle.broker_types.specs.declared.ask.Ask.{Ask}
-use Rattle.broker_types.specs.declared.words.Words.{Words}
-use Rattle.broker_model.specs.Forms.{forms}
-use Rattle.broker_model.specs.Order.{Outcome}
-use Rattle.broker_model.specs.Step.{step}
+use Rattle.std.specs.Prelude.{◌≡◌, ◌≢◌, ◌<◌, ◌≤◌, ◌^◌, ◌∷◌, ℕ, List, [], Option, Some, None, slice_index_or, ⊤}
+use Rattle.broker_model.specs.Words.{flat_map, option_map_or, Text, greatest_moment, Broker, at_moment, first_broker}
+use Rattle.broker_model.specs.Words.{Sound, spend, Ask, Words, forms, Outcome, step}
 
 -- ---- what is asked
 

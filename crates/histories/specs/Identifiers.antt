@@ -1,12 +1,8 @@
 -- The law that no identifier is given out twice, as a statement (this project's).
-use Rattle.std.specs.Prelude.{◌≡◌, ◌⊎◌, ℕ, take, ◌∷◌, true, Some}
-use Rattle.std.specs.List.{IsDistinct, list_any}
-use Rattle.broker_types.specs.Text.{Text, same}
-use Rattle.broker_types.specs.Map.{get}
-use Rattle.broker_types.specs.Broker.{Broker, Waiting}
-use Rattle.broker_types.specs.Evolves.{IsNew}
-use Rattle.broker_types.specs.Identifier.{id}
-use Rattle.broker_types.specs.IdentifierPlaces.{AllUsed, IsUsed, Place, identifier_at}
+use Rattle.std.specs.Prelude.{◌≡◌, ◌⊎◌, ◌∷◌, ℕ, take, true, Some}
+use Rattle.broker_model.specs.Words.{IsDistinct, list_any, Text, same, get, Broker, Waiting, IsNew, id, AllUsed, IsUsed}
+use Rattle.broker_model.specs.Words.{identifier_at}
+use Rattle.broker_types.specs.IdentifierPlaces.{Place}
 use Rattle.histories.specs.History.{Asking, AskedAt, Beginning, History, clocked, given_out}
 
 -- the identifier was in the place before the event, and at its clock still

@@ -1,25 +1,13 @@
 -- The laws of responses that were kept, as statements: each is handed out once, by an unwrap, and is the reply that was
 -- kept (Vault's documentation, "Response wrapping").
-use Rattle.std.specs.Prelude.{◌≡◌, ◌≢◌, ◌<◌, ◌≤◌, ◌⊎◌, ◌+◌, ℕ, max, List, [], Bool, true, false}
-use Rattle.std.specs.Prelude.{Option, Some, None, Result, Ok, Err}
+use Rattle.std.specs.Prelude.{◌≡◌, ◌≢◌, ◌<◌, ◌≤◌, ◌⊎◌, ◌+◌, ℕ, max, List, [], Bool, true, false, Option, Some, None, Ok}
+use Rattle.broker_model.specs.Words.{Result, Err, Text, IsRefused, Response, get, Broker, Waiting, Names, names_of}
+use Rattle.broker_model.specs.Words.{token_text, Refusal, body_members, waiting_object, wrap_object, plain_reply}
+use Rattle.broker_model.specs.Words.{reply_text, wrap_reply, Command, on_wrapping, command_of, wrap_info, ok, is_open}
+use Rattle.broker_model.specs.Words.{step, unwrapped_ask}
 use Rattle.serde_json.specs.Data.{Members, object}
 use Rattle.serde_json.specs.Written.{compact_text}
-use Rattle.broker_types.specs.Text.{Text}
-use Rattle.broker_types.specs.Answer.{IsRefused, Response}
-use Rattle.broker_types.specs.Map.{get}
-use Rattle.broker_types.specs.Broker.{Broker, Waiting}
-use Rattle.broker_types.specs.Names.{Names, names_of}
-use Rattle.broker_types.specs.TokenText.{token_text}
-use Rattle.broker_types.specs.declared.refusal.Refusal.{Refusal}
 use Rattle.broker_types.specs.declared.status.Status.TheVariants as status
-use Rattle.api_json.specs.Json.{body_members}
-use Rattle.api_json.specs.Objects.{waiting_object, wrap_object}
-use Rattle.api_json.specs.Reply.{plain_reply, reply_text, wrap_reply}
-use Rattle.broker_model.specs.Command.{Command, on_wrapping, command_of}
-use Rattle.broker_model.specs.Order.{wrap_info}
-use Rattle.broker_model.specs.Responses.{ok}
-use Rattle.broker_model.specs.ServedAsks.{is_open}
-use Rattle.broker_model.specs.Step.{step, unwrapped_ask}
 use Rattle.broker_model.specs.declared.commands.WrappingCommand.TheVariants as response
 use Rattle.histories.specs.History.{Asking, AskedAt, History, clocked}
 use Rattle.histories.specs.Revocation.{Revokes, RevokesAlone}

@@ -1,11 +1,7 @@
 -- The law of what takes a kept response away, as a statement (Vault's documentation, "Response wrapping",
 -- "/sys/wrapping/unwrap", "/sys/wrapping/rewrap", "Token auth method (API)").
 use Rattle.std.specs.Prelude.{◌≡◌, ◌≤◌, ◌⊎◌, ◌+◌, ℕ, max, Some}
-use Rattle.broker_types.specs.Text.{Text}
-use Rattle.broker_types.specs.Map.{get}
-use Rattle.broker_types.specs.Broker.{Broker, Waiting}
-use Rattle.broker_types.specs.Names.{names_of}
-use Rattle.broker_types.specs.TokenText.{token_text}
+use Rattle.broker_model.specs.Words.{Text, get, Broker, Waiting, names_of, token_text}
 use Rattle.histories.specs.History.{AreAsked, Asking, AskedAt, History, clocked}
 use Rattle.histories.specs.KeptResponses.{Rewraps, TakesTokenOut, Unwraps}
 

@@ -1,16 +1,9 @@
 -- The law that a revoked lease stays revoked, as a statement (Vault's documentation, "Lease, renew, and revoke",
 -- "/sys/leases", "/sys/mounts").
 use Rattle.std.specs.Prelude.{◌≡◌, ◌≢◌, ◌≤◌, ◌⊎◌, ◌++◌, ℕ, Bool, true, Some, None, Ok, nat_eq, codes}
-use Rattle.std.specs.List.{starts_with}
-use Rattle.broker_types.specs.Answer.{IsRefused}
-use Rattle.broker_types.specs.Text.{Text}
-use Rattle.broker_types.specs.Map.{get}
-use Rattle.broker_types.specs.Token.{Lease}
-use Rattle.broker_types.specs.Broker.{Broker}
-use Rattle.broker_types.specs.IdentifierPlaces.{lease_of}
+use Rattle.broker_model.specs.Words.{starts_with, IsRefused, Text, get, Lease, Broker, lease_of, Command, on_lease}
+use Rattle.broker_model.specs.Words.{on_mount, command_of, no_content}
 use Rattle.broker_types.specs.declared.status.Status.TheVariants as status
-use Rattle.broker_model.specs.Command.{Command, on_lease, on_mount, command_of}
-use Rattle.broker_model.specs.Responses.{no_content}
 use Rattle.broker_model.specs.declared.commands.LeaseCommand.{LeaseCommand}
 use Rattle.broker_model.specs.declared.commands.LeaseCommand.TheVariants as lease
 use Rattle.broker_model.specs.declared.commands.MountCommand.{MountCommand}

@@ -1,20 +1,10 @@
 -- The law of whose each lease is, and how long it lasts, as a statement (Vault's documentation, "Lease, renew, and
 -- revoke"; "Tokens", use limits; the engine that issues credentials is this project's).
-use Rattle.std.specs.Prelude.{◌≡◌, ◌≢◌, ◌⊎◌, ◌<◌, ◌+◌, ◌++◌, ℕ, min, ◌∷◌, Some, None, Ok, codes}
-use Rattle.broker_types.specs.Text.{Text}
-use Rattle.broker_types.specs.Map.{get}
-use Rattle.broker_types.specs.Broker.{Role}
-use Rattle.broker_types.specs.Token.{Token, Lease}
-use Rattle.broker_types.specs.Evolves.{WasBefore}
-use Rattle.broker_types.specs.Names.{names_of}
-use Rattle.broker_types.specs.IdentifierPlaces.{lease_of}
+use Rattle.std.specs.Prelude.{◌≡◌, ◌≢◌, ◌⊎◌, ◌<◌, ◌+◌, ◌++◌, ◌∷◌, ℕ, min, Some, None, Ok, codes}
+use Rattle.broker_model.specs.Words.{Text, get, Role, Token, Lease, WasBefore, names_of, lease_of, slash}
+use Rattle.broker_model.specs.Words.{credential_object, lease_reply, reply_text, on_issued, command_of, Place}
 use Rattle.broker_types.specs.declared.status.Status.TheVariants as status
-use Rattle.records.specs.Splits.{slash}
-use Rattle.api_json.specs.Objects.{credential_object}
-use Rattle.api_json.specs.Reply.{lease_reply, reply_text}
-use Rattle.broker_model.specs.Command.{on_issued, command_of}
 use Rattle.broker_model.specs.declared.commands.IssuedCommand.TheVariants as issued
-use Rattle.broker_model.specs.parts.Place.{Place}
 use Rattle.histories.specs.History.{Asking, AskedAt, History, clocked}
 use Rattle.histories.specs.KeptResponses.{unwrapped_body}
 use Rattle.histories.specs.Revocation.{IsClient}

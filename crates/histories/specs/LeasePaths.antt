@@ -1,19 +1,11 @@
 -- What the paths mean that end leases (Vault's documentation, "/sys/leases", "/sys/mounts").
-use Rattle.std.specs.Prelude.{◌≡◌, ◌++◌, ℕ, [], ◌∷◌, true, Result, Ok, codes}
-use Rattle.broker_types.specs.Text.{Text}
-use Rattle.broker_types.specs.Map.{Map}
-use Rattle.broker_types.specs.Broker.{Mount}
-use Rattle.broker_types.specs.declared.ask.Ask.{Ask}
-use Rattle.broker_types.specs.declared.ask.Verb.{Verb}
+use Rattle.std.specs.Prelude.{◌≡◌, ◌++◌, ◌∷◌, ℕ, [], true, Result, Ok, codes}
+use Rattle.broker_model.specs.Words.{Text, Map, Mount, Ask, Verb, Refusal, lacks, slash, are_bytes, Command, command_of}
+use Rattle.broker_model.specs.Words.{meant_by, on_lease, on_mount, read_as, read_none}
 use Rattle.broker_types.specs.declared.ask.Verb.TheVariants as verb
-use Rattle.broker_types.specs.declared.refusal.Refusal.{Refusal}
-use Rattle.records.specs.Splits.{lacks, slash}
-use Rattle.mounts.specs.Forms.{are_bytes}
 use Rattle.api_json.specs.Readers as reader
-use Rattle.broker_model.specs.Command.{Command, command_of, meant_by, on_lease, on_mount}
 use Rattle.broker_model.specs.declared.commands.LeaseCommand.TheVariants as lease
 use Rattle.broker_model.specs.declared.commands.MountCommand.TheVariants as mount
-use Rattle.broker_model.specs.parts.Bodies.{read_as, read_none}
 
 -- the verb means this at the path, or is refused by it, whatever mounts there are
 abbrev pub AskedMeans : Verb → Text → (Ask → Result Command Refusal) → Type 0

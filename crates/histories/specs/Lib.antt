@@ -25,3 +25,4 @@ pub mod Shown
 pub mod Statuses
 pub mod Versions
 pub mod WhyRefused
+pub mod Words

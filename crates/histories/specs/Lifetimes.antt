@@ -1,10 +1,7 @@
 -- The law of how long a token lives, as a statement (Vault's documentation, "Tokens", token time-to-live, explicit max
 -- TTLs, periodic tokens, root tokens; the 32 days are Vault's default for the longest).
 use Rattle.std.specs.Prelude.{◌≡◌, ◌≢◌, ◌≤◌, ◌+◌, ℕ, Some, None}
-use Rattle.broker_types.specs.Text.{Text}
-use Rattle.broker_types.specs.Map.{get}
-use Rattle.broker_types.specs.Token.{Token}
-use Rattle.broker_types.specs.Broker.{Broker}
+use Rattle.broker_model.specs.Words.{Text, get, Token, Broker}
 use Rattle.histories.specs.Creations.{HasRoot}
 use Rattle.histories.specs.History.{Asking, AskedAt, History, clocked}
 

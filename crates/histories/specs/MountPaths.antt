@@ -1,23 +1,14 @@
 -- What the paths mean that lead to a mount which was enabled, and those of policies, of mounts and of cubbyholes that
 -- are not in the other lists (Vault's documentation, "KV secrets engine - version 2 (API)", "/sys/policies",
 -- "/sys/mounts", "Cubbyhole secrets engine (API)"; the engine that issues credentials is this project's).
-use Rattle.std.specs.Prelude.{◌≡◌, ◌++◌, ℕ, [], ◌∷◌, true, Result, Ok, Some, codes}
-use Rattle.broker_types.specs.Text.{Text}
-use Rattle.broker_types.specs.Map.{Map, get}
-use Rattle.broker_types.specs.Name.{is_mount_name}
-use Rattle.broker_types.specs.Broker.{Engine, Mount, issued, kv}
-use Rattle.broker_types.specs.Refuse.{◌>>=◌}
-use Rattle.broker_types.specs.declared.ask.Ask.{Ask}
-use Rattle.broker_types.specs.declared.ask.Verb.{Verb}
+use Rattle.std.specs.Prelude.{◌≡◌, ◌++◌, ◌∷◌, ℕ, [], true, Result, Ok, Some, codes}
+use Rattle.broker_model.specs.Words.{Text, Map, get, is_mount_name, Engine, Mount, issued, kv, ◌>>=◌, Ask, Verb}
+use Rattle.broker_model.specs.Words.{Refusal, lacks, slash, are_bytes, body_members, Command, command_of, meant_by}
+use Rattle.broker_model.specs.Words.{on_cubbyhole, on_issued, on_mount, on_policy, on_secret, read_as, full_text, Place}
+use Rattle.broker_model.specs.Words.{at}
 use Rattle.broker_types.specs.declared.ask.Verb.TheVariants as verb
-use Rattle.broker_types.specs.declared.refusal.Refusal.{Refusal}
 use Rattle.serde_json.specs.Data.{Members}
-use Rattle.records.specs.Splits.{lacks, slash}
-use Rattle.mounts.specs.Forms.{are_bytes}
-use Rattle.api_json.specs.Json.{body_members}
 use Rattle.api_json.specs.Readers as reader
-use Rattle.broker_model.specs.Command.{Command, command_of, meant_by, on_cubbyhole, on_issued, on_mount, on_policy}
-use Rattle.broker_model.specs.Command.{on_secret}
 use Rattle.broker_model.specs.declared.commands.CubbyholeCommand.TheVariants as cubbyhole
 use Rattle.broker_model.specs.declared.commands.IssuedCommand.{IssuedCommand}
 use Rattle.broker_model.specs.declared.commands.IssuedCommand.TheVariants as of_issued
@@ -25,9 +16,6 @@ use Rattle.broker_model.specs.declared.commands.MountCommand.TheVariants as moun
 use Rattle.broker_model.specs.declared.commands.PolicyCommand.TheVariants as policy
 use Rattle.broker_model.specs.declared.commands.SecretCommand.{SecretCommand}
 use Rattle.broker_model.specs.declared.commands.SecretCommand.TheVariants as secret
-use Rattle.broker_model.specs.parts.Bodies.{read_as}
-use Rattle.broker_model.specs.parts.Cubbyholes.{full_text}
-use Rattle.broker_model.specs.parts.Place.{Place, at}
 use Rattle.histories.specs.LeasePaths.{AskedMeans}
 
 -- ---- paths below the name of a mount

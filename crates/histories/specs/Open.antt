@@ -1,14 +1,9 @@
 -- The law of open requests, which need no caller, as statements (Vault's documentation, "/sys/wrapping/lookup" and
 -- "/sys/wrapping/unwrap"; that a rewrap may be open is this project's).
 use Rattle.std.specs.Prelude.{◌≡◌, ℕ, true, Ok, ⊤, codes}
-use Rattle.broker_types.specs.Map.{Map}
-use Rattle.broker_types.specs.Broker.{Broker, Mount, at_moment}
-use Rattle.broker_types.specs.declared.ask.Ask.{Ask}
+use Rattle.broker_model.specs.Words.{Map, Broker, Mount, at_moment, Ask, Words, Command, on_wrapping, command_of}
+use Rattle.broker_model.specs.Words.{is_open, step}
 use Rattle.broker_types.specs.declared.ask.Verb.TheVariants as verb
-use Rattle.broker_types.specs.declared.words.Words.{Words}
-use Rattle.broker_model.specs.Command.{Command, on_wrapping, command_of}
-use Rattle.broker_model.specs.ServedAsks.{is_open}
-use Rattle.broker_model.specs.Step.{step}
 use Rattle.broker_model.specs.declared.commands.WrappingCommand.{WrappingCommand}
 use Rattle.broker_model.specs.declared.commands.WrappingCommand.TheVariants as response
 

@@ -1,19 +1,10 @@
 -- The law that what is another's stays, as a statement: what makes a token go, what may change of one that stands, and
 -- who reads a cubbyhole (Vault's documentation, "Tokens"; "Lease, renew, and revoke"; "Cubbyhole secrets engine").
 use Rattle.std.specs.Prelude.{◌≡◌, ◌≢◌, ◌⊎◌, ◌≤◌, ◌+◌, ℕ, min, true, Option, Some, None, Ok, ⊤}
-use Rattle.broker_types.specs.Text.{Text}
-use Rattle.broker_types.specs.Map.{Map, get, keys}
-use Rattle.broker_types.specs.Token.{Token, Lease}
-use Rattle.broker_types.specs.Lineage.{is_under}
-use Rattle.broker_types.specs.Names.{names_of}
-use Rattle.broker_types.specs.IdentifierPlaces.{lease_of}
+use Rattle.broker_model.specs.Words.{Text, Map, get, keys, Token, Lease, is_under, names_of, lease_of, children, folder}
+use Rattle.broker_model.specs.Words.{keys_object, plain_reply, reply_text, LeaseRenewal, on_cubbyhole, on_lease}
+use Rattle.broker_model.specs.Words.{on_token, command_of, ok}
 use Rattle.broker_types.specs.declared.status.Status.TheVariants as status
-use Rattle.records.specs.Children.{children, folder}
-use Rattle.api_json.specs.Objects.{keys_object}
-use Rattle.api_json.specs.Reply.{plain_reply, reply_text}
-use Rattle.api_json.specs.declared.lease_bodies.LeaseRenewal.{LeaseRenewal}
-use Rattle.broker_model.specs.Command.{on_cubbyhole, on_lease, on_token, command_of}
-use Rattle.broker_model.specs.Responses.{ok}
 use Rattle.broker_model.specs.declared.commands.CubbyholeCommand.{CubbyholeCommand}
 use Rattle.broker_model.specs.declared.commands.CubbyholeCommand.TheVariants as cubbyhole
 use Rattle.broker_model.specs.declared.commands.LeaseCommand.TheVariants as lease

@@ -1,20 +1,13 @@
 -- What the paths mean of which the laws over histories speak by their commands (Vault's documentation, "Token auth
 -- method (API)", "/sys/wrapping", "/sys/leases", "Cubbyhole secrets engine (API)").
-use Rattle.std.specs.Prelude.{◌≡◌, ◌++◌, ℕ, [], ◌∷◌, true, Option, Some, None, Result, Ok, codes}
+use Rattle.std.specs.Prelude.{◌≡◌, ◌++◌, ◌∷◌, ℕ, [], true, Option, Some, None, Result, Ok, codes}
 use Rattle.serde_json.specs.Data.{Members, object}
 use Rattle.serde_json.specs.Written.{compact_text}
-use Rattle.broker_types.specs.Text.{Text}
-use Rattle.broker_types.specs.Map.{Map}
-use Rattle.broker_types.specs.Broker.{Mount}
-use Rattle.broker_types.specs.Refuse.{◌>>=◌}
-use Rattle.broker_types.specs.declared.ask.Ask.{Ask}
+use Rattle.broker_model.specs.Words.{Text, Map, Mount, ◌>>=◌, Ask, Refusal, are_bytes, body_members, TokenCreation}
+use Rattle.broker_model.specs.Words.{Command, on_cubbyhole, on_lease, on_token, on_wrapping, command_of, meant_by}
+use Rattle.broker_model.specs.Words.{read_as, read_none, token_meant}
 use Rattle.broker_types.specs.declared.ask.Verb.TheVariants as verb
-use Rattle.broker_types.specs.declared.refusal.Refusal.{Refusal}
-use Rattle.mounts.specs.Forms.{are_bytes}
-use Rattle.api_json.specs.Json.{body_members}
 use Rattle.api_json.specs.Readers as reader
-use Rattle.api_json.specs.declared.token_bodies.TokenCreation.{TokenCreation}
-use Rattle.broker_model.specs.Command.{Command, on_cubbyhole, on_lease, on_token, on_wrapping, command_of, meant_by}
 use Rattle.broker_model.specs.declared.commands.CubbyholeCommand.{CubbyholeCommand}
 use Rattle.broker_model.specs.declared.commands.CubbyholeCommand.TheVariants as cubbyhole
 use Rattle.broker_model.specs.declared.commands.LeaseCommand.{LeaseCommand}
@@ -25,8 +18,6 @@ use Rattle.broker_model.specs.declared.commands.WrappingCommand.{WrappingCommand
 use Rattle.broker_model.specs.declared.commands.WrappingCommand.TheVariants as response
 use Rattle.broker_model.specs.declared.making.Making.{Making}
 use Rattle.broker_model.specs.declared.making.Making.TheVariants.{OfCaller, WithoutParent}
-use Rattle.broker_model.specs.parts.Bodies.{read_as, read_none}
-use Rattle.broker_model.specs.parts.WrappingCommands.{token_meant}
 use Rattle.histories.specs.LeasePaths.{AskedMeans}
 
 -- POST and PUT of the path mean this, or are refused by it, whatever mounts there are

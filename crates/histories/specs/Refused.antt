@@ -1,28 +1,13 @@
 -- The laws of refused requests, and of what policies decide, as statements (Vault's documentation, "Policies";
 -- "Tokens", use limits; "Response wrapping").
 use Rattle.std.specs.Prelude.{◌≡◌, ◌≢◌, ◌≤◌, ◌⊎◌, ◌&&◌, ◌||◌, ℕ, Bool, true, false, not, Some, None, Ok}
-use Rattle.broker_types.specs.Text.{Text}
-use Rattle.broker_types.specs.Map.{get, without}
-use Rattle.broker_types.specs.Answer.{IsRefused, Response, refused}
-use Rattle.broker_types.specs.Broker.{Broker, at_moment}
-use Rattle.broker_types.specs.Names.{names_of}
-use Rattle.broker_types.specs.Refuse.{◌>>=◌}
-use Rattle.broker_types.specs.Spending.{spend, end_spent, drop_waiting}
-use Rattle.broker_types.specs.Status.{status_code}
-use Rattle.broker_types.specs.Token.{Token}
-use Rattle.broker_types.specs.declared.ask.Ask.{Ask}
+use Rattle.broker_model.specs.Words.{Text, get, without, IsRefused, Response, refused, Broker, at_moment, names_of}
+use Rattle.broker_model.specs.Words.{◌>>=◌, spend, end_spent, drop_waiting, status_code, Token, Ask, Words, asks_sudo}
+use Rattle.broker_model.specs.Words.{grants, Sudo, asked, on_wrapping, command_of, Outcome, finish, permission_denied}
+use Rattle.broker_model.specs.Words.{is_open, operated, step}
 use Rattle.broker_types.specs.declared.refusal.Denial.TheVariants as denial
 use Rattle.broker_types.specs.declared.refusal.Refusal.TheVariants as refusal
 use Rattle.broker_types.specs.declared.status.Status.TheVariants as status
-use Rattle.broker_types.specs.declared.words.Words.{Words}
-use Rattle.mounts.specs.Route.{asks_sudo}
-use Rattle.policies.specs.Grants.{grants}
-use Rattle.policies.specs.declared.capability.Capability.TheVariants.{Sudo}
-use Rattle.broker_model.specs.Capabilities.{asked}
-use Rattle.broker_model.specs.Command.{on_wrapping, command_of}
-use Rattle.broker_model.specs.Order.{Outcome, finish, permission_denied}
-use Rattle.broker_model.specs.ServedAsks.{is_open, operated}
-use Rattle.broker_model.specs.Step.{step}
 use Rattle.broker_model.specs.declared.commands.WrappingCommand.TheVariants as of_responses
 
 -- ---- what a refused request leaves

@@ -1,31 +1,16 @@
 -- The law of revocation, as a statement (Vault's documentation, "Tokens", token hierarchies and orphan tokens, use
 -- limits; "Lease, renew, and revoke").
-use Rattle.std.specs.Prelude.{◌≡◌, ◌≢◌, ◌<◌, ◌≤◌, ◌⊎◌, ◌&&◌, ◌||◌, ◌-◌, ℕ, max, nat_lt, Bool, true, false}
-use Rattle.std.specs.Prelude.{if◌then◌else◌, Option, Some, None, Ok, option_map}
-use Rattle.std.specs.Option.{option_map_or}
-use Rattle.broker_types.specs.Text.{Text, same}
-use Rattle.broker_types.specs.Map.{get, keep}
-use Rattle.broker_types.specs.Token.{Token, Tokens, Lease}
-use Rattle.broker_types.specs.Lineage.{is_under}
-use Rattle.broker_types.specs.Broker.{Broker}
-use Rattle.broker_types.specs.Names.{names_of}
-use Rattle.broker_types.specs.IdentifierPlaces.{lease_of, lease_identifier}
-use Rattle.broker_types.specs.Spending.{is_spent}
-use Rattle.broker_types.specs.TokenText.{token_text}
-use Rattle.broker_types.specs.Used.{are_new}
-use Rattle.broker_types.specs.Answer.{IsRefused, refused}
+use Rattle.std.specs.Prelude.{◌≡◌, ◌≢◌, ◌<◌, ◌≤◌, ◌⊎◌, ◌&&◌, ◌||◌, ◌-◌, if◌then◌else◌, ℕ, max, nat_lt, Bool, true, Some}
+use Rattle.broker_model.specs.Words.{false, Option, None, Ok, option_map, option_map_or, Text, same, get, keep, Token}
+use Rattle.broker_model.specs.Words.{Tokens, Lease, is_under, Broker, names_of, lease_of, lease_identifier, is_spent}
+use Rattle.broker_model.specs.Words.{token_text, are_new, IsRefused, refused, object_at, TokenCreation, Command}
+use Rattle.broker_model.specs.Words.{on_token, on_wrapping, command_of, permission_denied, no_content, is_open}
+use Rattle.broker_model.specs.Words.{wrapping_names}
 use Rattle.broker_types.specs.declared.refusal.Refusal.TheVariants as refusal
 use Rattle.broker_types.specs.declared.refusal.Reason.TheVariants as reason
 use Rattle.broker_types.specs.declared.status.Status.TheVariants as status
-use Rattle.cubbyhole.specs.Cubbyhole.{object_at}
 use Rattle.token_tree.specs.Tokens as tree
 use Rattle.wrapping.specs.Wrapping as wrapping
-use Rattle.api_json.specs.declared.token_bodies.TokenCreation.{TokenCreation}
-use Rattle.broker_model.specs.Command.{Command, on_token, on_wrapping, command_of}
-use Rattle.broker_model.specs.Order.{permission_denied}
-use Rattle.broker_model.specs.Responses.{no_content}
-use Rattle.broker_model.specs.ServedAsks.{is_open}
-use Rattle.broker_model.specs.Traits.{wrapping_names}
 use Rattle.broker_model.specs.declared.commands.TokenCommand.{TokenCommand}
 use Rattle.broker_model.specs.declared.commands.TokenCommand.TheVariants as token
 use Rattle.broker_model.specs.declared.commands.WrappingCommand.{WrappingCommand}

@@ -2,16 +2,10 @@
 -- 2").
 use Rattle.std.specs.Prelude.{◌≡◌, ℕ, List, Contains, Some, None, Ok}
 use Rattle.std.specs.FinMap as fin
-use Rattle.broker_types.specs.Broker.{Broker}
-use Rattle.broker_types.specs.Text.{Text}
-use Rattle.broker_types.specs.Map.{get}
-use Rattle.broker_types.specs.Secret.{Key, Version}
+use Rattle.broker_model.specs.Words.{Broker, Text, get, Key, Version, secret_name, on_secret, command_of, VersionsStay}
+use Rattle.broker_model.specs.Words.{Place}
 use Rattle.broker_types.specs.declared.status.Status.TheVariants as status
-use Rattle.kv2.specs.Secrets.{secret_name}
-use Rattle.broker_model.specs.Command.{on_secret, command_of}
-use Rattle.broker_model.specs.Effects.{VersionsStay}
 use Rattle.broker_model.specs.declared.commands.SecretCommand.TheVariants as command
-use Rattle.broker_model.specs.parts.Place.{Place}
 use Rattle.histories.specs.History.{AreAsked, Asking, AskedAt, History, clocked}
 
 pub record Secrets (history : History) : Type 0 where

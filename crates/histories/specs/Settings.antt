@@ -2,14 +2,9 @@
 -- these ask for (Vault's documentation, "/sys/policies", "/sys/mounts", "KV secrets engine - version 2 (API)",
 -- configure; the engine that issues credentials is this project's).
 use Rattle.std.specs.Prelude.{◌≡◌, ◌≢◌, ◌⊎◌, ℕ, Bool, false, Option, Some, None, Ok, codes}
-use Rattle.broker_types.specs.Text.{Text}
-use Rattle.broker_types.specs.Map.{get}
-use Rattle.broker_types.specs.Broker.{Broker, Engine, Mount, Role, issued, kv}
+use Rattle.broker_model.specs.Words.{Text, get, Broker, Engine, Mount, Role, issued, kv, RoleSettings, MountCreation}
+use Rattle.broker_model.specs.Words.{MountSettings, command_of, on_issued, on_mount, on_policy, on_secret, Place}
 use Rattle.broker_types.specs.declared.status.Status.TheVariants as status
-use Rattle.api_json.specs.declared.issued_bodies.RoleSettings.{RoleSettings}
-use Rattle.api_json.specs.declared.mount_bodies.MountCreation.{MountCreation}
-use Rattle.api_json.specs.declared.secret_bodies.MountSettings.{MountSettings}
-use Rattle.broker_model.specs.Command.{command_of, on_issued, on_mount, on_policy, on_secret}
 use Rattle.broker_model.specs.declared.commands.IssuedCommand.{IssuedCommand}
 use Rattle.broker_model.specs.declared.commands.IssuedCommand.TheVariants as of_issued
 use Rattle.broker_model.specs.declared.commands.MountCommand.{MountCommand}
@@ -17,7 +12,6 @@ use Rattle.broker_model.specs.declared.commands.MountCommand.TheVariants as of_m
 use Rattle.broker_model.specs.declared.commands.PolicyCommand.{PolicyCommand}
 use Rattle.broker_model.specs.declared.commands.PolicyCommand.TheVariants as of_policy
 use Rattle.broker_model.specs.declared.commands.SecretCommand.TheVariants as of_secret
-use Rattle.broker_model.specs.parts.Place.{Place}
 use Rattle.histories.specs.History.{AreAsked, Asking, AskedAt, History, clocked}
 use Rattle.histories.specs.Versions.{DisablesAbove, named}
 

@@ -1,29 +1,16 @@
 -- The law of what look-ups answer, as a statement (Vault's documentation, "Token auth method (API)",
 -- "/sys/leases", "/sys/policies", "KV secrets engine - version 2 (API)"; the engine that issues credentials is this
 -- project's). The forms of objects are those of `api_json`.
-use Rattle.std.specs.Prelude.{◌≡◌, ◌≢◌, ◌⊎◌, ◌<◌, ◌≤◌, ◌+◌, ◌-◌, ◌++◌, ℕ, min, List, [], ◌∷◌, map, Bool, true, false}
-use Rattle.std.specs.Prelude.{Some, None, Ok, is_none, unwrap_or, codes}
+use Rattle.std.specs.Prelude.{◌≡◌, ◌≢◌, ◌⊎◌, ◌<◌, ◌≤◌, ◌+◌, ◌-◌, ◌++◌, ◌∷◌, ℕ, min, List, [], map, Bool, true, false}
+use Rattle.broker_model.specs.Words.{Some, None, Ok, is_none, unwrap_or, codes, option_map_or, Text, Map, entries, get}
+use Rattle.broker_model.specs.Words.{keys, Broker, Engine, Mount, Role, issued, kv, names_of, lease_of, Key, Version}
+use Rattle.broker_model.specs.Words.{Lease, Token, children, folder, auth_object, key_object, keys_object, lease_object}
+use Rattle.broker_model.specs.Words.{policy_object, role_object, mounts_object, settings_object, token_object}
+use Rattle.broker_model.specs.Words.{valid_object, lease_reply, plain_reply, reply_text, LeaseObject, MountObject}
+use Rattle.broker_model.specs.Words.{KeyObject, TokenObject, VersionObject, Command, command_of, on_issued, on_lease}
+use Rattle.broker_model.specs.Words.{on_mount, on_policy, on_secret, on_token, on_wrapping, Place}
 use Rattle.std.specs.FinMap as fin
-use Rattle.std.specs.Option.{option_map_or}
-use Rattle.broker_types.specs.Text.{Text}
-use Rattle.broker_types.specs.Map.{Map, entries, get, keys}
-use Rattle.broker_types.specs.Broker.{Broker, Engine, Mount, Role, issued, kv}
-use Rattle.broker_types.specs.Names.{names_of}
-use Rattle.broker_types.specs.IdentifierPlaces.{lease_of}
-use Rattle.broker_types.specs.Secret.{Key, Version}
-use Rattle.broker_types.specs.Token.{Lease, Token}
 use Rattle.broker_types.specs.declared.status.Status.TheVariants as status
-use Rattle.records.specs.Children.{children, folder}
-use Rattle.api_json.specs.Objects.{auth_object, key_object, keys_object, lease_object, policy_object, role_object}
-use Rattle.api_json.specs.Objects.{mounts_object, settings_object, token_object, valid_object}
-use Rattle.api_json.specs.Reply.{lease_reply, plain_reply, reply_text}
-use Rattle.api_json.specs.declared.lease_objects.LeaseObject.{LeaseObject}
-use Rattle.api_json.specs.declared.mount_objects.MountObject.{MountObject}
-use Rattle.api_json.specs.declared.secret_objects.KeyObject.{KeyObject}
-use Rattle.api_json.specs.declared.token_objects.TokenObject.{TokenObject}
-use Rattle.api_json.specs.declared.version_list.VersionObject.{VersionObject}
-use Rattle.broker_model.specs.Command.{Command, command_of, on_issued, on_lease, on_mount, on_policy, on_secret}
-use Rattle.broker_model.specs.Command.{on_token, on_wrapping}
 use Rattle.broker_model.specs.declared.commands.IssuedCommand.TheVariants as of_issued
 use Rattle.broker_model.specs.declared.commands.LeaseCommand.TheVariants as of_lease
 use Rattle.broker_model.specs.declared.commands.MountCommand.TheVariants as of_mount
@@ -31,7 +18,6 @@ use Rattle.broker_model.specs.declared.commands.PolicyCommand.TheVariants as of_
 use Rattle.broker_model.specs.declared.commands.SecretCommand.TheVariants as of_secret
 use Rattle.broker_model.specs.declared.commands.TokenCommand.TheVariants as of_token
 use Rattle.broker_model.specs.declared.commands.WrappingCommand.TheVariants as of_response
-use Rattle.broker_model.specs.parts.Place.{Place}
 use Rattle.histories.specs.Creations.{told_of, with_token}
 use Rattle.histories.specs.History.{AreAsked, Asking, AskedAt, History, clocked, spent_by}
 use Rattle.histories.specs.KeptResponses.{unwrapped_answer, unwrapped_body}

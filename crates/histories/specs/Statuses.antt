@@ -1,13 +1,9 @@
 -- The law of how a request is answered that is not refused, as a statement (Vault's documentation, "HTTP API", HTTP
 -- status codes; RFC 9110, sections 15.3.1, 15.3.5 and 15.5.5).
 use Rattle.std.specs.Prelude.{◌≡◌, ◌⊎◌, ℕ, Bool, true, false, None, Ok, codes}
-use Rattle.broker_types.specs.Answer.{IsRefused}
-use Rattle.broker_types.specs.Text.{Text}
-use Rattle.broker_types.specs.Broker.{Broker}
+use Rattle.broker_model.specs.Words.{IsRefused, Text, Broker, Command, command_of, on_cubbyhole, on_issued, on_lease}
+use Rattle.broker_model.specs.Words.{on_mount, on_policy, on_secret, on_token, on_wrapping, no_content, Place}
 use Rattle.broker_types.specs.declared.status.Status.TheVariants as status
-use Rattle.broker_model.specs.Command.{Command, command_of, on_cubbyhole, on_issued, on_lease, on_mount, on_policy}
-use Rattle.broker_model.specs.Command.{on_secret, on_token, on_wrapping}
-use Rattle.broker_model.specs.Responses.{no_content}
 use Rattle.broker_model.specs.declared.commands.CubbyholeCommand.{CubbyholeCommand}
 use Rattle.broker_model.specs.declared.commands.CubbyholeCommand.TheVariants as cubbyhole
 use Rattle.broker_model.specs.declared.commands.IssuedCommand.{IssuedCommand}
@@ -22,7 +18,6 @@ use Rattle.broker_model.specs.declared.commands.SecretCommand.{SecretCommand}
 use Rattle.broker_model.specs.declared.commands.SecretCommand.TheVariants as secret
 use Rattle.broker_model.specs.declared.commands.TokenCommand.{TokenCommand}
 use Rattle.broker_model.specs.declared.commands.TokenCommand.TheVariants as token
-use Rattle.broker_model.specs.parts.Place.{Place}
 use Rattle.histories.specs.History.{AreAsked, Asking, AskedAt, History, clocked}
 use Rattle.histories.specs.Versions.{ShowsEnded}
 

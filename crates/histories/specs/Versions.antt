@@ -1,29 +1,16 @@
 -- The law of what becomes of versioned secrets, as a statement (Vault's documentation, "KV secrets engine - version 2",
 -- check-and-set, deleting and destroying data, key metadata; "/sys/mounts", disable secrets engine).
-use Rattle.std.specs.Prelude.{◌≡◌, ◌≢◌, ◌⊎◌, ◌<◌, ◌≤◌, ◌+◌, ◌++◌, ℕ, List, [], ◌∷◌, Contains, Bool, true, false, nat_eq}
-use Rattle.std.specs.Prelude.{Some, None, Ok, is_none}
+use Rattle.std.specs.Prelude.{◌≡◌, ◌≢◌, ◌⊎◌, ◌<◌, ◌≤◌, ◌+◌, ◌++◌, ◌∷◌, ℕ, List, [], Contains, Bool, true, false, nat_eq}
+use Rattle.broker_model.specs.Words.{Some, None, Ok, is_none, starts_with, refused, Text, get, Broker, Mount, names_of}
+use Rattle.broker_model.specs.Words.{Key, Version, slash, secret_object, version_object, plain_reply, reply_text}
+use Rattle.broker_model.specs.Words.{KeySettings, SecretWrite, VersionObject, on_mount, on_secret, command_of}
+use Rattle.broker_model.specs.Words.{not_found, Place}
 use Rattle.std.specs.FinMap as fin
-use Rattle.std.specs.List.{starts_with}
-use Rattle.broker_types.specs.Answer.{refused}
-use Rattle.broker_types.specs.Text.{Text}
-use Rattle.broker_types.specs.Map.{get}
-use Rattle.broker_types.specs.Broker.{Broker, Mount}
-use Rattle.broker_types.specs.Names.{names_of}
-use Rattle.broker_types.specs.Secret.{Key, Version}
 use Rattle.broker_types.specs.declared.refusal.Refusal.TheVariants as refusal
 use Rattle.broker_types.specs.declared.status.Status.TheVariants as status
-use Rattle.records.specs.Splits.{slash}
-use Rattle.api_json.specs.Objects.{secret_object, version_object}
-use Rattle.api_json.specs.Reply.{plain_reply, reply_text}
-use Rattle.api_json.specs.declared.secret_bodies.KeySettings.{KeySettings}
-use Rattle.api_json.specs.declared.secret_bodies.SecretWrite.{SecretWrite}
-use Rattle.api_json.specs.declared.version_list.VersionObject.{VersionObject}
-use Rattle.broker_model.specs.Command.{on_mount, on_secret, command_of}
-use Rattle.broker_model.specs.Responses.{not_found}
 use Rattle.broker_model.specs.declared.commands.MountCommand.TheVariants as mount
 use Rattle.broker_model.specs.declared.commands.SecretCommand.{SecretCommand}
 use Rattle.broker_model.specs.declared.commands.SecretCommand.TheVariants as command
-use Rattle.broker_model.specs.parts.Place.{Place}
 use Rattle.histories.specs.History.{AreAsked, Asking, AskedAt, History, clocked}
 use Rattle.histories.specs.KeptResponses.{unwrapped_body}
 

@@ -3,29 +3,18 @@
 -- engine - version 2 (API)", "Token auth method (API)"; the engine that issues credentials, and the texts of refusals,
 -- are this project's).
 use Rattle.std.specs.Prelude.{◌≡◌, ◌≢◌, ◌⊎◌, ℕ, true, Some, None, Ok, codes}
-use Rattle.broker_types.specs.Text.{Text}
-use Rattle.broker_types.specs.Answer.{refused}
-use Rattle.broker_types.specs.Map.{get}
-use Rattle.broker_types.specs.Broker.{Broker, Mount}
-use Rattle.broker_types.specs.IdentifierPlaces.{lease_of}
-use Rattle.broker_types.specs.Secret.{Key}
-use Rattle.broker_types.specs.Token.{Token}
+use Rattle.broker_model.specs.Words.{Text, refused, get, Broker, Mount, lease_of, Key, Token, Refusal, LeaseRenewal}
+use Rattle.broker_model.specs.Words.{SecretWrite, TokenRenewal, Command, command_of, on_cubbyhole, on_issued, on_lease}
+use Rattle.broker_model.specs.Words.{on_policy, on_secret, on_token, Place}
 use Rattle.broker_types.specs.declared.refusal.Denial.TheVariants as denial
 use Rattle.broker_types.specs.declared.refusal.Reason.TheVariants as reason
-use Rattle.broker_types.specs.declared.refusal.Refusal.{Refusal}
 use Rattle.broker_types.specs.declared.refusal.Refusal.TheVariants as refusal
-use Rattle.api_json.specs.declared.lease_bodies.LeaseRenewal.{LeaseRenewal}
-use Rattle.api_json.specs.declared.secret_bodies.SecretWrite.{SecretWrite}
-use Rattle.api_json.specs.declared.token_bodies.TokenRenewal.{TokenRenewal}
-use Rattle.broker_model.specs.Command.{Command, command_of, on_cubbyhole, on_issued, on_lease, on_policy, on_secret}
-use Rattle.broker_model.specs.Command.{on_token}
 use Rattle.broker_model.specs.declared.commands.CubbyholeCommand.TheVariants as of_cubbyhole
 use Rattle.broker_model.specs.declared.commands.IssuedCommand.TheVariants as of_issued
 use Rattle.broker_model.specs.declared.commands.LeaseCommand.TheVariants as of_lease
 use Rattle.broker_model.specs.declared.commands.PolicyCommand.TheVariants as of_policy
 use Rattle.broker_model.specs.declared.commands.SecretCommand.TheVariants as of_secret
 use Rattle.broker_model.specs.declared.commands.TokenCommand.TheVariants as of_token
-use Rattle.broker_model.specs.parts.Place.{Place}
 use Rattle.histories.specs.Callers.{IsAllowed}
 use Rattle.histories.specs.History.{AreAsked, Asking, AskedAt, History, clocked}
 use Rattle.histories.specs.Versions.{LacksVersion, named}

@@ -1,14 +1,10 @@
 -- What the value of a field asks, and which path bytes are, case by case.
-use Rattle.std.proofs.Common.{◌≡◌, ◌≢◌, ℕ, Bool, true, false, List, [], ◌∷◌, drop, ap, ◌∙◌, ◌&&◌, Some, Ok, Err, cond}
-use Rattle.std.specs.Prelude.{IsUtf8}
-use Rattle.std.specs.Str.{is_utf8}
-use Rattle.std.proofs.lemmas.Bool.{false_from_ne_true}
-use Rattle.std.proofs.lemmas.Str.{IsUtf8-from_is_utf8, is_utf8-from_IsUtf8}
-use Rattle.std.proofs.lemmas.List.Elements.{All-drop}
+use Rattle.std.specs.Prelude.{◌≡◌, ◌≢◌, ◌∷◌, ◌&&◌, ℕ, Bool, true, false, List, [], drop, Some, Ok, Err, cond, IsUtf8}
+use Rattle.broker_types.specs.Words.{ap, ◌∙◌, is_utf8, false_from_ne_true, IsUtf8-from_is_utf8, is_utf8-from_IsUtf8}
+use Rattle.broker_types.specs.Words.{All-drop, is_path, without_slash}
 use Rattle.percent_encoding.specs.Percent.{percent_sign}
-use Rattle.broker_types.specs.Path.{is_path, without_slash}
 use Rattle.broker_types.specs.declared.refusal.Reason.TheVariants as reason
-use Rattle.http_layer.specs.Asked.{value_asked, HasNoEscape, path_read, bad_request}
+use Rattle.http_layer.specs.Words.{value_asked, HasNoEscape, path_read, bad_request}
 
 no_text : (v : List ℕ) → (IsUtf8 v → ⊥) → is_utf8 v ≡ false
 no_text v bad = false_from_ne_true (is_utf8 v) (λ is. bad (IsUtf8-from_is_utf8 v is))

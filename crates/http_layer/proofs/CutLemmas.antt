@@ -1,15 +1,10 @@
 -- The front, where the code knows its case.
-use Rattle.std.proofs.Common.{◌≡◌, ℕ, ◌+◌, ◌<◌, ◌≤◌, Bool, true, false, cond, List, length, take, slice_range, Result}
-use Rattle.std.proofs.Common.{Ok, Err, nat_le, refl, sym, ap}
-use Rattle.std.proofs.Common.{◌∙◌, subst, arith}
-use Rattle.std.proofs.lemmas.List.{length-take-le}
-use Rattle.std.proofs.lemmas.Bool.Decides.{nat_tests}
-use Rattle.broker_types.specs.declared.status.Status.{Status}
+use Rattle.std.proofs.Common.{◌≡◌, ◌+◌, ◌<◌, ◌≤◌, ℕ, Bool, true, false, cond, List, length, take, slice_range, Result}
+use Rattle.broker_types.specs.Words.{Ok, Err, nat_le, refl, sym, ap, ◌∙◌, subst, arith, length-take-le, nat_tests}
+use Rattle.http_layer.specs.Words.{Status, HeadParts, IsHead, need, refused_with, whole, read, unended, too_long}
+use Rattle.http_layer.specs.Words.{HeadEnds, HasNoHeadEnd, window, is_too_long, longest_head, IsFront, front_of_body}
+use Rattle.http_layer.specs.Words.{body_length}
 use Rattle.broker_types.specs.declared.status.Status.TheVariants.{HeaderFieldsTooLarge}
-use Rattle.http_layer.specs.HeadParts.{HeadParts, IsHead}
-use Rattle.http_layer.specs.Front.{need, refused_with, whole, read, unended, too_long, HeadEnds, HasNoHeadEnd, window}
-use Rattle.http_layer.specs.Front.{is_too_long, longest_head}
-use Rattle.http_layer.specs.Front.{IsFront, front_of_body, body_length}
 
 -- the head is the first len bytes of s, and p has its parts
 pub record ReadsHead (s : List ℕ) (len : ℕ) (p : HeadParts) : Type 0 where

@@ -1,12 +1,9 @@
 -- A front that is known.
 use Rattle.std.proofs.Common.{◌≡◌, ℕ, List}
-use Rattle.broker_types.specs.declared.status.Status.{Status}
+use Rattle.http_layer.specs.Words.{Status, front_of, IsNeed, HeadParts, need, refused_with, whole, IsFront}
+use Rattle.http_layer.specs.Words.{IsFront-unique}
 use Rattle.http_layer.specs.declared.front.Cut.{Cut}
 use Rattle.http_layer.specs.declared.front.Cut.TheVariants.{Need, Whole, Refused}
-use Rattle.http_layer.specs.Cutting.{front_of, IsNeed}
-use Rattle.http_layer.specs.HeadParts.{HeadParts}
-use Rattle.http_layer.specs.Front.{need, refused_with, whole, IsFront}
-use Rattle.http_layer.specs.FrontLaws.{IsFront-unique}
 
 -- what is refused or whole is not waited for
 pub refused_known : (s : List ℕ) (status : Status) → IsFront s (refused_with status) → IsFront s need → ⊥

@@ -1,14 +1,7 @@
 -- The number of a text of digits, one digit after another.
-use Rattle.std.proofs.Common.{◌≡◌, refl, ℕ, ◌+◌, ◌-◌, ◌*◌, ◌<◌, true, List, [], ◌∷◌, ◌++◌, length, take, min, ap, ◌∙◌}
-use Rattle.std.proofs.Common.{arith, get_or}
-use Rattle.std.specs.Char.{is_ascii_digit, digit_value}
-use Rattle.std.specs.List.{list_all}
-use Rattle.std.specs.Str.Parse.{digits_value}
-use Rattle.std.proofs.lemmas.Bool.{and_from}
-use Rattle.std.proofs.lemmas.List.{take_more}
-use Rattle.std.proofs.lemmas.List.Folds.{list_all-append}
-use Rattle.std.proofs.lemmas.Int.Digits.{digits_value_push}
-use Rattle.std.proofs.lemmas.Bool.Decides.{nat_tests}
+use Rattle.std.specs.Prelude.{◌≡◌, ◌+◌, ◌-◌, ◌*◌, ◌<◌, ◌∷◌, ◌++◌, refl, ℕ, true, List, [], length, take, min, get_or}
+use Rattle.broker_types.specs.Words.{ap, ◌∙◌, arith, is_ascii_digit, digit_value, list_all, digits_value, and_from}
+use Rattle.broker_types.specs.Words.{take_more, list_all-append, digits_value_push, nat_tests}
 
 digit_value_at : (d : ℕ) → is_ascii_digit d ≡ true → digit_value d ≡ d - 48
 digit_value_at d digit = grind (arith, nat_tests)

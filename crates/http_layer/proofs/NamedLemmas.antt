@@ -1,15 +1,9 @@
 -- The fields with one name, one field after another.
-use Rattle.std.proofs.Common.{◌≡◌, ◌<◌, ℕ, Bool, true, false, cond, List, [], ◌∷◌, ◌++◌, length, map, get_or, refl, sym}
-use Rattle.std.proofs.Common.{ap, ◌∙◌}
-use Rattle.std.specs.List.{list_any}
-use Rattle.std.proofs.lemmas.List.{append-nil}
-use Rattle.std.proofs.lemmas.List.Folds.{list_any_at}
+use Rattle.std.proofs.Common.{◌≡◌, ◌<◌, ◌∷◌, ◌++◌, ℕ, Bool, true, false, cond, List, [], length, map, get_or, refl, sym}
+use Rattle.broker_types.specs.Words.{ap, ◌∙◌, list_any, append-nil, list_any_at}
 use Rattle.broker_types.specs.ListLaws.{any_mapped}
-use Rattle.http_layer.specs.HeadParts.{HeadField, is_named, values_named}
-use Rattle.http_layer.specs.Named.{AreNamed}
-use Rattle.http_layer.specs.declared.fields.Named.{Named}
-use Rattle.http_layer.specs.declared.fields.Named.TheVariants.{Absent, Once, Several}
-use Rattle.http_layer.specs.HeadPartsLaws.{values_named-append}
+use Rattle.http_layer.specs.Words.{HeadField, is_named, values_named, AreNamed, Named, Several, values_named-append}
+use Rattle.http_layer.specs.declared.fields.Named.TheVariants.{Absent, Once}
 
 pub values_named-hit : (name : List ℕ) (fields : List HeadField) (f : HeadField) → is_named name f ≡ true
     → values_named name (fields ++ f ∷ []) ≡ values_named name fields ++ f.1 ∷ []

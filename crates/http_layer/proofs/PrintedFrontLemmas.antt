@@ -1,26 +1,16 @@
 -- A request that is printed is the front of its bytes.
-use Rattle.std.proofs.Common.{◌≡◌, refl, ℕ, ◌+◌, ◌-◌, ◌<◌, ◌≤◌, Bool, true, cond, List, [], ◌++◌, length}
-use Rattle.std.proofs.Common.{take, codes}
-use Rattle.std.proofs.Common.{decimal, slice_range, Ok, Err, Result, nat_le, nat_lt, sym, ap, ◌∙◌, subst, arith}
-use Rattle.std.proofs.Common.{append-nil, length-append, add-sub_of_le}
-use Rattle.std.proofs.Math.Seq.{drop-append_seam, take-append_seam, take-append-add}
-use Rattle.std.proofs.lemmas.List.{take_all}
-use Rattle.std.proofs.lemmas.Bool.{le-leb, and_from}
-use Rattle.std.proofs.lemmas.Bool.Decides.{nat_tests}
-use Rattle.std.proofs.lemmas.Fmt.{decimal_is_IsNumeral}
-use Rattle.std.specs.Str.Parse.{digits_value}
+use Rattle.std.proofs.Common.{◌≡◌, ◌+◌, ◌-◌, ◌<◌, ◌≤◌, ◌++◌, refl, ℕ, Bool, true, cond, List, [], length, take, codes}
+use Rattle.broker_types.specs.Words.{decimal, slice_range, Ok, Err, Result, nat_le, nat_lt, sym, ap, ◌∙◌, subst, arith}
+use Rattle.broker_types.specs.Words.{append-nil, length-append, add-sub_of_le, drop-append_seam, take-append_seam}
+use Rattle.broker_types.specs.Words.{take-append-add, take_all, le-leb, and_from, nat_tests, decimal_is_IsNumeral}
+use Rattle.broker_types.specs.Words.{digits_value, longest_body}
 use Rattle.httparse.specs.Grammar.{print_request}
-use Rattle.broker_types.specs.Limits.{longest_body}
-use Rattle.broker_types.specs.declared.status.Status.{Status}
+use Rattle.http_layer.specs.Words.{Status, HeadParts, IsHead, parts_of, values_named, whole, need, read, HeadEnds}
+use Rattle.http_layer.specs.Words.{window, longest_head, IsFront, front_of_body, body_length, content_length}
+use Rattle.http_layer.specs.Words.{may_have_hosts, is_number, HeadEnds-append, PrintedRequestIsFront}
+use Rattle.http_layer.specs.Words.{PrintedLengthIsRead, printed_head}
 use Rattle.broker_types.specs.declared.status.Status.TheVariants.{BadRequest, PayloadTooLarge, NotImplemented}
 use Rattle.broker_types.specs.DecimalLaws.{digits_all}
-use Rattle.http_layer.specs.HeadParts.{HeadParts, IsHead, parts_of, values_named}
-use Rattle.http_layer.specs.Front.{whole, need, read, HeadEnds, window, longest_head, IsFront, front_of_body}
-use Rattle.http_layer.specs.Front.{body_length, content_length}
-use Rattle.http_layer.specs.Front.{may_have_hosts, is_number}
-use Rattle.http_layer.specs.HeadEndLaws.{HeadEnds-append}
-use Rattle.http_layer.specs.Laws.{PrintedRequestIsFront, PrintedLengthIsRead}
-use Rattle.http_layer.specs.Printed.{printed_head}
 use Rattle.http_layer.proofs.PrintedLemmas.{printed_ends}
 
 -- ---- the length of the body

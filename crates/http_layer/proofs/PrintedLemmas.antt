@@ -1,20 +1,14 @@
 -- A request that is printed with CR LF at the end of its lines: its first empty line ends its head.
-use Rattle.std.proofs.Common.{◌≡◌, ◌≢◌, refl, ℕ, zero, suc, ◌+◌, ◌-◌, ◌<◌, ◌⊎◌, inl, inr, Bool, true, false, cond, List}
-use Rattle.std.proofs.Common.{[], ◌∷◌, ◌++◌}
-use Rattle.std.proofs.Common.{length, take, drop, get_or, codes, sym, ap, ◌∙◌, subst, arith}
-use Rattle.std.proofs.Common.{append_assoc, append-nil, length-append, All}
-use Rattle.std.proofs.lemmas.List.Elements.{All-head, All-tail, All-append, All-cons, All-nil, All-weaker}
-use Rattle.std.proofs.Math.Seq.{drop-append_seam}
-use Rattle.std.proofs.lemmas.Bool.{false≢true, or_from, ne_eqb}
-use Rattle.std.specs.List.{prefix_len, flat_map}
+use Rattle.std.proofs.Common.{◌≡◌, ◌≢◌, ◌+◌, ◌-◌, ◌<◌, ◌⊎◌, ◌∷◌, ◌++◌, refl, ℕ, zero, suc, inl, inr, Bool, true, false}
+use Rattle.broker_types.specs.Words.{cond, List, [], length, take, drop, get_or, codes, sym, ap, ◌∙◌, subst, arith}
+use Rattle.broker_types.specs.Words.{append_assoc, append-nil, length-append, All, All-head, All-tail, All-append}
+use Rattle.broker_types.specs.Words.{All-cons, All-nil, All-weaker, drop-append_seam, false≢true, or_from, ne_eqb}
+use Rattle.broker_types.specs.Words.{prefix_len, flat_map}
 use Rattle.httparse.specs.Grammar.{is_token_byte, is_uri_byte, is_value_byte, LineEnd, crlf, Field, IsField}
-use Rattle.httparse.specs.Grammar.{IsRequestHead}
-use Rattle.httparse.specs.Grammar.{print_field, print_section, print_end, print_version, print_request}
+use Rattle.httparse.specs.Grammar.{IsRequestHead, print_field, print_section, print_end, print_version, print_request}
 use Rattle.httparse.proofs.GrammarLemmas.{print_request-append}
 use Rattle.httparse.proofs.PieceLemmas.{print_field-append}
-use Rattle.http_layer.specs.Front.{HasEmptyLineAt, is_line_byte, HeadEnds}
-use Rattle.http_layer.specs.HeadEndLaws.{HasEmptyLineAt-fits}
-use Rattle.http_layer.specs.Printed.{printed_head}
+use Rattle.http_layer.specs.Words.{HasEmptyLineAt, is_line_byte, HeadEnds, HasEmptyLineAt-fits, printed_head}
 
 -- ---- texts without CR and LF
 

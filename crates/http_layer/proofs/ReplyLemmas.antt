@@ -1,8 +1,7 @@
 -- Replies: texts that are added one after another.
-use Rattle.std.proofs.Common.{◌≡◌, ℕ, List, [], ◌++◌, refl, ap, ◌∙◌, append_assoc, decimal, codes}
-use Rattle.broker_types.specs.declared.status.Status.{Status}
+use Rattle.std.proofs.Common.{◌≡◌, ◌++◌, ℕ, List, [], refl, ap, ◌∙◌, append_assoc, decimal, codes}
+use Rattle.http_layer.specs.Words.{Status, body_lines, crlf}
 use Rattle.broker_types.specs.declared.status.Status.TheVariants as is
-use Rattle.http_layer.specs.Reply.{body_lines, crlf}
 
 -- ---- texts that are added one after another
 

@@ -1,15 +1,9 @@
 -- What a whole request asks (RFC 9110, sections 5 and 9; Vault's documentation, "HTTP API").
-use Rattle.std.specs.Prelude.{◌≢◌, ℕ, Bool, ◌==◌, ◌||◌, ◌&&◌, List, [], ◌∷◌, All, take, drop, length, min, bytes_eq}
-use Rattle.std.specs.Prelude.{codes, Option, Some, None, option_and_then, Result, Ok, Err, if◌then◌else◌, true, false}
-use Rattle.std.specs.List.{prefix_len, before_first, after_first}
-use Rattle.std.specs.Option.{option_or, option_map_or}
-use Rattle.std.specs.Str.{is_utf8}
+use Rattle.std.specs.Prelude.{◌≢◌, ◌==◌, ◌||◌, ◌&&◌, ◌∷◌, if◌then◌else◌, ℕ, Bool, List, [], All, take, drop, length, Ok}
+use Rattle.broker_types.specs.Words.{min, bytes_eq, codes, Option, Some, None, option_and_then, Result, Err, true}
+use Rattle.broker_types.specs.Words.{false, prefix_len, before_first, after_first, option_or, option_map_or, is_utf8}
+use Rattle.broker_types.specs.Words.{duration_of, longest_ttl, Text, is_path, without_slash, reason_opening}
 use Rattle.percent_encoding.specs.Percent.{percent_sign, percent_decode}
-use Rattle.broker_types.specs.Duration.{duration_of}
-use Rattle.broker_types.specs.Limits.{longest_ttl}
-use Rattle.broker_types.specs.Text.{Text}
-use Rattle.broker_types.specs.Path.{is_path, without_slash}
-use Rattle.broker_types.specs.Refusal.{reason_opening}
 use Rattle.broker_types.specs.declared.status.Status.TheVariants as status
 use Rattle.broker_types.specs.declared.refusal.Reason.{Reason}
 use Rattle.broker_types.specs.declared.refusal.Reason.TheVariants as reason

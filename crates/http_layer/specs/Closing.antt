@@ -1,6 +1,6 @@
 -- Which requests close their connection after the reply (RFC 9112, sections 9.3 and 9.6).
-use Rattle.std.specs.Prelude.{ℕ, Bool, ◌==◌, ◌&&◌, ◌||◌, List, codes}
-use Rattle.std.specs.List.{list_any, slice_split}
+use Rattle.std.specs.Prelude.{◌==◌, ◌&&◌, ◌||◌, ℕ, Bool, List, codes}
+use Rattle.broker_types.specs.Words.{list_any, slice_split}
 use Rattle.httparse.specs.Grammar.{trim_ows}
 use Rattle.http_layer.specs.HeadParts.{HeadParts, HeadField, same_in_any_case, is_named}
 

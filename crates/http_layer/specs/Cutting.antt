@@ -1,5 +1,5 @@
 -- What an answer of `cut` means (this project's definition).
-use Rattle.std.specs.Prelude.{ℕ, ◌<◌, ◌≤◌, ⊤}
+use Rattle.std.specs.Prelude.{◌<◌, ◌≤◌, ℕ, ⊤}
 use Rattle.http_layer.specs.declared.front.Cut.{Cut}
 use Rattle.http_layer.specs.declared.front.Cut.TheVariants.{Need, Whole, Refused}
 use Rattle.http_layer.specs.Front.{Front, need, refused_with, whole}

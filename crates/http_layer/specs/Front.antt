@@ -1,14 +1,11 @@
 -- The first request of a stream of bytes (RFC 9112, sections 2 to 6).
-use Rattle.std.specs.Prelude.{◌≡◌, ℕ, ◌+◌, ◌-◌, ◌<◌, ◌≤◌, ◌==◌, ◌||◌, ◌&&◌, Bool, true, false, List, [], ◌∷◌, length}
-use Rattle.std.specs.Prelude.{take, drop, codes, if◌then◌else◌, nat_lt, nat_le, Result, Ok, Err, slice_range}
-use Rattle.std.specs.List.{prefix_len, list_all}
-use Rattle.std.specs.Char.{is_ascii_digit}
-use Rattle.std.specs.Str.Parse.{digits_value}
+use Rattle.std.specs.Prelude.{◌≡◌, ◌+◌, ◌-◌, ◌<◌, ◌≤◌, ◌==◌, ◌||◌, ◌&&◌, ◌∷◌, if◌then◌else◌, ℕ, Bool, true, false, List}
+use Rattle.broker_types.specs.Words.{[], length, take, drop, codes, nat_lt, nat_le, Result, Ok, Err, slice_range}
+use Rattle.broker_types.specs.Words.{prefix_len, list_all, is_ascii_digit, digits_value, longest_body}
 use Rattle.broker_types.specs.declared.status.Status.{Status}
 use Rattle.broker_types.specs.declared.status.Status.TheVariants.{BadRequest, PayloadTooLarge, HeaderFieldsTooLarge}
 use Rattle.broker_types.specs.declared.status.Status.TheVariants.{NotImplemented}
 use Rattle.http_layer.specs.HeadParts.{HeadParts, IsHead, values_named}
-use Rattle.broker_types.specs.Limits.{longest_body}
 
 -- ---- where the head ends
 

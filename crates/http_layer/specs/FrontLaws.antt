@@ -1,15 +1,12 @@
 -- Laws of fronts: bytes have one, more bytes keep one that is known, and a whole request lies within the bytes.
-use Rattle.std.proofs.Common.{◌≡◌, ◌≢◌, ℕ, ◌+◌, ◌-◌, ◌<◌, ◌≤◌, Bool, true, false, cond, List, [], ◌∷◌, ◌++◌, IfOk}
-use Rattle.std.proofs.Common.{codes, length, take, drop, slice_range, Result, Ok, Err, nat_le, nat_lt, refl, sym, ap}
-use Rattle.std.proofs.Common.{subst, length-append, length-take, zero-le, le_trans, le_of_eq, le_of_lt, le-add_right}
-use Rattle.std.proofs.Common.{lt_of_lt_of_le, add-sub_of_le, ◌⊎◌, inl, inr, ◌∙◌}
-use Rattle.std.proofs.Math.Nat.{add-sub_cancel_left, min-le_left, min-le_right, sub-eq-zero_iff_le}
-use Rattle.std.proofs.Math.Seq.{take-append-add}
-use Rattle.std.proofs.lemmas.List.{take-append-le, append-nil, take_all}
-use Rattle.std.proofs.lemmas.Bool.{cases_lt, false≢true, le-leb, leb-true}
-use Rattle.std.specs.Str.Parse.{digits_value}
+use Rattle.std.specs.Prelude.{◌≡◌, ◌≢◌, ◌+◌, ◌-◌, ◌<◌, ◌≤◌, ◌∷◌, ◌++◌, ◌⊎◌, ℕ, Bool, true, false, cond, List, [], IfOk}
+use Rattle.broker_types.specs.Words.{codes, length, take, drop, slice_range, Result, Ok, Err, nat_le, nat_lt, refl, sym}
+use Rattle.broker_types.specs.Words.{ap, subst, length-append, length-take, zero-le, le_of_eq, le_of_lt, le-add_right}
+use Rattle.broker_types.specs.Words.{lt_of_lt_of_le, add-sub_of_le, inl, inr, ◌∙◌, add-sub_cancel_left, min-le_left}
+use Rattle.broker_types.specs.Words.{min-le_right, sub-eq-zero_iff_le, take-append-add, take-append-le, append-nil}
+use Rattle.broker_types.specs.Words.{take_all, cases_lt, false≢true, le-leb, leb-true, digits_value, longest_body}
+use Rattle.std.proofs.Common.{le_trans}
 use Rattle.httparse.proofs.GrammarLemmas.{request_unique}
-use Rattle.broker_types.specs.Limits.{longest_body}
 use Rattle.broker_types.specs.declared.status.Status.{Status}
 use Rattle.broker_types.specs.declared.status.Status.TheVariants.{BadRequest, PayloadTooLarge, NotImplemented}
 use Rattle.http_layer.specs.HeadParts.{HeadParts, IsHead, parts_of, values_named}

@@ -1,6 +1,6 @@
 -- What a request head says: the parts that the other definitions read (RFC 9112, sections 2 to 5).
 use Rattle.std.specs.Prelude.{◌≡◌, ◌<◌, ◌≤◌, ℕ, Bool, List, [], map, filter, length, bytes_eq, IsUtf8}
-use Rattle.std.specs.Char.{to_ascii_lowercase}
+use Rattle.broker_types.specs.Words.{to_ascii_lowercase}
 use Rattle.httparse.specs.Grammar.{RequestHead, ReadsRequest, print_request}
 use Rattle.httparse.specs.Spans.{name_and_value, IsRequestWithin, span_bytes}
 use Rattle.httparse.specs.declared.spans.HeaderSpan.{HeaderSpan}

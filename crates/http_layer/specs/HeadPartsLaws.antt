@@ -1,8 +1,6 @@
 -- Laws of the fields of a head.
-use Rattle.std.proofs.Common.{◌≡◌, ℕ, List, ◌++◌, map, ◌∙◌, ap}
-use Rattle.std.specs.Prelude.{filter}
-use Rattle.std.proofs.lemmas.List.{map-append}
-use Rattle.std.proofs.lemmas.List.Elements.{filter-append}
+use Rattle.std.proofs.Common.{◌≡◌, ◌++◌, ℕ, List, map, ◌∙◌, ap, filter}
+use Rattle.broker_types.specs.Words.{map-append, filter-append}
 use Rattle.http_layer.specs.HeadParts.{HeadField, is_named, values_named}
 
 -- the values of one name, in fields and in more

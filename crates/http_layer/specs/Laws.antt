@@ -1,8 +1,7 @@
 -- Laws of the definitions (this project's). Each is a clause of a function of `src/laws.rt` that does nothing.
-use Rattle.std.specs.Prelude.{◌≡◌, ◌≢◌, ℕ, ◌<◌, ◌≤◌, Bool, List, [], ◌∷◌, ◌++◌, length, decimal, Ok, IfErr}
+use Rattle.std.specs.Prelude.{◌≡◌, ◌≢◌, ◌<◌, ◌≤◌, ◌∷◌, ◌++◌, ℕ, Bool, List, [], length, decimal, Ok, IfErr}
 use Rattle.httparse.specs.Grammar.{Field, print_request}
-use Rattle.broker_types.specs.Limits.{longest_body}
-use Rattle.broker_types.specs.Answer.{Response}
+use Rattle.broker_types.specs.Words.{longest_body, Response}
 use Rattle.broker_types.specs.declared.status.Status.{Status}
 use Rattle.http_layer.specs.Asked.{asked}
 use Rattle.http_layer.specs.Front.{Front, need, refused_with, whole, IsFront, content_length}

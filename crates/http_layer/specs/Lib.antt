@@ -15,3 +15,4 @@ pub mod Query
 pub mod Refusing
 pub mod Reply
 pub mod ReplyLaws
+pub mod Words

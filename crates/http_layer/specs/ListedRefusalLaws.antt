@@ -1,15 +1,9 @@
 -- Laws of refusals: what is refused without asking the broker is listed.
-use Rattle.std.proofs.Common.{ℕ, ◌+◌, ◌||◌, ◌&&◌, Bool, true, false, cond, List, [], ◌∷◌, length, take, drop}
-use Rattle.std.proofs.Common.{codes, bytes_eq, slice_range, Result, Ok, Err, IfErr, nat_le, nat_lt, refl, sym, subst}
-use Rattle.std.proofs.Common.{Option, Some, None, min, inl, inr, lit<}
-use Rattle.std.specs.Option.{option_map_or}
-use Rattle.std.specs.Str.{is_utf8}
-use Rattle.std.specs.Str.Parse.{digits_value}
+use Rattle.std.specs.Prelude.{◌+◌, ◌||◌, ◌&&◌, ◌∷◌, ℕ, Bool, true, false, cond, List, [], length, take, drop, codes, Ok}
+use Rattle.broker_types.specs.Words.{bytes_eq, slice_range, Result, Err, IfErr, nat_le, nat_lt, refl, sym, subst}
+use Rattle.broker_types.specs.Words.{Option, Some, None, min, inl, inr, lit<, option_map_or, is_utf8, digits_value}
+use Rattle.broker_types.specs.Words.{duration_of, longest_body, longest_ttl, is_path, without_slash, Text}
 use Rattle.percent_encoding.specs.Percent.{percent_decode}
-use Rattle.broker_types.specs.Duration.{duration_of}
-use Rattle.broker_types.specs.Limits.{longest_body, longest_ttl}
-use Rattle.broker_types.specs.Path.{is_path, without_slash}
-use Rattle.broker_types.specs.Text.{Text}
 use Rattle.broker_types.specs.declared.refusal.Reason.TheVariants.{InvalidDuration}
 use Rattle.broker_types.specs.declared.status.Status.{Status}
 use Rattle.broker_types.specs.declared.status.Status.TheVariants.{BadRequest, PayloadTooLarge, NotImplemented}

@@ -1,5 +1,5 @@
 -- How often a head has a field (this project's definition).
-use Rattle.std.specs.Prelude.{◌≡◌, ℕ, List, [], ◌∷◌}
+use Rattle.std.specs.Prelude.{◌≡◌, ◌∷◌, ℕ, List, []}
 use Rattle.http_layer.specs.declared.fields.Named.{Named}
 use Rattle.http_layer.specs.declared.fields.Named.TheVariants.{Absent, Once, Several}
 

@@ -1,5 +1,5 @@
 -- A request that a client prints (RFC 9112, sections 2.1, 3 and 5).
-use Rattle.std.specs.Prelude.{◌≡◌, ℕ, ◌≤◌, List, [], length, map, codes, All, Ok}
+use Rattle.std.specs.Prelude.{◌≡◌, ◌≤◌, ℕ, List, [], length, map, codes, All, Ok}
 use Rattle.httparse.specs.Grammar.{crlf, Field, RequestHead, IsRequestHead, print_request}
 use Rattle.httparse.specs.Spans.{name_and_value}
 use Rattle.http_layer.specs.Front.{longest_head, content_length}

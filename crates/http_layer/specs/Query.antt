@@ -1,7 +1,7 @@
 -- The query of a target (RFC 3986, section 3.4), and what it asks for.
-use Rattle.std.specs.Prelude.{ℕ, Bool, ◌==◌, List, [], take, drop, codes, bytes_eq}
-use Rattle.std.specs.List.{list_any, slice_split, before_first, after_first, find}
-use Rattle.std.specs.Option.{option_map_or}
+use Rattle.std.specs.Prelude.{◌==◌, ℕ, Bool, List, [], take, drop, codes, bytes_eq}
+use Rattle.broker_types.specs.Words.{list_any, slice_split, before_first, after_first, option_map_or}
+use Rattle.std.specs.List.{find}
 
 -- whether the byte is `?`, the first of which ends the path and begins the query
 abbrev pub is_query_mark : ℕ → Bool

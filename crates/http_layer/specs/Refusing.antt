@@ -1,9 +1,6 @@
 -- Requests that are refused without asking the broker, and the answers to them (this project's definition).
 use Rattle.std.specs.Prelude.{◌≡◌, Bool, [], Option, option_map, Result, Ok, Err}
-use Rattle.broker_types.specs.Text.{Text}
-use Rattle.broker_types.specs.Status.{no_methods}
-use Rattle.broker_types.specs.Answer.{Response}
-use Rattle.broker_types.specs.Refusal.{errors_body, cutting_text}
+use Rattle.broker_types.specs.Words.{Text, no_methods, Response, errors_body, cutting_text}
 use Rattle.broker_types.specs.declared.status.Status.{Status}
 use Rattle.broker_types.specs.declared.status.Status.TheVariants as status
 use Rattle.broker_types.specs.declared.fault.Fault.TheVariants.{Memory}

@@ -1,11 +1,9 @@
 -- The bytes of a reply, line by line (RFC 9112, sections 2.1 and 4; RFC 9110, sections 6.6.1, 8.6, 10.2.1 and 15).
-use Rattle.std.specs.Prelude.{◌≡◌, ℕ, Bool, true, false, List, [], ◌∷◌, ◌++◌, length, codes, decimal, unwrap_or}
+use Rattle.std.specs.Prelude.{◌≡◌, ◌∷◌, ◌++◌, ℕ, Bool, true, false, List, [], length, codes, decimal, unwrap_or}
 use Rattle.http.specs.StatusCode.{code_digits, reason_phrase}
 use Rattle.httpdate.specs.Date.{unix_secs, date_text}
 use Rattle.httpdate.specs.declared.date.HttpDate.{HttpDate}
-use Rattle.broker_types.specs.Text.{Text}
-use Rattle.broker_types.specs.Status.{status_code}
-use Rattle.broker_types.specs.Answer.{Response}
+use Rattle.broker_types.specs.Words.{Text, status_code, Response}
 use Rattle.broker_types.specs.declared.status.Status.{Status}
 use Rattle.broker_types.specs.declared.status.Status.TheVariants.{NoContent, MethodNotAllowed, NotImplemented}
 use Rattle.broker_types.specs.declared.status.Methods.{Methods}

@@ -1,23 +1,12 @@
 -- A run of the hub, one event after another.
-use Rattle.std.proofs.Common.{arith, ◌≡◌, ◌∙◌, ℕ, ◌+◌, ◌<◌, ◌≤◌, List, [], ◌∷◌, ◌++◌, length, take, get_or, refl, sym}
-use Rattle.std.proofs.Common.{ap, subst, None}
-use Rattle.std.proofs.lemmas.List.{take_more, take_all}
-use Rattle.broker_rows.specs.Representing.{Represents}
-use Rattle.records.specs.Transaction.{Rows}
-use Rattle.broker_types.specs.declared.fault.Fault.{Fault}
-use Rattle.hub.specs.AnyRows.{FaultsAt, NextConnections, RunConnections}
-use Rattle.hub.specs.World.{Connections, World, Run}
-use Rattle.hub.specs.Feeding.{IsLater}
-use Rattle.hub.specs.Representing.{HubRepresents, ConnectionsRepresent, hub_store}
-use Rattle.hub.specs.Runs.{Answers, AnswersOne, StopsAt, StopsTurns, TookTurns}
-use Rattle.hub.specs.declared.hub.Hub.{Hub}
-use Rattle.hub.specs.declared.event.Event.{Event}
-use Rattle.broker_types.specs.Sound.{Sound}
-use Rattle.records.specs.Kept.{Kept, IsHonestStore}
-use Rattle.broker_model.specs.Forms.{forms}
-use Rattle.histories.specs.History.{AreAsked, History}
-use Rattle.hub.specs.Histories.{EventsAsked}
-use Rattle.hub.specs.HistoriesLaws.{asked_on, run_left}
+use Rattle.std.proofs.Common.{◌≡◌, ◌+◌, ◌<◌, ◌≤◌, ◌∷◌, ◌++◌, arith, ◌∙◌, ℕ, List, [], length, take, get_or, refl, sym}
+use Rattle.broker_model.specs.Words.{ap, subst, None, take_more, take_all, Rows, Fault, Sound, Kept, IsHonestStore}
+use Rattle.broker_model.specs.Words.{forms}
+use Rattle.broker_rows.specs.Words.{Represents}
+use Rattle.hub.specs.Words.{FaultsAt, NextConnections, RunConnections, Connections, World, Run, IsLater, HubRepresents}
+use Rattle.hub.specs.Words.{ConnectionsRepresent, hub_store, Answers, AnswersOne, StopsAt, StopsTurns, TookTurns, Hub}
+use Rattle.hub.specs.Words.{Event, EventsAsked, asked_on, run_left}
+use Rattle.histories.specs.Words.{AreAsked, History}
 use Rattle.hub.proofs.RunHistories.{AreAsked-one, EventsAsked-append, goes}
 use Rattle.hub.proofs.RunLemmas.{Run-append, Run-unique, RunConnections-push}
 

@@ -1,28 +1,14 @@
 -- How serving a connection ends: what holds of it is told by what the hub keeps.
-use Rattle.std.proofs.Common.{◌≡◌, ◌≢◌, ◌∙◌, ◌⊎◌, inl, inr, ℕ, Bool, true, false, List, [], ◌++◌, MatchBool, Option}
-use Rattle.std.proofs.Common.{Some, None, Result, Ok, Err}
-use Rattle.std.proofs.Common.{unwrap_or, refl, sym, ap, subst, add-zero, arith}
-use Rattle.std.proofs.lemmas.Bool.{false≢true}
-use Rattle.std.proofs.lemmas.Map.{update_here}
-use Rattle.broker_types.specs.Answer.{Response}
-use Rattle.broker_types.specs.declared.ask.Ask.{Ask}
-use Rattle.broker_types.specs.declared.fault.Fault.{Fault}
-use Rattle.broker_types.specs.declared.fault.Fault.TheVariants.{Memory, Storage, Damaged, BadStart}
-use Rattle.records.specs.Transaction.{is_storage}
-use Rattle.http_layer.specs.Asked.{asked}
-use Rattle.http_layer.specs.Front.{Front, need, refused_with, whole, IsFront}
-use Rattle.http_layer.specs.Refusing.{RefusalParts, ask_refused, front_refused}
-use Rattle.http_layer.specs.Reply.{IsReply}
-use Rattle.http_layer.specs.ReplyLaws.{IsReply-not_empty}
-use Rattle.hub.specs.AnyRows.{FaultsAt, IsFrontReply, IsRequestReply, NextConnections, TurnsOpen}
-use Rattle.hub.specs.Pending.{ConnectionRepresents, EntryRepresents}
-use Rattle.hub.specs.Representing.{ConnectionsRepresent, hub_connections}
-use Rattle.hub.specs.ServedConnection.{IsAnswered, IsGone, LeavesClosed}
-use Rattle.hub.specs.World.{Connections, FollowsRequests, History, history_after, history_at, new_history, put_history}
-use Rattle.hub.specs.World.{request_closes}
-use Rattle.hub.specs.declared.connection.Connection.{Connection}
-use Rattle.hub.specs.declared.connection.Connection.TheVariants.{Open, Closed}
-use Rattle.hub.specs.declared.hub.Hub.{Hub}
+use Rattle.std.proofs.Common.{◌≡◌, ◌≢◌, ◌⊎◌, ◌++◌, ◌∙◌, inl, inr, ℕ, Bool, true, false, List, [], MatchBool, Option, Ok}
+use Rattle.broker_model.specs.Words.{Some, None, Result, Err, unwrap_or, refl, sym, ap, subst, add-zero, arith}
+use Rattle.broker_model.specs.Words.{false≢true, update_here, Response, Ask, Fault, Memory, Storage, Damaged, BadStart}
+use Rattle.broker_model.specs.Words.{is_storage}
+use Rattle.http_layer.specs.Words.{asked, Front, need, refused_with, whole, IsFront, RefusalParts, ask_refused}
+use Rattle.http_layer.specs.Words.{front_refused, IsReply, IsReply-not_empty}
+use Rattle.hub.specs.Words.{FaultsAt, IsFrontReply, IsRequestReply, NextConnections, TurnsOpen, ConnectionRepresents}
+use Rattle.hub.specs.Words.{EntryRepresents, ConnectionsRepresent, hub_connections, IsAnswered, IsGone, LeavesClosed}
+use Rattle.hub.specs.Words.{Connections, FollowsRequests, History, history_after, history_at, new_history, put_history}
+use Rattle.hub.specs.Words.{request_closes, Connection, Open, Closed, Hub}
 use Rattle.hub.proofs.HistoryLemmas.{FollowsRequests-unique}
 use Rattle.hub.proofs.ServingLemmas.{leaves_closed}
 use Rattle.hub.proofs.WaitingLemmas.{standing_all, standing_each}

@@ -1,21 +1,14 @@
 -- What the hub's table of connections has under each number, as its entries change.
-use Rattle.std.proofs.Common.{◌≡◌, ◌≢◌, ◌∙◌, inl, inr, ◌⊎◌, ⊎_elim, ℕ, zero, suc, ◌+◌, ◌-◌, ◌<◌, ◌≤◌, true, false, cond}
-use Rattle.std.proofs.Common.{List, [], ◌∷◌, length, Option, Some, None}
-use Rattle.std.proofs.Common.{is_some, nat_cmp, nat_eq, nat_le, refl, sym, ap, arith}
-use Rattle.std.specs.BTreeMap.{BTreeMap, get, is_at}
-use Rattle.std.specs.Map.{lookup}
-use Rattle.std.proofs.lemmas.Bool.{false≢true, cases_eq, cases_lt, cond-true, cond-false, eq-eqb, ne_eqb, eqb-true}
-use Rattle.std.proofs.lemmas.Bool.{le-leb, lt-leb, leb-false, cases_Bool, false_from_ne_true}
-use Rattle.std.proofs.lemmas.Option.{none-some, cond_some}
-use Rattle.broker_types.specs.OptionLaws.{is_there, not_there}
-use Rattle.hub.specs.Entries.{IsClosedRun, IsLastUpTo, IsNextIn, connection_at, connection_in, last_in, search_down}
-use Rattle.hub.specs.Numbers.{IsNextNumber}
-use Rattle.hub.specs.Pending.{ConnectionRepresents, OpenedAs, closed_at, is_closed}
-use Rattle.hub.specs.World.{new_history}
-use Rattle.hub.specs.declared.connection.Connection.{Connection}
-use Rattle.hub.specs.declared.connection.Connection.TheVariants.{Closed}
-use Rattle.hub.specs.declared.entry.Entry.{Entry}
-use Rattle.hub.specs.declared.entry.Entry.TheVariants.{One, ClosedRun}
+use Rattle.std.specs.Prelude.{◌≡◌, ◌≢◌, ◌⊎◌, ◌+◌, ◌-◌, ◌<◌, ◌≤◌, ◌∷◌, ℕ, zero, suc, true, false, cond, List, [], length}
+use Rattle.broker_model.specs.Words.{◌∙◌, inl, inr, ⊎_elim, Option, Some, None, is_some, nat_eq, nat_le, refl, sym, ap}
+use Rattle.broker_model.specs.Words.{arith, BTreeMap, is_at, lookup, false≢true, cases_eq, cases_lt, cond-true}
+use Rattle.broker_model.specs.Words.{cond-false, eq-eqb, ne_eqb, eqb-true, le-leb, lt-leb, leb-false, cases_Bool}
+use Rattle.broker_model.specs.Words.{false_from_ne_true, none-some, cond_some, is_there, not_there}
+use Rattle.std.proofs.Common.{nat_cmp}
+use Rattle.std.specs.BTreeMap.{get}
+use Rattle.hub.specs.Words.{IsClosedRun, IsLastUpTo, IsNextIn, connection_at, connection_in, last_in, search_down}
+use Rattle.hub.specs.Words.{IsNextNumber, ConnectionRepresents, OpenedAs, closed_at, is_closed, new_history, Connection}
+use Rattle.hub.specs.Words.{Closed, Entry, One, ClosedRun}
 
 -- ---- the last entry up to a number
 

@@ -1,26 +1,10 @@
 -- What each way of serving gives is what its front gives.
 use Rattle.std.proofs.Common.{◌≡◌, ℕ, Bool, true, List, Some, None, Result, Ok, Err, IfOk, OnOk, sym, subst}
-use Rattle.broker_types.specs.declared.fault.Fault.{Fault}
-use Rattle.broker_types.specs.declared.status.Status.{Status}
-use Rattle.broker_types.specs.declared.words.Words.{Words}
-use Rattle.broker_types.specs.Answer.{Response}
-use Rattle.broker_types.specs.Broker.{Broker}
-use Rattle.broker_types.specs.declared.ask.Ask.{Ask}
-use Rattle.broker_model.specs.Step.{step}
-use Rattle.broker_rows.specs.ClockRow.{HasClock}
-use Rattle.broker_rows.specs.Representing.{Represents}
-use Rattle.records.specs.Transaction.{Rows}
-use Rattle.http_layer.specs.Asked.{asked}
-use Rattle.http_layer.specs.Refusing.{RefusalParts, front_refused}
-use Rattle.http_layer.specs.Closing.{closes}
-use Rattle.http_layer.specs.Front.{refused_with, whole, IsFront}
-use Rattle.http_layer.specs.HeadParts.{HeadParts}
-use Rattle.http_layer.specs.Reply.{IsReply}
-use Rattle.records.specs.Kept.{Kept, IsHonestStore}
-use Rattle.hub.specs.AnyRows.{IsRequestReply}
-use Rattle.hub.specs.World.{request_closes, request_effect}
-use Rattle.hub.specs.Feeding.{IsServed, ServesFront}
-use Rattle.hub.specs.declared.front.Served.{Served}
+use Rattle.broker_model.specs.Words.{Fault, Status, Words, Response, Broker, Ask, step, Rows, Kept, IsHonestStore}
+use Rattle.broker_rows.specs.Words.{HasClock, Represents}
+use Rattle.http_layer.specs.Words.{asked, RefusalParts, front_refused, closes, refused_with, whole, IsFront, HeadParts}
+use Rattle.http_layer.specs.Words.{IsReply}
+use Rattle.hub.specs.Words.{IsRequestReply, request_closes, request_effect, IsServed, ServesFront, Served}
 
 -- a front is refused, and the store is not asked
 pub refusal_serves : (r : Result Served Fault) (rest : List ℕ) (status : Status) (store : Kept) (m : ℕ) (w : Words)

@@ -1,17 +1,8 @@
 -- Which faults a call has, and what it leaves of the store.
-use Rattle.std.proofs.Common.{◌≡◌, ◌≢◌, ◌∙◌, ◌||◌, ℕ, Bool, true, false, [], Vec, Result, Ok, Err, IsTrue, MatchResult}
-use Rattle.std.proofs.Common.{refl, sym, ap, subst, arith}
-use Rattle.std.specs.declared.alloc.Global.{Global}
-use Rattle.broker_types.specs.declared.fault.Fault.{Fault}
-use Rattle.broker_types.specs.declared.fault.Fault.TheVariants.{Storage}
-use Rattle.records.specs.Kept.{Kept, IsHonestStore}
-use Rattle.hub.specs.Feeding.{IsLater, Keeps}
-use Rattle.hub.specs.Representing.{HubRepresents, hub_store}
-use Rattle.hub.specs.ServedConnection.{IsAllowed, IsUnanswered, KeepsStore}
-use Rattle.hub.specs.World.{World}
-use Rattle.hub.specs.declared.hub.Hub.{Hub}
-use Rattle.hub.specs.declared.serve.ConnectionFault.{ConnectionFault}
-use Rattle.hub.specs.declared.serve.ConnectionFault.TheVariants.{Broker, Read, Write}
+use Rattle.std.specs.Prelude.{◌≡◌, ◌≢◌, ◌||◌, ℕ, Bool, true, false, [], Vec, Result, Ok, Err, IsTrue, MatchResult, refl}
+use Rattle.broker_model.specs.Words.{◌∙◌, sym, ap, subst, arith, Global, Fault, Storage, Kept, IsHonestStore}
+use Rattle.hub.specs.Words.{IsLater, Keeps, HubRepresents, hub_store, IsAllowed, IsUnanswered, KeepsStore, World, Hub}
+use Rattle.hub.specs.Words.{ConnectionFault, Broker, Read, Write}
 use Rattle.hub.proofs.AnswersLemmas.{honest_before, later_still}
 use Rattle.hub.proofs.EndingLemmas.{not_storage}
 

@@ -1,33 +1,18 @@
 -- Turns on many lines, in any order.
-use Rattle.std.proofs.Common.{◌≡◌, ◌≢◌, ◌∙◌, ◌<◌, ℕ, Bool, true, false, cond, List, [], ◌∷◌, ◌++◌, length, nat_eq}
-use Rattle.std.proofs.Common.{get_or, set, Option, Some, None, Result, Ok, Err, OnOk}
-use Rattle.std.proofs.Common.{IsTrue, is_some, refl, sym, ap, subst, append_assoc, append-nil, eq-eqb, ne_eqb, eqb-true}
-use Rattle.std.proofs.Common.{arith}
-use Rattle.std.proofs.lemmas.Bool.{eqb-false, false≢true}
-use Rattle.std.proofs.lemmas.List.{get_or_default, get_or-set_same, get_or-set_other}
-use Rattle.std.proofs.lemmas.List.Concat.{flat_map-append}
-use Rattle.std.proofs.lemmas.List.Elements.{All-append, All-cons, All-head, All-nil, All-tail, filter-append}
-use Rattle.std.proofs.lemmas.List.Folds.{concat-append}
-use Rattle.std.specs.Io.KnownBytes.{Appends, Consumes}
-use Rattle.std.specs.List.{All, concat, flat_map}
-use Rattle.std.specs.Result.{result_err}
-use Rattle.std.proofs.KnownBytes.{Appends-trans, Consumes-nil, Consumes-trans}
-use Rattle.records.specs.Kept.{Kept}
-use Rattle.hub.specs.Links.{number_of, unsent}
-use Rattle.hub.specs.Ordering.{EndsBy, HaveNumbers, IsAnswer, IsCaused, IsOther, IsServedLine, ServesLines, TurnsLine}
-use Rattle.hub.specs.Ordering.{number_at, replies_in, reply_by, steps_of}
-use Rattle.hub.specs.ServedConnection.{IsUnanswered, pieces_in}
-use Rattle.hub.specs.Steps.{IsStepOf, Step, answered, answers_of, closed, conn_of, faulted, fed_by, fed_in, stop_of}
-use Rattle.hub.specs.StepsLaws.{answers_each, fed_answers, fed_stopped, steps_none, steps_on, steps_proceeding}
-use Rattle.hub.specs.StepsLaws.{steps_stopping, stops_each}
-use Rattle.hub.specs.Turning.{Passes, TurnsLink}
-use Rattle.hub.specs.declared.event.Event.{Event}
-use Rattle.hub.specs.declared.hub.Hub.{Hub}
-use Rattle.hub.specs.declared.link.Link.{Link}
+use Rattle.std.proofs.Common.{◌≡◌, ◌≢◌, ◌<◌, ◌∷◌, ◌++◌, ◌∙◌, ℕ, Bool, true, false, cond, List, [], length, nat_eq, set}
+use Rattle.broker_model.specs.Words.{get_or, Option, Some, None, Result, Ok, Err, OnOk, IsTrue, is_some, refl, sym, ap}
+use Rattle.broker_model.specs.Words.{subst, append_assoc, append-nil, eq-eqb, ne_eqb, eqb-true, arith, eqb-false}
+use Rattle.broker_model.specs.Words.{false≢true, get_or_default, get_or-set_same, get_or-set_other, flat_map-append}
+use Rattle.broker_model.specs.Words.{All-append, All-cons, All-head, All-nil, All-tail, filter-append, concat-append}
+use Rattle.broker_model.specs.Words.{Appends, Consumes, All, concat, flat_map, result_err, Appends-trans, Consumes-nil}
+use Rattle.broker_model.specs.Words.{Consumes-trans, Kept}
+use Rattle.hub.specs.Words.{number_of, unsent, EndsBy, HaveNumbers, IsAnswer, IsCaused, IsOther, IsServedLine}
+use Rattle.hub.specs.Words.{ServesLines, TurnsLine, number_at, replies_in, reply_by, steps_of, IsUnanswered, pieces_in}
+use Rattle.hub.specs.Words.{IsStepOf, Step, answered, answers_of, closed, conn_of, faulted, fed_by, fed_in, stop_of}
+use Rattle.hub.specs.Words.{answers_each, fed_answers, fed_stopped, steps_none, steps_on, steps_proceeding}
+use Rattle.hub.specs.Words.{steps_stopping, stops_each, Passes, TurnsLink, Event, Hub, Link, ConnectionFault, Broker}
+use Rattle.hub.specs.Words.{Read, Write, Turn}
 use Rattle.hub.specs.declared.order.Line.{Line}
-use Rattle.hub.specs.declared.serve.ConnectionFault.{ConnectionFault}
-use Rattle.hub.specs.declared.serve.ConnectionFault.TheVariants.{Broker, Read, Write}
-use Rattle.hub.specs.declared.turn.Turn.{Turn}
 use Rattle.hub.proofs.ServingLemmas.{leaves_none, pieces_on}
 use Rattle.hub.proofs.TakingLemmas.{passes_nothing}
 

@@ -1,17 +1,9 @@
 -- What the hub keeps of a connection tells whether a request waits on it.
-use Rattle.std.proofs.Common.{◌≡◌, ◌∙◌, ◌⊎◌, inl, inr, ℕ, Bool, true, false, List, [], Option, Some, None, unwrap_or}
-use Rattle.std.proofs.Common.{refl, sym, ap, subst}
-use Rattle.std.proofs.lemmas.Bool.{false≢true}
-use Rattle.http_layer.specs.Front.{IsFront, need, unended}
-use Rattle.http_layer.specs.HeadEndLaws.{HasNoHeadEnd-nil}
-use Rattle.hub.specs.Entries.{connection_at}
-use Rattle.hub.specs.Pending.{ConnectionRepresents, EntryRepresents}
-use Rattle.hub.specs.Requests.{HasNoRequest}
-use Rattle.hub.specs.World.{FollowsRequests, History, new_history}
-use Rattle.hub.specs.declared.connection.Connection.{Connection}
-use Rattle.hub.specs.declared.connection.Connection.TheVariants.{Open, Closed}
-use Rattle.hub.specs.declared.entry.Entry.{Entry}
-use Rattle.hub.specs.declared.entry.Entry.TheVariants.{One, ClosedRun}
+use Rattle.std.proofs.Common.{◌≡◌, ◌⊎◌, ◌∙◌, inl, inr, ℕ, Bool, true, false, List, [], Option, Some, None, unwrap_or}
+use Rattle.broker_model.specs.Words.{refl, sym, ap, subst, false≢true}
+use Rattle.http_layer.specs.Words.{IsFront, need, unended, HasNoHeadEnd-nil}
+use Rattle.hub.specs.Words.{connection_at, ConnectionRepresents, EntryRepresents, HasNoRequest, FollowsRequests}
+use Rattle.hub.specs.Words.{History, new_history, Connection, Open, Closed, Entry, One, ClosedRun}
 use Rattle.hub.proofs.EntryLemmas.{open_entry}
 use Rattle.hub.proofs.HistoryLemmas.{FollowsRequests-unique}
 

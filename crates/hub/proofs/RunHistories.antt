@@ -1,15 +1,8 @@
 -- The history of a run, one event after another.
-use Rattle.std.proofs.Common.{◌≡◌, ◌∙◌, ℕ, List, [], ◌∷◌, ◌++◌, Option, Some, None, refl, sym, ap, subst}
-use Rattle.broker_types.specs.Broker.{Broker}
-use Rattle.broker_types.specs.Sound.{Sound}
-use Rattle.broker_types.specs.declared.words.Words.{Words}
-use Rattle.broker_model.specs.Forms.{forms}
-use Rattle.broker_model.specs.Step.{step}
-use Rattle.histories.specs.History.{AreAsked, Asking, History, IsAsked}
-use Rattle.hub.specs.Asking.{EventAsks}
-use Rattle.hub.specs.Histories.{EventAsked, EventsAsked}
-use Rattle.hub.specs.World.{Next, World}
-use Rattle.hub.specs.declared.event.Event.{Event}
+use Rattle.std.proofs.Common.{◌≡◌, ◌∷◌, ◌++◌, ◌∙◌, ℕ, List, [], Option, Some, None, refl, sym, ap, subst}
+use Rattle.broker_model.specs.Words.{Broker, Sound, Words, forms, step}
+use Rattle.histories.specs.Words.{AreAsked, Asking, History, IsAsked}
+use Rattle.hub.specs.Words.{EventAsks, EventAsked, EventsAsked, Next, World, Event}
 use Rattle.hub.proofs.AskingLemmas.{asking_is_a_step, each_event_asks, one_asking}
 use Rattle.hub.proofs.RunLemmas.{Next-unique}
 

@@ -1,31 +1,17 @@
 -- Calls that served: those of one event or of none, and one after another.
-use Rattle.std.proofs.Common.{◌≡◌, ◌≤◌, ℕ, List, [], ◌∷◌, ◌++◌, length, Option, Vec, Result, Ok, Err, MatchResult}
-use Rattle.std.specs.declared.alloc.Global.{Global}
-use Rattle.std.specs.Io.KnownBytes.{Appends, Consumes}
-use Rattle.std.proofs.KnownBytes.{Appends-trans, Consumes-trans}
-use Rattle.broker_types.specs.declared.fault.Fault.{Fault}
-use Rattle.broker_types.specs.declared.words.Words.{Words}
-use Rattle.records.specs.Kept.{Kept, IsHonestStore}
-use Rattle.hub.specs.AnyRows.{FaultsAt}
-use Rattle.hub.specs.Feeding.{Keeps}
-use Rattle.hub.specs.Representing.{ConnectionsRepresent, hub_store}
-use Rattle.hub.specs.ServedConnection.{IsUnanswered, Proceeds, Serves, Stops, longest_piece}
-use Rattle.hub.specs.Supplies.{Supplies}
-use Rattle.hub.specs.SuppliesLaws.{Supplies-append}
-use Rattle.hub.specs.World.{Connections}
-use Rattle.hub.specs.declared.event.Event.{Event}
-use Rattle.hub.specs.declared.hub.Hub.{Hub}
-use Rattle.hub.specs.declared.serve.ConnectionFault.{ConnectionFault}
-use Rattle.hub.specs.declared.serve.ConnectionFault.TheVariants.{Broker, Read, Write}
+use Rattle.std.proofs.Common.{◌≡◌, ◌≤◌, ◌∷◌, ◌++◌, ℕ, List, [], length, Option, Vec, Result, Ok, Err, MatchResult}
+use Rattle.broker_model.specs.Words.{Global, Appends, Consumes, Appends-trans, Consumes-trans, Fault, Words, Kept}
+use Rattle.broker_model.specs.Words.{IsHonestStore}
+use Rattle.hub.specs.Words.{FaultsAt, Keeps, ConnectionsRepresent, hub_store, IsUnanswered, Proceeds, Serves, Stops}
+use Rattle.hub.specs.Words.{longest_piece, Supplies, Supplies-append, Connections, Event, Hub, ConnectionFault, Broker}
+use Rattle.hub.specs.Words.{Read, Write}
 use Rattle.hub.proofs.AnswersLemmas.{honest_before}
 use Rattle.hub.proofs.EndingLemmas.{gone_closing, gone_faulting}
 use Rattle.hub.proofs.KeepsLemmas.{keeps_closing, keeps_err, keeps_feeding, keeps_none, keeps_ok, keeps_on, keeps_one}
 use Rattle.hub.proofs.KeepsLemmas.{keeps_writing}
 use Rattle.hub.proofs.ServingLemmas.{Closes, Fed, Joins, closed_leaves, event_of, fault_leaves, fed_leaves, leaves_none}
-use Rattle.hub.proofs.ServingLemmas.{leaves_on}
-use Rattle.hub.proofs.ServingLemmas.{proceeds_none, proceeds_on, proceeds_one, proceeds_so, stops_closing}
-use Rattle.hub.proofs.ServingLemmas.{stops_feeding, stops_on}
-use Rattle.hub.proofs.ServingLemmas.{stops_so, stops_writing}
+use Rattle.hub.proofs.ServingLemmas.{leaves_on, proceeds_none, proceeds_on, proceeds_one, proceeds_so, stops_closing}
+use Rattle.hub.proofs.ServingLemmas.{stops_feeding, stops_on, stops_so, stops_writing}
 
 -- ---- one event, or none
 

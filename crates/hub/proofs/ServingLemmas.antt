@@ -1,35 +1,16 @@
 -- Serving a connection: events run one after another.
-use Rattle.std.proofs.Common.{◌≡◌, ◌≢◌, ◌∙◌, ◌⊎◌, inl, inr, ℕ, ◌+◌, ◌<◌, ◌≤◌, Bool, true, false, cond, List, [], ◌∷◌}
-use Rattle.std.proofs.Common.{◌++◌, length, map, MatchBool, Option, Some, None, Vec, Ok}
-use Rattle.std.proofs.Common.{IsTrue, refl, sym, ap, subst, append_assoc, append-nil, arith}
-use Rattle.std.proofs.lemmas.List.{length-append, map-append}
-use Rattle.std.proofs.lemmas.List.Elements.{All-append, All-cons, All-nil}
-use Rattle.std.proofs.lemmas.List.Folds.{concat-append}
-use Rattle.std.proofs.lemmas.Map.{update_apart}
-use Rattle.std.specs.Io.KnownBytes.{IsAtEnd}
-use Rattle.std.specs.List.{concat}
-use Rattle.std.specs.declared.alloc.Global.{Global}
-use Rattle.broker_types.specs.declared.fault.Fault.{Fault}
-use Rattle.broker_types.specs.declared.fault.Fault.TheVariants.{Memory}
-use Rattle.broker_types.specs.declared.words.Words.{Words}
-use Rattle.records.specs.Kept.{Kept, IsHonestStore}
-use Rattle.broker_rows.specs.Representing.{Represents}
-use Rattle.records.specs.Transaction.{Rows}
-use Rattle.hub.specs.AnyRows.{FaultsAt, NextConnections, RunConnections, TurnsOpen, close_history}
-use Rattle.hub.specs.Feeding.{Keeps}
-use Rattle.hub.specs.HistoriesLaws.{asked_on, run_left}
-use Rattle.hub.specs.ListedReplies.{IsListedReply}
-use Rattle.hub.specs.Representing.{ConnectionsRepresent, HubRepresents, hub_store}
-use Rattle.hub.specs.Runs.{Answers, AnswersOne}
-use Rattle.hub.specs.ServedConnection.{Exchange, pieces_in, sent_in, Proceeds, Stops, LeavesClosed, LeavesOthers}
-use Rattle.hub.specs.ServedConnection.{IsEventOf}
-use Rattle.hub.specs.ServedConnection.{longest_piece}
-use Rattle.hub.specs.ServedConnection.{HasEnded, IsAnswered, IsUnanswered, RunsBefore}
-use Rattle.hub.specs.World.{Connections, History, World, history_at, put_history}
-use Rattle.hub.specs.declared.event.Event.{Event}
-use Rattle.hub.specs.declared.hub.Hub.{Hub}
-use Rattle.hub.specs.declared.serve.ConnectionFault.{ConnectionFault}
-use Rattle.hub.specs.declared.serve.ConnectionFault.TheVariants.{Broker as OfBroker, Write}
+use Rattle.std.specs.Prelude.{◌≡◌, ◌≢◌, ◌⊎◌, ◌+◌, ◌<◌, ◌≤◌, ◌∷◌, ◌++◌, ℕ, Bool, true, false, cond, List, [], length, Ok}
+use Rattle.broker_model.specs.Words.{◌∙◌, inl, inr, map, MatchBool, Option, Some, None, Vec, IsTrue, refl, sym, ap}
+use Rattle.broker_model.specs.Words.{subst, append_assoc, append-nil, arith, length-append, map-append, All-append}
+use Rattle.broker_model.specs.Words.{All-cons, All-nil, concat-append, update_apart, IsAtEnd, concat, Global, Fault}
+use Rattle.broker_model.specs.Words.{Memory, Words, Kept, IsHonestStore, Rows}
+use Rattle.broker_rows.specs.Words.{Represents}
+use Rattle.hub.specs.Words.{FaultsAt, NextConnections, RunConnections, TurnsOpen, close_history, Keeps, asked_on}
+use Rattle.hub.specs.Words.{run_left, IsListedReply, ConnectionsRepresent, HubRepresents, hub_store, Answers}
+use Rattle.hub.specs.Words.{AnswersOne, Exchange, pieces_in, sent_in, Proceeds, Stops, LeavesClosed, LeavesOthers}
+use Rattle.hub.specs.Words.{IsEventOf, longest_piece, HasEnded, IsAnswered, IsUnanswered, RunsBefore, Connections}
+use Rattle.hub.specs.Words.{History, World, history_at, put_history, Event, Hub, ConnectionFault, Broker as OfBroker}
+use Rattle.hub.specs.Words.{Write}
 use Rattle.hub.proofs.AnswersLemmas.{answers_none, answers_on, answers_one}
 use Rattle.hub.proofs.RunHistories.{EventsAsked-append}
 use Rattle.hub.proofs.RunLemmas.{Run-append}

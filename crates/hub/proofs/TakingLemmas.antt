@@ -1,21 +1,12 @@
 -- Turns made of what was read, served and sent.
-use Rattle.std.proofs.Common.{◌≡◌, ◌∙◌, ◌⊎◌, inl, inr, ◌<◌, ◌≤◌, ℕ, List, [], ◌++◌, length, Option, Some, None}
-use Rattle.std.proofs.Common.{Result, Ok, Err, MatchResult, refl, sym, ap, subst, take, append-nil}
-use Rattle.std.specs.Io.KnownBytes.{Appends, Consumes, IsAtEnd}
-use Rattle.std.proofs.KnownBytes.{Appends-nil}
+use Rattle.std.proofs.Common.{◌≡◌, ◌⊎◌, ◌<◌, ◌≤◌, ◌++◌, ◌∙◌, inl, inr, ℕ, List, [], length, Option, Some, None, Result}
+use Rattle.broker_model.specs.Words.{Ok, Err, MatchResult, refl, sym, ap, subst, take, append-nil, Appends, Consumes}
+use Rattle.broker_model.specs.Words.{IsAtEnd, Appends-nil, Kept}
 use Rattle.endpoints.specs.Now.{PullsNow}
-use Rattle.records.specs.Kept.{Kept}
-use Rattle.hub.specs.Links.{number_of, unsent}
-use Rattle.hub.specs.Representing.{ConnectionsRepresent}
-use Rattle.hub.specs.ServedConnection.{IsGone, LeavesOthers, Serves, sent_in}
-use Rattle.hub.specs.Turning.{Passes, Says, TakesTurn, TurnsLink, TurnStops}
-use Rattle.hub.specs.World.{Connections}
-use Rattle.hub.specs.declared.event.Event.{Event}
-use Rattle.hub.specs.declared.hub.Hub.{Hub}
-use Rattle.hub.specs.declared.link.Link.{Link}
-use Rattle.hub.specs.declared.serve.ConnectionFault.{ConnectionFault}
-use Rattle.hub.specs.declared.turn.Turn.{Turn}
-use Rattle.hub.specs.declared.turn.Turn.TheVariants.{NeedsRoom, WentOn}
+use Rattle.hub.specs.Words.{number_of, unsent, ConnectionsRepresent, IsGone, LeavesOthers, Serves, sent_in, Passes}
+use Rattle.hub.specs.Words.{Says, TakesTurn, TurnsLink, TurnStops, Connections, Event, Hub, Link, ConnectionFault, Turn}
+use Rattle.hub.specs.Words.{NeedsRoom}
+use Rattle.hub.specs.declared.turn.Turn.TheVariants.{WentOn}
 use Rattle.hub.proofs.KnownLemmas.{Consumes-kept}
 
 -- ---- what was sent

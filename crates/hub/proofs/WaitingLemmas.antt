@@ -1,18 +1,11 @@
 -- How much waits on a connection falls with each reply to an empty piece.
-use Rattle.std.proofs.Common.{◌≡◌, ◌≢◌, ◌∙◌, ℕ, ◌+◌, ◌<◌, Bool, true, false, List, [], ◌++◌, length, drop, Option, Some}
-use Rattle.std.proofs.Common.{None, MatchBool}
-use Rattle.std.proofs.Common.{option_map, unwrap_or, refl, sym, ap, subst, arith}
-use Rattle.std.proofs.lemmas.Bool.{false≢true}
-use Rattle.std.proofs.lemmas.List.{append-nil, length-drop}
-use Rattle.std.proofs.lemmas.Map.{update_here}
-use Rattle.http_layer.specs.Front.{Front, need, refused_with, whole, IsFront}
-use Rattle.http_layer.specs.FrontLaws.{whole_within}
-use Rattle.hub.specs.AnyRows.{NextConnections, TurnsOpen, IsFrontReply}
-use Rattle.hub.specs.Pending.{ConnectionRepresents, EntryRepresents}
-use Rattle.hub.specs.Representing.{waiting}
-use Rattle.hub.specs.World.{Connections, FollowsRequests, History, history_after, history_at, new_history, put_history}
-use Rattle.hub.specs.declared.connection.Connection.{Connection}
-use Rattle.hub.specs.declared.connection.Connection.TheVariants.{Open, Closed}
+use Rattle.std.proofs.Common.{◌≡◌, ◌≢◌, ◌+◌, ◌<◌, ◌++◌, ◌∙◌, ℕ, Bool, true, false, List, [], length, drop, Option, Some}
+use Rattle.broker_model.specs.Words.{None, MatchBool, option_map, unwrap_or, refl, sym, ap, subst, arith, false≢true}
+use Rattle.broker_model.specs.Words.{append-nil, length-drop, update_here}
+use Rattle.http_layer.specs.Words.{Front, need, refused_with, whole, IsFront, whole_within}
+use Rattle.hub.specs.Words.{NextConnections, TurnsOpen, IsFrontReply, ConnectionRepresents, EntryRepresents, waiting}
+use Rattle.hub.specs.Words.{Connections, FollowsRequests, History, history_after, history_at, new_history, put_history}
+use Rattle.hub.specs.Words.{Connection, Open, Closed}
 use Rattle.hub.proofs.HistoryLemmas.{FollowsRequests-more, FollowsRequests-unique}
 use Rattle.hub.proofs.HubLemmas.{EachRepresents}
 

@@ -1,6 +1,6 @@
 -- What a buffer holds (this project's definition).
 use Rattle.std.specs.Prelude.{◌≤◌, ℕ, List, length, take, drop}
-use Rattle.http_layer.specs.Front.{HasNoHeadEnd}
+use Rattle.http_layer.specs.Words.{HasNoHeadEnd}
 use Rattle.hub.specs.declared.buffer.Buffer.TheInside.{Inside}
 
 -- the bytes that are not answered

@@ -1,8 +1,8 @@
 -- What the hub's table of connections has under each number (this project's definition). An entry is one connection, or
 -- closed ones whose numbers follow one another, and is kept under the first of its numbers.
-use Rattle.std.specs.Prelude.{◌≡◌, ◌<◌, ◌≤◌, ℕ, zero, suc, ◌+◌, cond, nat_eq, nat_le, Option, Some, None, MatchOption}
-use Rattle.std.specs.Ordering.{nat_cmp}
-use Rattle.std.specs.BTreeMap.{BTreeMap, get}
+use Rattle.std.specs.Prelude.{◌≡◌, ◌<◌, ◌≤◌, ◌+◌, ℕ, zero, suc, cond, nat_eq, nat_le, Option, Some, None, MatchOption}
+use Rattle.broker_model.specs.Words.{nat_cmp, BTreeMap}
+use Rattle.std.specs.BTreeMap.{get}
 use Rattle.hub.specs.declared.connection.Connection.{Connection}
 use Rattle.hub.specs.declared.connection.Connection.TheVariants.{Closed}
 use Rattle.hub.specs.declared.entry.Entry.{Entry}

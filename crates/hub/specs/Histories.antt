@@ -1,11 +1,7 @@
 -- What the events of a run ask, as a history: the laws of `run` speak of it (this project's definition).
-use Rattle.std.specs.Prelude.{◌≡◌, ℕ, List, [], ◌∷◌, take, Option, Some, map, Result, Ok, Err, Vec}
-use Rattle.std.specs.Option.{option_map_or}
-use Rattle.std.specs.declared.alloc.Global.{Global}
-use Rattle.broker_types.specs.Broker.{Broker}
-use Rattle.broker_types.specs.declared.fault.Fault.{Fault}
-use Rattle.records.specs.Kept.{Kept, IsHonestStore}
-use Rattle.histories.specs.History.{Asking, History}
+use Rattle.std.specs.Prelude.{◌≡◌, ◌∷◌, ℕ, List, [], take, Option, Some, map, Result, Ok, Err, Vec}
+use Rattle.broker_model.specs.Words.{option_map_or, Global, Broker, Fault, Kept, IsHonestStore}
+use Rattle.histories.specs.Words.{Asking, History}
 use Rattle.hub.specs.Asking.{EventAsks, IsReplyTo}
 use Rattle.hub.specs.Representing.{HubRepresents, hub_store}
 use Rattle.hub.specs.World.{Next, World}

@@ -1,9 +1,7 @@
 -- What a run's history left, and histories that come one after another: lemmas for proofs here and above.
-use Rattle.std.specs.Prelude.{◌≡◌, List, [], ◌∷◌, ◌++◌, ℕ, Option, Some, None}
-use Rattle.std.specs.Option.{option_map_or}
-use Rattle.std.proofs.Common.{refl, sym, ◌∙◌, ap, subst}
-use Rattle.broker_types.specs.Broker.{Broker}
-use Rattle.histories.specs.History.{AreAsked, Asking, History, left_by}
+use Rattle.std.proofs.Common.{◌≡◌, ◌∷◌, ◌++◌, List, [], ℕ, Option, Some, None, refl, sym, ◌∙◌, ap, subst}
+use Rattle.broker_model.specs.Words.{option_map_or, Broker}
+use Rattle.histories.specs.Words.{AreAsked, Asking, History, left_by}
 use Rattle.hub.specs.Histories.{EventsAsked}
 use Rattle.hub.specs.World.{World}
 use Rattle.hub.specs.declared.event.Event.{Event}

@@ -1,11 +1,8 @@
 -- Turns on many lines, in any order: what each line read and sent of one list of steps over all of them (this project's
 -- definition).
-use Rattle.std.specs.Prelude.{◌≡◌, ◌≢◌, ◌<◌, ℕ, Bool, List, [], ◌∷◌, ◌++◌, Option, None, Some, ⊤, IsTrue, filter}
-use Rattle.std.specs.Prelude.{length}
-use Rattle.std.specs.Prelude.{nat_eq}
-use Rattle.std.specs.List.{All, concat, flat_map, slice_index_or}
-use Rattle.std.specs.Io.KnownBytes.{Appends, Consumes}
-use Rattle.records.specs.Kept.{Kept}
+use Rattle.std.specs.Prelude.{◌≡◌, ◌≢◌, ◌<◌, ◌∷◌, ◌++◌, ℕ, Bool, List, [], Option, None, Some, ⊤, IsTrue, filter}
+use Rattle.broker_model.specs.Words.{length, nat_eq, All, concat, flat_map, Appends, Consumes, Kept}
+use Rattle.std.specs.List.{slice_index_or}
 use Rattle.hub.specs.Links.{number_of, unsent}
 use Rattle.hub.specs.Representing.{ConnectionsRepresent}
 use Rattle.hub.specs.ServedConnection.{LeavesOthers, pieces_in}

@@ -1,6 +1,6 @@
 -- Whether a request waits on a connection for its reply (this project's definition).
-use Rattle.std.specs.Prelude.{Option, Some, None, ⊤}
-use Rattle.http_layer.specs.Front.{IsFront, need}
+use Rattle.broker_model.specs.Words.{Option, Some, None, ⊤}
+use Rattle.http_layer.specs.Words.{IsFront, need}
 use Rattle.hub.specs.declared.connection.Connection.{Connection}
 use Rattle.hub.specs.declared.connection.Connection.TheVariants.{Open, Closed}
 

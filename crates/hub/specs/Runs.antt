@@ -1,11 +1,8 @@
 -- What a run of events answers (this project's definition).
 use Rattle.std.specs.Prelude.{◌≡◌, ℕ, List, [], map, take, Vec}
 use Rattle.std.specs.List.{slice_index_or}
-use Rattle.std.specs.declared.alloc.Global.{Global}
-use Rattle.broker_types.specs.declared.fault.Fault.{Fault}
-use Rattle.broker_types.specs.declared.fault.Fault.TheVariants.{Memory}
-use Rattle.records.specs.Kept.{Kept}
-use Rattle.histories.specs.History.{AreAsked, History}
+use Rattle.broker_model.specs.Words.{Global, Fault, Memory, Kept}
+use Rattle.histories.specs.Words.{AreAsked, History}
 use Rattle.hub.specs.AnyRows.{FaultsAt, RunConnections}
 use Rattle.hub.specs.Histories.{EventsAsked}
 use Rattle.hub.specs.World.{Connections, World, Next, Run}

@@ -1,13 +1,9 @@
 -- What serving a connection between a source and a sink leaves (this project's definition).
-use Rattle.std.specs.Prelude.{◌≡◌, ◌≢◌, ◌⊎◌, ◌≤◌, ℕ, true, List, [], ◌∷◌, ◌++◌, Option, None, ⊤, IsTrue, length, map}
-use Rattle.std.specs.Prelude.{Result, Err, IfErr, MatchResult, OnErr}
-use Rattle.std.specs.Io.KnownBytes.{IsAtEnd}
-use Rattle.std.specs.List.{All, concat}
-use Rattle.broker_types.specs.Fault.{IsMemoryOrStorage, fault_number}
-use Rattle.broker_types.specs.declared.fault.Fault.TheVariants.{Storage}
-use Rattle.histories.specs.History.{AreAsked, History}
-use Rattle.http_layer.specs.Front.{IsFront, need}
-use Rattle.records.specs.Kept.{Kept, IsHonestStore}
+use Rattle.std.specs.Prelude.{◌≡◌, ◌≢◌, ◌⊎◌, ◌≤◌, ◌∷◌, ◌++◌, ℕ, true, List, [], Option, None, ⊤, IsTrue, length, map}
+use Rattle.broker_model.specs.Words.{Result, Err, IfErr, MatchResult, OnErr, IsAtEnd, All, concat, IsMemoryOrStorage}
+use Rattle.broker_model.specs.Words.{fault_number, Storage, Kept, IsHonestStore}
+use Rattle.histories.specs.Words.{AreAsked, History}
+use Rattle.http_layer.specs.Words.{IsFront, need}
 use Rattle.hub.specs.AnyRows.{RunConnections, close_history}
 use Rattle.hub.specs.Feeding.{IsLater}
 use Rattle.hub.specs.Histories.{EventsAsked}

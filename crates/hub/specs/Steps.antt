@@ -1,8 +1,7 @@
 -- What a hub does on all of its connections, one step after another (this project's definition).
-use Rattle.std.specs.Prelude.{◌≡◌, ℕ, List, [], ◌∷◌, Option, None, ⊤, IsTrue}
-use Rattle.std.specs.List.{All, flat_map}
-use Rattle.records.specs.Kept.{Kept, IsHonestStore}
-use Rattle.histories.specs.History.{AreAsked, Asking, History, left_by}
+use Rattle.std.specs.Prelude.{◌≡◌, ◌∷◌, ℕ, List, [], Option, None, ⊤, IsTrue}
+use Rattle.broker_model.specs.Words.{All, flat_map, Kept, IsHonestStore}
+use Rattle.histories.specs.Words.{AreAsked, Asking, History, left_by}
 use Rattle.hub.specs.Feeding.{IsLater}
 use Rattle.hub.specs.Histories.{EventAsked}
 use Rattle.hub.specs.ListedReplies.{IsListedReply}

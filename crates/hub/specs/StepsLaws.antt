@@ -1,12 +1,8 @@
 -- Steps that come one after another, and what turns and closings are as steps: lemmas for proofs here and above.
-use Rattle.std.specs.Prelude.{◌≡◌, ◌⊎◌, ℕ, List, [], ◌∷◌, ◌++◌, None, Result, Ok, Err, IsTrue, MatchResult}
-use Rattle.std.specs.Prelude.{length}
-use Rattle.std.specs.List.{All}
-use Rattle.std.proofs.Common.{arith, refl, sym, ◌∙◌, ap, subst, inl, inr, append-nil}
-use Rattle.std.proofs.lemmas.List.Concat.{flat_map-append}
-use Rattle.std.proofs.lemmas.List.Elements.{All-append, All-cons, All-head, All-nil, All-tail, All-weaker}
-use Rattle.records.specs.Kept.{Kept, IsHonestStore}
-use Rattle.histories.specs.History.{History}
+use Rattle.std.proofs.Common.{◌≡◌, ◌⊎◌, ◌∷◌, ◌++◌, ℕ, List, [], None, Result, Ok, Err, IsTrue, MatchResult, length, sym}
+use Rattle.broker_model.specs.Words.{All, arith, refl, ◌∙◌, ap, subst, inl, inr, append-nil, flat_map-append}
+use Rattle.broker_model.specs.Words.{All-append, All-cons, All-head, All-nil, All-tail, All-weaker, Kept, IsHonestStore}
+use Rattle.histories.specs.Words.{History}
 use Rattle.hub.specs.Feeding.{IsLater}
 use Rattle.hub.specs.Histories.{EventsAsked}
 use Rattle.hub.specs.HistoriesLaws.{asked_on, left_on, run_left}
@@ -15,9 +11,8 @@ use Rattle.hub.specs.Representing.{HubRepresents, hub_store}
 use Rattle.hub.specs.Runs.{Answers}
 use Rattle.hub.specs.ServedConnection.{Exchange, IsEventOf, IsKnown, IsUnanswered, LeavesClosed, Proceeds, RunsUntil}
 use Rattle.hub.specs.ServedConnection.{Stops}
-use Rattle.hub.specs.Steps.{AreKnown, IsStep, IsStepOf, Step, StepsBetween, StepsFrom, StepsTaken}
-use Rattle.hub.specs.Steps.{TakesSteps}
-use Rattle.hub.specs.Steps.{answered, answers_of, before_fault, closed, faulted, fed_by, fed_in, stop_of}
+use Rattle.hub.specs.Steps.{AreKnown, IsStep, IsStepOf, Step, StepsBetween, StepsFrom, StepsTaken, TakesSteps, answered}
+use Rattle.hub.specs.Steps.{answers_of, before_fault, closed, faulted, fed_by, fed_in, stop_of}
 use Rattle.hub.specs.Turning.{TakesTurn, TurnStops}
 use Rattle.hub.specs.World.{Connections, World}
 use Rattle.hub.specs.declared.event.Event.{Event}

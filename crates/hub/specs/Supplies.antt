@@ -1,6 +1,6 @@
 -- What a clock and a source of words give to events, one after another (this project's definition).
-use Rattle.std.specs.Prelude.{◌≡◌, ℕ, List, [], ◌∷◌, map}
-use Rattle.broker_types.specs.declared.words.Words.{Words}
+use Rattle.std.specs.Prelude.{◌≡◌, ◌∷◌, ℕ, List, [], map}
+use Rattle.broker_model.specs.Words.{Words}
 use Rattle.hub.specs.declared.event.Event.{Event}
 
 -- Calls from the state s on gave the values in their order, one a call, and left the state t. What one call may give is

@@ -1,8 +1,6 @@
 -- Events that are supplied one after another: lemmas for proofs here and above.
-use Rattle.std.specs.Prelude.{ℕ, List, [], ◌∷◌, ◌++◌, map}
-use Rattle.std.proofs.Common.{refl, sym, subst}
-use Rattle.std.proofs.lemmas.List.{map-append}
-use Rattle.broker_types.specs.declared.words.Words.{Words}
+use Rattle.std.proofs.Common.{◌∷◌, ◌++◌, ℕ, List, [], map, refl, sym, subst}
+use Rattle.broker_model.specs.Words.{map-append, Words}
 use Rattle.hub.specs.Supplies.{GivesInTurn, Supplies}
 use Rattle.hub.specs.declared.event.Event.{Event}
 

@@ -1,20 +1,10 @@
 -- Changes of versions, from what their calls say.
-use Rattle.std.specs.Prelude.{◌≡◌, ◌<◌, ◌^◌, ◌∷◌, [], true, false, if◌then◌else◌, Option, Some, None, option_map, ℕ}
-use Rattle.std.specs.Prelude.{List}
-use Rattle.std.proofs.Common.{refl, sym, ◌∙◌, ap, subst}
-use Rattle.broker_types.specs.Text.{Text, same}
-use Rattle.broker_types.specs.TextLaws.{same_true}
-use Rattle.broker_types.specs.Map.{Map, get, change}
-use Rattle.broker_types.specs.MapLaws.{get-change, same_map}
-use Rattle.broker_types.specs.Secret.{Key, Version}
-use Rattle.broker_types.specs.Broker.{Broker}
-use Rattle.broker_types.specs.Sound.{Forms, SoundSecrets, IsSecretName}
-use Rattle.records.specs.KeyEntry.{key_entry}
-use Rattle.records.specs.Parts.{of_secrets, Tells}
-use Rattle.records.specs.Table.{Table}
-use Rattle.kv2.specs.SecretRows.{HasKey, HasVersion, IsReadableVersion, AreChanged, current_of}
-use Rattle.kv2.specs.Secrets.{secret_name, with_key}
-use Rattle.kv2.specs.Versions.{version_of, with_changed}
+use Rattle.std.proofs.Common.{◌≡◌, ◌<◌, ◌^◌, ◌∷◌, if◌then◌else◌, [], true, false, Option, Some, None, option_map, ℕ, ap}
+use Rattle.records.specs.Words.{List, refl, sym, ◌∙◌, subst, Text, same, same_true, Map, get, change, get-change}
+use Rattle.records.specs.Words.{same_map, Key, Version, Broker, Forms, SoundSecrets, IsSecretName, key_entry}
+use Rattle.records.specs.Words.{of_secrets, Tells, Table}
+use Rattle.kv2.specs.Words.{HasKey, HasVersion, IsReadableVersion, AreChanged, current_of, secret_name, with_key}
+use Rattle.kv2.specs.Words.{version_of, with_changed}
 use Rattle.kv2.proofs.Digits.{KeyLaws}
 use Rattle.kv2.proofs.Changed.{changed_told}
 use Rattle.kv2.proofs.SecretsTold.{has_key, has_version}

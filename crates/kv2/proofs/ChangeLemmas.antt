@@ -1,14 +1,9 @@
 -- What changes do to a version.
-use Rattle.std.specs.Prelude.{◌≡◌, true, false, if◌then◌else◌, Some, None, is_none}
-use Rattle.std.proofs.Common.{refl, ap, subst}
-use Rattle.std.proofs.lemmas.Option.{none-some, same_Some}
-use Rattle.broker_types.specs.Secret.{Version}
-use Rattle.broker_types.specs.Sound.{IsMoment}
-use Rattle.records.specs.Ranges.{IsVersionInRange}
+use Rattle.std.proofs.Common.{◌≡◌, if◌then◌else◌, true, false, Some, None, is_none, refl, ap, subst}
+use Rattle.records.specs.Words.{none-some, same_Some, Version, IsMoment, IsVersionInRange}
 use Rattle.kv2.specs.declared.changing.Change.{Change}
 use Rattle.kv2.specs.declared.changing.Change.TheVariants as done
-use Rattle.kv2.specs.Changes.{change_of, IsTimely}
-use Rattle.kv2.specs.Versions.{soft_deleted}
+use Rattle.kv2.specs.Words.{change_of, IsTimely, soft_deleted}
 
 -- to change twice is to change once
 pub twice : (c : Change) (v : Version) → change_of c (change_of c v) ≡ change_of c v

@@ -1,36 +1,16 @@
 -- Versions changed: one after another, and their rows as those of the next broker.
-use Rattle.std.specs.Prelude.{◌≡◌, ◌<◌, ◌≤◌, ◌^◌, ◌==◌, ◌&&◌, ◌||◌, ◌∷◌, ◌++◌, [], ℕ, List, Bool, true, false}
-use Rattle.std.specs.Prelude.{if◌then◌else◌, Option}
-use Rattle.std.specs.Prelude.{Some, None, option_map}
+use Rattle.std.proofs.Common.{◌≡◌, ◌<◌, ◌≤◌, ◌^◌, ◌==◌, ◌&&◌, ◌||◌, ◌∷◌, ◌++◌, if◌then◌else◌, [], ℕ, List, Bool, true}
+use Rattle.records.specs.Words.{false, Option, Some, None, option_map, refl, sym, ◌∙◌, ap, subst, inl, inr, eqb-true}
+use Rattle.records.specs.Words.{false≢true, or_cases, or_right, false_from_ne_true, list_any-append, same_Some}
+use Rattle.records.specs.Words.{or-false, Text, same, same_self, same_true, greatest_version, Map, get, change}
+use Rattle.records.specs.Words.{get-change, mapped, Key, Version, Broker, Forms, SoundSecrets, IsSecretName}
+use Rattle.records.specs.Words.{kind_number, of_secrets, Tells, IsVersionInRange, key_row, version_row, padded}
+use Rattle.records.specs.Words.{version_key, version_at, version_row_of, version_of_digits, line_feed, eqb_self, Table}
+use Rattle.records.specs.Words.{with_row, mapped_unseen, unseen}
 use Rattle.std.specs.FinMap as fin
-use Rattle.std.proofs.Common.{refl, sym, ◌∙◌, ap, subst, inl, inr}
-use Rattle.std.proofs.lemmas.Bool.{eqb-true, false≢true, or_cases, or_right, false_from_ne_true}
-use Rattle.std.proofs.lemmas.List.Folds.{list_any-append}
-use Rattle.std.proofs.lemmas.Option.{same_Some}
-use Rattle.std.proofs.Math.Bool.{or-false}
-use Rattle.broker_types.specs.Text.{Text, same}
-use Rattle.broker_types.specs.TextLaws.{same_self, same_true}
-use Rattle.broker_types.specs.Limits.{greatest_version}
-use Rattle.broker_types.specs.Map.{Map, get, change}
-use Rattle.broker_types.specs.MapLaws.{get-change}
-use Rattle.broker_types.specs.OptionLaws.{mapped}
-use Rattle.broker_types.specs.Secret.{Key, Version}
-use Rattle.broker_types.specs.Broker.{Broker}
-use Rattle.broker_types.specs.Sound.{Forms, SoundSecrets, IsSecretName}
 use Rattle.records.specs.declared.kind.Kind.TheVariants as kind
-use Rattle.records.specs.declared.row.Row.{Row}
-use Rattle.records.specs.Kind.{kind_number}
-use Rattle.records.specs.Parts.{of_secrets, Tells}
-use Rattle.records.specs.Ranges.{IsVersionInRange}
-use Rattle.records.specs.RowForms.{key_row, version_row}
-use Rattle.records.specs.Rows.{padded, version_key, version_at, version_row_of, version_of_digits}
-use Rattle.records.specs.Splits.{line_feed}
-use Rattle.records.specs.SplitLaws.{eqb_self}
-use Rattle.records.specs.Table.{Table, with_row}
-use Rattle.records.specs.ValueLaws.{mapped_unseen, unseen}
-use Rattle.kv2.specs.SecretRows.{HasVersion, IsReadableVersion, AreChanged, is_key_of}
-use Rattle.kv2.specs.VersionLaws.{get-change_versions}
-use Rattle.kv2.specs.Versions.{version_of, with_changed, is_among}
+use Rattle.kv2.specs.Words.{Row, HasVersion, IsReadableVersion, AreChanged, is_key_of, get-change_versions, version_of}
+use Rattle.kv2.specs.Words.{with_changed, is_among}
 use Rattle.kv2.proofs.Digits.{KeyLaws}
 use Rattle.kv2.proofs.Found.{none_is, none_read, some_is, some_read}
 use Rattle.kv2.proofs.Parts.{secrets_by}

@@ -1,22 +1,10 @@
 -- Metadata, from what its calls say.
-use Rattle.std.specs.Prelude.{◌≡◌, ℕ, List, Option, Some, None, option_map, map, All}
+use Rattle.std.proofs.Common.{◌≡◌, ℕ, List, Option, Some, None, option_map, map, All, sym, ◌∙◌, ap, subst}
 use Rattle.std.specs.FinMap as fin
-use Rattle.std.proofs.Common.{sym, ◌∙◌, ap, subst}
-use Rattle.std.proofs.lemmas.List.Elements.{All-map, All-weaker}
-use Rattle.broker_types.specs.Text.{Text}
-use Rattle.broker_types.specs.Map.{get}
-use Rattle.broker_types.specs.OptionLaws.{mapped, mapped_none}
-use Rattle.broker_types.specs.Secret.{Key, Version}
-use Rattle.broker_types.specs.Broker.{Broker}
-use Rattle.broker_types.specs.Sound.{Forms, SoundSecrets}
-use Rattle.records.specs.KeyEntry.{KeyEntry, key_entry}
-use Rattle.records.specs.Parts.{of_secrets, Tells}
-use Rattle.records.specs.Table.{table_of}
-use Rattle.records.specs.Transaction.{Rows}
-use Rattle.kv2.specs.InRange.{IsToldInRange, AreToldInRange}
-use Rattle.kv2.specs.Metadata.{metadata_of, metadata_with, version_metadata}
-use Rattle.kv2.specs.SecretRows.{HasKey, IsNumbered, AreVersions}
-use Rattle.kv2.specs.Secrets.{secret_name, metadata}
+use Rattle.records.specs.Words.{All-map, All-weaker, Text, get, mapped, mapped_none, Key, Version, Broker, Forms}
+use Rattle.records.specs.Words.{SoundSecrets, KeyEntry, key_entry, of_secrets, Tells, table_of, Rows}
+use Rattle.kv2.specs.Words.{IsToldInRange, AreToldInRange, metadata_of, metadata_with, version_metadata, HasKey}
+use Rattle.kv2.specs.Words.{IsNumbered, AreVersions, secret_name, metadata}
 use Rattle.kv2.proofs.Digits.{KeyLaws}
 use Rattle.kv2.proofs.SecretsTold.{has_key}
 use Rattle.kv2.proofs.VersionsListed.{versions_listed}

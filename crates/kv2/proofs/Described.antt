@@ -1,30 +1,14 @@
 -- Settings of a secret: its rows are those of the next broker.
-use Rattle.std.specs.Prelude.{◌≡◌, ℕ, List, map, Bool, true, false, cond, if◌then◌else◌, Option, Some, None, option_map}
-use Rattle.std.specs.Prelude.{unwrap_or}
-use Rattle.std.specs.Ordering.{nat_cmp}
+use Rattle.std.proofs.Common.{◌≡◌, if◌then◌else◌, ℕ, List, map, Bool, true, false, cond, Option, Some, None, option_map}
+use Rattle.records.specs.Words.{unwrap_or, nat_cmp, option_map_or, refl, sym, ◌∙◌, ap, Text, text_cmp, same, same_true}
+use Rattle.records.specs.Words.{Map, get, put, entries, get-put, Key, Broker, IsMoment, is_ascending, listed_entries}
+use Rattle.records.specs.Words.{KeyEntry, key_entry, of_secrets, Tells, IsKeyInRange, IsSomeIn, IsWide, key_row}
+use Rattle.records.specs.Words.{key_entry_row, version_row, version_of_digits, version_row_of, version_at, Table}
+use Rattle.records.specs.Words.{IsMeta}
 use Rattle.std.specs.FinMap as fin
-use Rattle.std.specs.Option.{option_map_or}
-use Rattle.std.proofs.Common.{refl, sym, ◌∙◌, ap}
-use Rattle.broker_types.specs.Text.{Text, text_cmp, same}
-use Rattle.broker_types.specs.TextLaws.{same_true}
-use Rattle.broker_types.specs.Map.{Map, get, put, entries}
-use Rattle.broker_types.specs.MapLaws.{get-put}
-use Rattle.broker_types.specs.Secret.{Key}
-use Rattle.broker_types.specs.Broker.{Broker}
-use Rattle.broker_types.specs.Sound.{IsMoment, is_ascending}
 use Rattle.records.specs.declared.kind.Kind.TheVariants as kind
-use Rattle.records.specs.EntryMapLaws.{listed_entries}
-use Rattle.records.specs.KeyEntry.{KeyEntry, key_entry}
-use Rattle.records.specs.Parts.{of_secrets, Tells}
-use Rattle.records.specs.Ranges.{IsKeyInRange}
-use Rattle.records.specs.RowReaders.{IsSomeIn, IsWide}
-use Rattle.records.specs.RowForms.{key_row, key_entry_row, version_row}
-use Rattle.records.specs.Rows.{version_of_digits, version_row_of, version_at}
-use Rattle.records.specs.Table.{Table}
-use Rattle.records.specs.TokenEntry.{IsMeta}
-use Rattle.kv2.specs.SecretRows.{new_entry, described_entry, with_description}
-use Rattle.kv2.specs.Secrets.{secret_name, set_metadata}
-use Rattle.kv2.specs.Versions.{Settings, described, key_or_new}
+use Rattle.kv2.specs.Words.{new_entry, described_entry, with_description, secret_name, set_metadata, Settings}
+use Rattle.kv2.specs.Words.{described, key_or_new}
 use Rattle.kv2.proofs.Parts.{secrets_by}
 use Rattle.kv2.proofs.SecretsTold.{key_rows, version_rows}
 use Rattle.kv2.proofs.VersionRows.{at_parts}

@@ -1,17 +1,9 @@
 -- What the keys of versions tell, from the laws of these keys.
-use Rattle.std.specs.Prelude.{◌≡◌, ◌<◌, ◌^◌, ◌==◌, ◌∷◌, ◌++◌, [], ℕ, nat_lt, not, true, None}
-use Rattle.std.specs.Ordering.{nat_cmp, is_le, is_eq}
-use Rattle.std.proofs.Common.{sym, ◌∙◌, ap, arith}
-use Rattle.std.proofs.lemmas.Bool.{eqb-true}
-use Rattle.broker_types.specs.Text.{Text, text_cmp, same}
-use Rattle.broker_types.specs.TextLaws.{same-text_cmp, same_self}
-use Rattle.broker_types.specs.Limits.{greatest_version}
-use Rattle.broker_types.specs.Sound.{IsSecretName}
-use Rattle.records.specs.Rows.{padded, version_of_digits}
-use Rattle.records.specs.Splits.{line_feed, lacks}
-use Rattle.records.specs.SplitLaws.{lacking_split}
-use Rattle.records.specs.ValueLaws.{none_of}
-use Rattle.records.specs.VersionKeys.{DigitsTellTheVersion, OnlyDigitsTellAVersion, DigitsAreInOrder, NamesAreSplitOff}
+use Rattle.std.proofs.Common.{◌≡◌, ◌<◌, ◌^◌, ◌==◌, ◌∷◌, ◌++◌, [], ℕ, nat_lt, not, true, None, sym, ◌∙◌, ap, arith}
+use Rattle.records.specs.Words.{nat_cmp, is_le, is_eq, eqb-true, Text, text_cmp, same, same-text_cmp, same_self}
+use Rattle.records.specs.Words.{greatest_version, IsSecretName, padded, version_of_digits, line_feed, lacks}
+use Rattle.records.specs.Words.{lacking_split, none_of, DigitsTellTheVersion, OnlyDigitsTellAVersion, DigitsAreInOrder}
+use Rattle.records.specs.Words.{NamesAreSplitOff}
 use Rattle.records.specs.TableLaws.{eq-nat_cmp}
 use Rattle.records.specs.DigitLaws.{wide}
 

@@ -1,22 +1,11 @@
 -- Secrets removed and changed, and mounts: their rows are those of the next broker.
-use Rattle.std.specs.Prelude.{◌≡◌, [], ℕ, not, nat_eq, Bool, true, false, cond, if◌then◌else◌, Option}
-use Rattle.std.specs.Prelude.{Some, None, option_map}
-use Rattle.std.specs.List.{starts_with}
-use Rattle.std.proofs.Common.{refl, sym, ◌∙◌, ap}
-use Rattle.broker_types.specs.Text.{Text, same}
-use Rattle.broker_types.specs.Map.{Map, get, without, keep, change}
-use Rattle.broker_types.specs.MapLaws.{get-without, get-keep, get-change}
-use Rattle.broker_types.specs.Secret.{Key}
-use Rattle.broker_types.specs.Broker.{Broker, Mount}
-use Rattle.broker_types.specs.TextLaws.{same_true}
+use Rattle.std.proofs.Common.{◌≡◌, if◌then◌else◌, [], ℕ, not, nat_eq, Bool, true, false, cond, Option, Some, None, refl}
+use Rattle.records.specs.Words.{option_map, starts_with, sym, ◌∙◌, ap, Text, same, Map, get, without, keep, change}
+use Rattle.records.specs.Words.{get-without, get-keep, get-change, Key, Broker, Mount, same_true, of_secrets, of_mounts}
+use Rattle.records.specs.Words.{Tells, key_row, mount_row, version_at, version_row_of, version_of_digits, line_feed}
+use Rattle.records.specs.Words.{lacks, Table, mount_rows}
 use Rattle.records.specs.declared.kind.Kind.TheVariants as kind
-use Rattle.records.specs.Parts.{of_secrets, of_mounts, Tells}
-use Rattle.records.specs.RowForms.{key_row, mount_row}
-use Rattle.records.specs.Rows.{version_at, version_row_of, version_of_digits}
-use Rattle.records.specs.Splits.{line_feed, lacks}
-use Rattle.records.specs.Table.{Table}
-use Rattle.records.specs.PartLaws.{mount_rows}
-use Rattle.kv2.specs.SecretRows.{without_key, without_names, versions_prefix, rows_with_settings}
+use Rattle.kv2.specs.Words.{without_key, without_names, versions_prefix, rows_with_settings}
 use Rattle.kv2.specs.Secrets as secrets
 use Rattle.kv2.proofs.Parts.{secrets_by, mounts_by}
 use Rattle.kv2.proofs.SecretsTold.{key_rows, version_rows}

@@ -1,16 +1,8 @@
 -- The entries of versions, read one after another.
-use Rattle.std.specs.Prelude.{◌≡◌, ◌<◌, ◌+◌, ℕ, List, [], ◌∷◌, ◌++◌, map, length, take, get_or, Bool, true, false, not}
-use Rattle.std.specs.Prelude.{is_some, is_none, Option, Some, None, option_map}
-use Rattle.std.proofs.Common.{sym, ◌∙◌, ap, arith}
-use Rattle.std.proofs.lemmas.Bool.{false≢true}
-use Rattle.std.proofs.lemmas.List.{get_or-map, length-map, map_push, take_more}
-use Rattle.std.proofs.lemmas.List.Elements.{All-push}
-use Rattle.broker_types.specs.Text.{Text}
-use Rattle.broker_types.specs.Secret.{Version}
-use Rattle.records.specs.declared.row.Row.{Row}
-use Rattle.records.specs.Kind.{RowKey}
-use Rattle.records.specs.ListedMapLaws.{named}
-use Rattle.kv2.specs.SecretRows.{IsNumbered, IsEntryOf, AreEntriesOf, version_entry}
+use Rattle.std.proofs.Common.{◌≡◌, ◌<◌, ◌+◌, ◌∷◌, ◌++◌, ℕ, List, [], map, length, take, get_or, Bool, true, false, not}
+use Rattle.records.specs.Words.{is_some, is_none, Option, Some, None, option_map, sym, ◌∙◌, ap, arith, false≢true}
+use Rattle.records.specs.Words.{get_or-map, length-map, map_push, take_more, All-push, Text, Version, RowKey, named}
+use Rattle.kv2.specs.Words.{Row, IsNumbered, IsEntryOf, AreEntriesOf, version_entry}
 
 -- a version is destroyed where it has no text
 pub destroyed_is : {X Y : Type 0} (f : X → Y) (o : Option X) (s : Option Y) (b : Bool) → is_some o ≡ not b

@@ -1,10 +1,7 @@
 -- What a row that was read, or is not there, says.
-use Rattle.std.specs.Prelude.{◌≡◌, Option, Some, None}
-use Rattle.std.proofs.Common.{sym, ◌∙◌, ap, subst}
-use Rattle.std.proofs.lemmas.Option.{none-some, same_Some}
-use Rattle.broker_types.specs.OptionLaws.{mapped, mapped_none}
-use Rattle.records.specs.declared.row.Row.{Row}
-use Rattle.records.specs.RowReaders.{IsRowOf}
+use Rattle.std.proofs.Common.{◌≡◌, Option, Some, None, sym, ◌∙◌, ap, subst}
+use Rattle.records.specs.Words.{none-some, same_Some, mapped, mapped_none, IsRowOf}
+use Rattle.kv2.specs.Words.{Row}
 
 module _ {X : Type 0} (P : X → Type 0) (row_of : X → Row) (row : Option Row) where
   -- no row is of no record

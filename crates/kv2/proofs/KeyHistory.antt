@@ -1,30 +1,15 @@
 -- What stays of a key from one operation to the next.
-use Rattle.std.specs.Prelude.{◌≡◌, ◌≢◌, ◌≤◌, ◌+◌, ◌-◌, ◌==◌, ℕ, List, nat_lt, Bool, true, false, cond, if◌then◌else◌}
-use Rattle.std.specs.Prelude.{Option, Some, None, option_map}
-use Rattle.std.specs.Prelude.{is_none, Ok, nat_eq, [], not, map}
-use Rattle.std.specs.List.{starts_with}
-use Rattle.std.specs.Option.{option_map_or}
-use Rattle.std.specs.Ordering.{nat_cmp}
+use Rattle.std.proofs.Common.{◌≡◌, ◌≢◌, ◌≤◌, ◌+◌, ◌-◌, ◌==◌, if◌then◌else◌, ℕ, List, nat_lt, Bool, true, false, cond}
+use Rattle.records.specs.Words.{Option, Some, None, option_map, is_none, Ok, nat_eq, [], not, map, starts_with}
+use Rattle.records.specs.Words.{option_map_or, nat_cmp, refl, sym, ◌∙◌, ap, subst, arith, eqb-true, none-some, Text}
+use Rattle.records.specs.Words.{text_cmp, same, same_self, get, entries, get-put, get-put_self, get-change, get-without}
+use Rattle.records.specs.Words.{get-keep, entries-empty, mapped, Key, Version, Broker, Forms, SoundSecrets}
+use Rattle.records.specs.Words.{is_ascending, listed_entries}
 use Rattle.std.specs.FinMap as fin
-use Rattle.std.proofs.Common.{refl, sym, ◌∙◌, ap, subst, arith}
-use Rattle.std.proofs.lemmas.Bool.{eqb-true}
-use Rattle.std.proofs.lemmas.Option.{none-some}
-use Rattle.broker_types.specs.Text.{Text, text_cmp, same}
-use Rattle.broker_types.specs.TextLaws.{same_self}
-use Rattle.broker_types.specs.Map.{get, entries}
-use Rattle.broker_types.specs.MapLaws.{get-put, get-put_self, get-change, get-without, get-keep, entries-empty}
-use Rattle.broker_types.specs.OptionLaws.{mapped}
-use Rattle.broker_types.specs.Secret.{Key, Version}
-use Rattle.broker_types.specs.Broker.{Broker}
-use Rattle.broker_types.specs.Sound.{Forms, SoundSecrets, is_ascending}
-use Rattle.records.specs.EntryMapLaws.{listed_entries}
-use Rattle.kv2.specs.Laws.{last_number, version_at, HasNoSecret, custom_metadata_at}
-use Rattle.kv2.specs.Secrets.{Written, secret_name, key_at, with_key, write, set_metadata, remove_key, drop_mount}
-use Rattle.kv2.specs.SoundLaws.{write_is}
-use Rattle.kv2.specs.VersionLaws.{get-change_versions, next_versions}
-use Rattle.kv2.specs.Versions.{Settings, version_of, key_or_new, new_version, with_version, with_changed, is_among}
-use Rattle.kv2.specs.Versions.{versions_kept, described}
-use Rattle.kv2.specs.Versions.{soft_deleted, restored, destroyed}
+use Rattle.kv2.specs.Words.{last_number, version_at, HasNoSecret, custom_metadata_at, Written, secret_name, key_at}
+use Rattle.kv2.specs.Words.{with_key, write, set_metadata, remove_key, drop_mount, write_is, get-change_versions}
+use Rattle.kv2.specs.Words.{next_versions, Settings, version_of, key_or_new, new_version, with_version, with_changed}
+use Rattle.kv2.specs.Words.{is_among, versions_kept, described, soft_deleted, restored, destroyed}
 
 -- ---- changes of versions
 

@@ -1,17 +1,8 @@
 -- The names of secrets, and the keys of their rows.
-use Rattle.std.specs.Prelude.{◌≡◌, [], is_some, Option, Some, None, option_map}
-use Rattle.std.specs.FinMap.{contains_key-keys}
-use Rattle.std.proofs.Common.{refl, sym, ◌∙◌, ap}
-use Rattle.broker_types.specs.Map.{get, keys}
-use Rattle.broker_types.specs.Secret.{Key}
-use Rattle.broker_types.specs.Broker.{Broker}
+use Rattle.std.proofs.Common.{◌≡◌, [], is_some, Option, Some, None, option_map, refl, sym, ◌∙◌, ap}
+use Rattle.records.specs.Words.{contains_key-keys, get, keys, Key, Broker, AreNames, of_secrets, Tells, key_row}
+use Rattle.records.specs.Words.{table_of, Rows, has_by_order}
 use Rattle.records.specs.declared.kind.Kind.TheVariants as kind
-use Rattle.records.specs.Children.{AreNames}
-use Rattle.records.specs.Parts.{of_secrets, Tells}
-use Rattle.records.specs.RowForms.{key_row}
-use Rattle.records.specs.Table.{table_of}
-use Rattle.records.specs.Transaction.{Rows}
-use Rattle.records.specs.HasLaws.{has_by_order}
 use Rattle.kv2.proofs.SecretsTold.{key_rows}
 
 -- the rows of keys are named by the secrets

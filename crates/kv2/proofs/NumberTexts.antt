@@ -1,12 +1,7 @@
 -- The numbers that the keys of versions tell, read as texts.
-use Rattle.std.specs.Prelude.{◌≡◌, ◌∷◌, [], ◌++◌, ℕ, length, drop}
-use Rattle.std.proofs.Common.{sym, ◌∙◌, ap}
-use Rattle.std.proofs.lemmas.List.{append_assoc}
-use Rattle.std.proofs.Math.Seq.{drop-append_seam}
-use Rattle.broker_types.specs.Text.{Text}
-use Rattle.records.specs.Rows.{padded, version_key}
-use Rattle.records.specs.Splits.{line_feed}
-use Rattle.kv2.specs.SecretRows.{versions_prefix}
+use Rattle.std.proofs.Common.{◌≡◌, ◌∷◌, ◌++◌, [], ℕ, length, drop, sym, ◌∙◌, ap, append_assoc}
+use Rattle.records.specs.Words.{drop-append_seam, Text, padded, version_key, line_feed}
+use Rattle.kv2.specs.Words.{versions_prefix}
 
 -- ---- the digits behind a prefix
 

@@ -1,19 +1,11 @@
 -- The oldest of versions in the order of their numbers.
-use Rattle.std.specs.Prelude.{◌≡◌, ◌≢◌, ◌<◌, ◌≤◌, ◌∷◌, [], ℕ, List, map, nat_lt, true, false, cond, if◌then◌else◌, Some}
-use Rattle.std.specs.Prelude.{None, T}
-use Rattle.std.specs.Ordering.{nat_cmp, is_lt, eq_by_cmp}
+use Rattle.std.proofs.Common.{◌≡◌, ◌≢◌, ◌<◌, ◌≤◌, ◌∷◌, if◌then◌else◌, [], ℕ, List, map, nat_lt, true, false, cond, Some}
+use Rattle.records.specs.Words.{None, T, nat_cmp, is_lt, eq_by_cmp, is_sorted, below_all, refl, sym, ◌∙◌, ap, subst}
+use Rattle.records.specs.Words.{arith, eqb-true, ltb-true, none-some, Key, Version, eqb_self}
 use Rattle.std.specs.FinMap as fin
-use Rattle.std.specs.FinMap.{is_sorted}
-use Rattle.std.specs.FinMap.Entries.{below_all}
-use Rattle.std.proofs.Common.{refl, sym, ◌∙◌, ap, subst, arith}
-use Rattle.std.proofs.lemmas.Bool.{eqb-true, ltb-true}
-use Rattle.std.proofs.lemmas.Option.{none-some}
-use Rattle.broker_types.specs.Secret.{Key, Version}
 use Rattle.broker_types.specs.TestLaws.{T_left, T_right}
-use Rattle.records.specs.SplitLaws.{eqb_self}
 use Rattle.records.specs.TableLaws.{eq-nat_cmp}
-use Rattle.kv2.specs.Laws.{IsOldest}
-use Rattle.kv2.specs.Metadata.{metadata_of, version_metadata, oldest_of}
+use Rattle.kv2.specs.Words.{IsOldest, metadata_of, version_metadata, oldest_of}
 
 less : (m n : ℕ) → T (is_lt (nat_cmp m n)) → m < n
 less m n h = grind arith

@@ -1,30 +1,13 @@
 -- The rows that an edit of secrets leaves as they were.
-use Rattle.std.specs.Prelude.{◌≡◌, ◌==◌, ◌&&◌, ◌∷◌, ◌++◌, [], ◌+◌, ◌-◌, ℕ, List, nat_eq, nat_lt, Bool, true, false}
-use Rattle.std.specs.Prelude.{if◌then◌else◌, Option, Some, None}
-use Rattle.std.specs.Prelude.{unwrap_or}
-use Rattle.std.specs.List.{starts_with}
-use Rattle.std.specs.Ordering.{is_le}
-use Rattle.std.proofs.Common.{refl, sym, ◌∙◌, ap}
-use Rattle.std.proofs.lemmas.Bool.{false≢true, false_from_ne_true}
-use Rattle.broker_types.specs.Text.{Text, text_cmp, same}
-use Rattle.broker_types.specs.TextLaws.{same_true}
-use Rattle.broker_types.specs.Secret.{Version}
-use Rattle.broker_types.specs.Broker.{Mount}
-use Rattle.records.specs.declared.kind.Kind.{Kind}
+use Rattle.std.proofs.Common.{◌≡◌, ◌==◌, ◌&&◌, ◌∷◌, ◌++◌, ◌+◌, ◌-◌, if◌then◌else◌, [], ℕ, List, nat_eq, nat_lt, Bool}
+use Rattle.records.specs.Words.{true, false, Option, Some, None, unwrap_or, starts_with, is_le, refl, sym, ◌∙◌, ap}
+use Rattle.records.specs.Words.{false≢true, false_from_ne_true, Text, text_cmp, same, same_true, Version, Mount}
+use Rattle.records.specs.Words.{kind_number, KeyEntry, of_secrets, KeepsOthers, version_row, key_entry_row, mount_row}
+use Rattle.records.specs.Words.{version_key, line_feed, eqb_self, Table, with_row, is_at}
+use Rattle.kv2.specs.Words.{Kind, AreChanged, KeepsOtherNames, KeepsOtherMounts, is_key_of, versions_prefix}
+use Rattle.kv2.specs.Words.{rows_with_version, without_key, without_names, rows_with_settings, without_upto, new_entry}
+use Rattle.kv2.specs.Words.{next_entry, described_entry, with_description, Settings, new_version}
 use Rattle.records.specs.declared.kind.Kind.TheVariants as kind
-use Rattle.records.specs.Kind.{kind_number}
-use Rattle.records.specs.KeyEntry.{KeyEntry}
-use Rattle.records.specs.Parts.{of_secrets, KeepsOthers}
-use Rattle.records.specs.RowForms.{version_row, key_entry_row, mount_row}
-use Rattle.records.specs.Rows.{version_key}
-use Rattle.records.specs.Splits.{line_feed}
-use Rattle.records.specs.SplitLaws.{eqb_self}
-use Rattle.records.specs.Table.{Table, with_row, is_at}
-use Rattle.kv2.specs.SecretRows.{AreChanged, KeepsOtherNames, KeepsOtherMounts, is_key_of, versions_prefix}
-use Rattle.kv2.specs.SecretRows.{rows_with_version, without_key, without_names}
-use Rattle.kv2.specs.SecretRows.{rows_with_settings, without_upto, new_entry, next_entry, described_entry}
-use Rattle.kv2.specs.SecretRows.{with_description}
-use Rattle.kv2.specs.Versions.{Settings, new_version}
 use Rattle.kv2.proofs.Changed.{key_is_among}
 
 -- the keys of a name's versions begin with the name

@@ -1,16 +1,8 @@
 -- Tables by kinds: what tells secrets, and what tells mounts.
-use Rattle.std.specs.Prelude.{◌≡◌, option_map}
-use Rattle.std.proofs.Common.{sym, ◌∙◌}
-use Rattle.std.proofs.lemmas.Bool.{false≢true}
-use Rattle.broker_types.specs.Text.{Text}
-use Rattle.broker_types.specs.Map.{get}
-use Rattle.broker_types.specs.Broker.{Broker}
+use Rattle.std.proofs.Common.{◌≡◌, option_map, sym, ◌∙◌}
+use Rattle.records.specs.Words.{false≢true, Text, get, Broker, of_secrets, of_mounts, Tells, key_row, mount_row}
+use Rattle.records.specs.Words.{version_at, Table, mount_rows}
 use Rattle.records.specs.declared.kind.Kind.TheVariants as kind
-use Rattle.records.specs.Parts.{of_secrets, of_mounts, Tells}
-use Rattle.records.specs.RowForms.{key_row, mount_row}
-use Rattle.records.specs.Rows.{version_at}
-use Rattle.records.specs.Table.{Table}
-use Rattle.records.specs.PartLaws.{mount_rows}
 use Rattle.kv2.proofs.SecretsTold.{key_rows, version_rows}
 use Rattle.kv2.proofs.VersionRows.{at_parts}
 

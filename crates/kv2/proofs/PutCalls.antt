@@ -1,18 +1,10 @@
 -- The current version, from what the calls say.
-use Rattle.std.specs.Prelude.{◌≡◌, ℕ}
+use Rattle.std.proofs.Common.{◌≡◌, ℕ, ◌∙◌, ap}
 use Rattle.std.specs.FinMap as map
-use Rattle.std.proofs.Common.{◌∙◌, ap}
-use Rattle.broker_types.specs.Text.{Text}
+use Rattle.records.specs.Words.{Text, KeyEntry, version_row, key_entry_row, version_key, Table, table_of, with_row}
+use Rattle.records.specs.Words.{table_of-insert, Rows}
 use Rattle.records.specs.declared.kind.Kind.TheVariants as kind
-use Rattle.records.specs.declared.row.Row.{Row}
-use Rattle.records.specs.KeyEntry.{KeyEntry}
-use Rattle.records.specs.RowForms.{version_row, key_entry_row}
-use Rattle.records.specs.Rows.{version_key}
-use Rattle.records.specs.Table.{Table, table_of, with_row}
-use Rattle.records.specs.TableLaws.{table_of-insert}
-use Rattle.records.specs.Transaction.{Rows}
-use Rattle.kv2.specs.SecretRows.{pruned, with_current}
-use Rattle.kv2.specs.Versions.{new_version}
+use Rattle.kv2.specs.Words.{Row, pruned, with_current, new_version}
 
 pub put_by_calls : (r0 r1 r2 : Rows) (new : Table) (name place object : Text) (e : KeyEntry) (limit number : ℕ)
     (vrow krow : Row)

@@ -1,19 +1,9 @@
 -- A read, from what its calls say.
-use Rattle.std.specs.Prelude.{◌≡◌, ◌<◌, ◌^◌, ℕ, Option, Some, None, option_map, option_and_then}
+use Rattle.std.proofs.Common.{◌≡◌, ◌<◌, ◌^◌, ℕ, Option, Some, None, option_map, option_and_then, sym, ◌∙◌, ap, subst}
 use Rattle.std.specs.FinMap as fin
-use Rattle.std.proofs.Common.{sym, ◌∙◌, ap, subst}
-use Rattle.broker_types.specs.Text.{Text}
-use Rattle.broker_types.specs.Map.{get, entries}
-use Rattle.broker_types.specs.OptionLaws.{mapped, mapped_none}
-use Rattle.broker_types.specs.Secret.{Key, Version}
-use Rattle.broker_types.specs.Broker.{Broker}
-use Rattle.broker_types.specs.Sound.{Forms, SoundSecrets}
-use Rattle.records.specs.KeyEntry.{KeyEntry, key_entry}
-use Rattle.records.specs.Parts.{of_secrets, Tells}
-use Rattle.records.specs.Table.{Table}
-use Rattle.kv2.specs.SecretRows.{HasKey, HasVersion}
-use Rattle.kv2.specs.Secrets.{secret_name, read}
-use Rattle.kv2.specs.Versions.{Found, version_of, asked_number, numbered}
+use Rattle.records.specs.Words.{Text, get, entries, mapped, mapped_none, Key, Version, Broker, Forms, SoundSecrets}
+use Rattle.records.specs.Words.{KeyEntry, key_entry, of_secrets, Tells, Table}
+use Rattle.kv2.specs.Words.{HasKey, HasVersion, secret_name, read, Found, version_of, asked_number, numbered}
 use Rattle.kv2.proofs.Digits.{KeyLaws}
 use Rattle.kv2.proofs.SecretsTold.{has_key, has_version}
 

@@ -1,20 +1,10 @@
 -- To take out what is listed under a prefix up to another key, one row after another.
-use Rattle.std.specs.Prelude.{◌≡◌, ◌&&◌, nat_eq, Bool, true, false, cond, if◌then◌else◌, Option, Some}
-use Rattle.std.specs.Prelude.{None, filter}
-use Rattle.std.specs.Ordering.{is_le}
-use Rattle.std.specs.FinMap.{get, entries, get-entries}
-use Rattle.std.specs.FinMap.Entries.{find-where_key}
-use Rattle.std.specs.List.{starts_with}
-use Rattle.std.proofs.Common.{refl, sym, ◌∙◌, ap}
-use Rattle.broker_types.specs.Text.{Text, text_cmp}
-use Rattle.records.specs.declared.kind.Kind.{Kind}
-use Rattle.records.specs.declared.row.Row.{Row}
-use Rattle.records.specs.Kind.{RowKey, key_cmp, is_of_kind}
-use Rattle.records.specs.Transaction.{Rows, rows_upto}
-use Rattle.records.specs.Table.{table_of}
-use Rattle.records.specs.KeyLaws.{key_cmp_exact}
-use Rattle.records.specs.UnderLaws.{without_listed, unless, get-without_listed}
-use Rattle.kv2.specs.SecretRows.{without_upto}
+use Rattle.std.proofs.Common.{◌≡◌, ◌&&◌, if◌then◌else◌, nat_eq, Bool, true, false, cond, Option, Some, None, filter, ap}
+use Rattle.records.specs.Words.{is_le, get, entries, get-entries, find-where_key, starts_with, refl, sym, ◌∙◌, Text}
+use Rattle.records.specs.Words.{text_cmp, RowKey, key_cmp, is_of_kind, Rows, rows_upto, table_of, key_cmp_exact}
+use Rattle.records.specs.Words.{without_listed}
+use Rattle.kv2.specs.Words.{Kind, Row, without_upto}
+use Rattle.records.specs.UnderLaws.{unless, get-without_listed}
 
 taken : (a b : Bool) (o : Option Row) → unless (cond b (cond a o None) None) o ≡ (if a && b then None else o)
 taken true true None = refl

@@ -1,17 +1,8 @@
 -- Names of secrets.
-use Rattle.std.specs.Prelude.{◌≡◌, ◌<◌, ◌==◌, ◌&&◌, ◌∷◌, [], not, true}
-use Rattle.std.proofs.Common.{refl, sym, ◌∙◌, lit<}
-use Rattle.std.proofs.lemmas.Bool.{and_parts}
-use Rattle.std.proofs.lemmas.List.Elements.{All-cons, All-nil}
-use Rattle.std.proofs.lemmas.List.Folds.{list_all-append}
-use Rattle.std.proofs.lemmas.Str.{IsUtf8-from_ascii}
-use Rattle.std.proofs.lemmas.Str.Ascii.{IsAscii-from_all}
-use Rattle.broker_types.specs.Text.{Text}
-use Rattle.broker_types.specs.Name.{is_mount_name}
-use Rattle.broker_types.specs.Sound.{IsPathText}
-use Rattle.records.specs.Splits.{slash, line_feed, lacks}
-use Rattle.kv2.specs.Secrets.{secret_name}
-use Rattle.kv2.specs.SoundLaws.{is_secret_name}
+use Rattle.std.proofs.Common.{◌≡◌, ◌<◌, ◌==◌, ◌&&◌, ◌∷◌, [], not, true, refl, sym, ◌∙◌, lit<}
+use Rattle.records.specs.Words.{and_parts, All-cons, All-nil, list_all-append, IsUtf8-from_ascii, IsAscii-from_all}
+use Rattle.records.specs.Words.{Text, is_mount_name, IsPathText, slash, line_feed, lacks}
+use Rattle.kv2.specs.Words.{secret_name, is_secret_name}
 use Rattle.kv2.proofs.Digits.{KeyLaws, name_lacks}
 
 a_path : IsPathText (97 ∷ [])

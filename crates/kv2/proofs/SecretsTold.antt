@@ -1,29 +1,13 @@
 -- What the rows of a sound broker's secrets and mounts say.
-use Rattle.std.specs.Prelude.{◌≡◌, ◌≤◌, ◌<◌, ◌^◌, ℕ, Option, Some, None, is_some, option_map, option_and_then}
+use Rattle.std.proofs.Common.{◌≡◌, ◌≤◌, ◌<◌, ◌^◌, ℕ, Option, Some, None, is_some, option_map, option_and_then, refl, ap}
 use Rattle.std.specs.FinMap as fin
-use Rattle.std.proofs.Common.{refl, sym, ◌∙◌, ap, subst, arith, inl, inr}
-use Rattle.std.proofs.lemmas.Bool.{cases_lt}
-use Rattle.std.proofs.lemmas.Option.{none-some}
-use Rattle.broker_types.specs.Text.{Text}
-use Rattle.broker_types.specs.Limits.{greatest_version}
-use Rattle.broker_types.specs.Map.{Map, get}
-use Rattle.broker_types.specs.OptionLaws.{mapped}
-use Rattle.broker_types.specs.Secret.{Key, Version}
-use Rattle.broker_types.specs.Broker.{Broker}
-use Rattle.broker_types.specs.Sound.{Forms, SoundSecrets, SoundMounts, IsSecretName}
+use Rattle.records.specs.Words.{sym, ◌∙◌, subst, arith, inl, inr, cases_lt, none-some, Text, greatest_version, Map, get}
+use Rattle.records.specs.Words.{mapped, Key, Version, Broker, Forms, SoundSecrets, SoundMounts, IsSecretName, key_entry}
+use Rattle.records.specs.Words.{of_secrets, of_mounts, Tells, key_in_range, version_in_range, IsKeyInRange, key_row}
+use Rattle.records.specs.Words.{key_entry_row, version_row, rows_of, padded, version_row_of, version_at, version_key}
+use Rattle.records.specs.Words.{line_feed, split_once, Table, none_of, mount_rows}
 use Rattle.records.specs.declared.kind.Kind.TheVariants as kind
-use Rattle.records.specs.KeyEntry.{key_entry}
-use Rattle.records.specs.Parts.{of_secrets, of_mounts, Tells}
-use Rattle.records.specs.RangeLaws.{key_in_range, version_in_range}
-use Rattle.records.specs.Ranges.{IsKeyInRange}
-use Rattle.records.specs.RowForms.{key_row, key_entry_row, version_row}
-use Rattle.records.specs.Rows.{rows_of, padded, version_row_of, version_at, version_key}
-use Rattle.records.specs.Splits.{line_feed, split_once}
-use Rattle.records.specs.Table.{Table}
-use Rattle.records.specs.ValueLaws.{none_of}
-use Rattle.records.specs.PartLaws.{mount_rows}
-use Rattle.kv2.specs.SecretRows.{HasKey, HasVersion, HasMount}
-use Rattle.kv2.specs.Versions.{version_of}
+use Rattle.kv2.specs.Words.{HasKey, HasVersion, HasMount, version_of}
 use Rattle.kv2.proofs.Digits.{KeyLaws, untold}
 
 -- ---- the rows of a broker, kind by kind

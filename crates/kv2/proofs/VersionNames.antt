@@ -1,11 +1,6 @@
 -- Keys of versions: a name, a line feed and twenty digits.
-use Rattle.std.specs.Prelude.{◌≡◌, ◌==◌, ◌&&◌, ℕ, [], ◌∷◌, ◌++◌, nat_eq, Bool, true, false, bytes_eq}
-use Rattle.std.specs.List.{starts_with}
-use Rattle.std.proofs.Common.{refl, ◌∙◌, ap, arith}
-use Rattle.std.proofs.lemmas.Bool.{and_parts, not-true}
-use Rattle.broker_types.specs.Text.{Text, same}
-use Rattle.records.specs.Splits.{lacks}
-use Rattle.records.specs.SplitLaws.{eqb_self}
+use Rattle.std.proofs.Common.{◌≡◌, ◌==◌, ◌&&◌, ◌∷◌, ◌++◌, ℕ, [], nat_eq, Bool, true, false, bytes_eq, refl, ◌∙◌, ap}
+use Rattle.records.specs.Words.{starts_with, arith, and_parts, not-true, Text, same, lacks, eqb_self}
 
 -- ---- prefixes
 

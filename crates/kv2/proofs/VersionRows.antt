@@ -1,17 +1,9 @@
 -- Rows of versions by the two parts of their keys: edits of a table as edits at these parts.
-use Rattle.std.specs.Prelude.{◌≡◌, ◌&&◌, ◌∷◌, [], ◌++◌, nat_eq, Bool, true, false, if◌then◌else◌, Option, Some, None}
-use Rattle.std.specs.Prelude.{option_and_then}
-use Rattle.std.specs.Ordering.{is_le}
-use Rattle.std.specs.List.{starts_with}
-use Rattle.std.proofs.Common.{refl, sym, ◌∙◌, ap}
-use Rattle.broker_types.specs.Text.{Text, text_cmp, same}
-use Rattle.broker_types.specs.TextLaws.{same_true}
-use Rattle.records.specs.declared.row.Row.{Row}
-use Rattle.std.proofs.lemmas.Bool.{false_from_ne_true}
-use Rattle.std.proofs.lemmas.Option.{none-some}
-use Rattle.records.specs.Splits.{split_once, line_feed, lacks}
-use Rattle.records.specs.SplitLaws.{split-lacking, lacking_split}
-use Rattle.records.specs.PrefixLaws.{after_prefix}
+use Rattle.std.proofs.Common.{◌≡◌, ◌&&◌, ◌∷◌, ◌++◌, if◌then◌else◌, [], nat_eq, Bool, true, false, Option, Some, None}
+use Rattle.records.specs.Words.{option_and_then, is_le, starts_with, refl, sym, ◌∙◌, ap, Text, text_cmp, same}
+use Rattle.records.specs.Words.{same_true, false_from_ne_true, none-some, split_once, line_feed, lacks, split-lacking}
+use Rattle.records.specs.Words.{lacking_split, after_prefix}
+use Rattle.kv2.specs.Words.{Row}
 use Rattle.kv2.proofs.VersionNames.{starts-name, starts-front, same-parts}
 
 -- rows by a name and digits

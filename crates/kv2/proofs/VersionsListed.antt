@@ -1,41 +1,20 @@
 -- The rows of a secret's versions, as they are listed.
-use Rattle.std.specs.Prelude.{◌≡◌, ◌≤◌, ◌==◌, ◌&&◌, ◌∷◌, [], ◌++◌, ℕ, List, map, All, nat_eq, Bool, true, false, cond}
-use Rattle.std.specs.Prelude.{if◌then◌else◌, Option, Some, None}
-use Rattle.std.specs.Prelude.{option_map, option_and_then, T}
-use Rattle.std.specs.Ordering.{nat_cmp, is_lt, eq_by_cmp}
-use Rattle.std.specs.Cmp.Lexicographic.{nat_list_cmp_total}
+use Rattle.std.proofs.Common.{◌≡◌, ◌≤◌, ◌==◌, ◌&&◌, ◌∷◌, ◌++◌, if◌then◌else◌, [], ℕ, List, map, All, nat_eq, Bool, true}
+use Rattle.records.specs.Words.{false, cond, Option, Some, None, option_map, option_and_then, T, nat_cmp, is_lt}
+use Rattle.records.specs.Words.{eq_by_cmp, nat_list_cmp_total, slice_cmp-IsAntisymmetric, nat_cmp-IsAntisymmetric}
+use Rattle.records.specs.Words.{is_sorted, same_entries, below_all, starts_with, refl, sym, ◌∙◌, ap, subst, arith}
+use Rattle.records.specs.Words.{eqb-true, false_from_ne_true, false≢true, All-nil, All-cons, All-head, All-tail}
+use Rattle.records.specs.Words.{none-some, Text, text_cmp, same, same_true, same_self, same-text_cmp, greatest_version}
+use Rattle.records.specs.Words.{get, Key, Version, Broker, Forms, SoundSecrets, listed-sorted, find-listed, of_secrets}
+use Rattle.records.specs.Words.{Tells, version_in_range, version_row, padded, version_of_digits, version_row_of}
+use Rattle.records.specs.Words.{version_at, version_key, eqb_self, split-lacking, line_feed, split_once, lacks}
+use Rattle.records.specs.Words.{table_of, Rows, after_prefix}
 use Rattle.std.specs.FinMap as fin
-use Rattle.std.specs.FinMap.{slice_cmp-IsAntisymmetric, nat_cmp-IsAntisymmetric, is_sorted}
-use Rattle.std.specs.FinMap.Entries.{same_entries, below_all}
-use Rattle.std.specs.List.{starts_with}
-use Rattle.std.proofs.Common.{refl, sym, ◌∙◌, ap, subst, arith}
-use Rattle.std.proofs.lemmas.Bool.{eqb-true, false_from_ne_true, false≢true}
-use Rattle.std.proofs.lemmas.List.Elements.{All-nil, All-cons, All-head, All-tail}
-use Rattle.std.proofs.lemmas.Option.{none-some}
-use Rattle.broker_types.specs.Text.{Text, text_cmp, same}
-use Rattle.broker_types.specs.TextLaws.{same_true, same_self, same-text_cmp}
-use Rattle.broker_types.specs.Limits.{greatest_version}
-use Rattle.broker_types.specs.Map.{get}
-use Rattle.broker_types.specs.Secret.{Key, Version}
-use Rattle.broker_types.specs.Broker.{Broker}
-use Rattle.broker_types.specs.Sound.{Forms, SoundSecrets}
 use Rattle.broker_types.specs.TestLaws.{less_apart, T_left, T_right}
 use Rattle.records.specs.declared.kind.Kind.TheVariants as kind
-use Rattle.records.specs.declared.row.Row.{Row}
-use Rattle.records.specs.ListedMapLaws.{listed-sorted, find-listed}
-use Rattle.records.specs.Parts.{of_secrets, Tells}
-use Rattle.records.specs.RangeLaws.{version_in_range}
-use Rattle.records.specs.RowForms.{version_row}
-use Rattle.records.specs.Rows.{padded, version_of_digits, version_row_of, version_at, version_key}
-use Rattle.records.specs.SplitLaws.{eqb_self, split-lacking}
-use Rattle.records.specs.Splits.{line_feed, split_once, lacks}
-use Rattle.records.specs.Table.{table_of}
-use Rattle.records.specs.Transaction.{Rows}
+use Rattle.kv2.specs.Words.{Row, IsNumbered, AreVersions, version_entry, versions_prefix, Versions}
 use Rattle.records.specs.TableLaws.{eq-nat_cmp}
 use Rattle.records.specs.DigitLaws.{wide}
-use Rattle.records.specs.PrefixLaws.{after_prefix}
-use Rattle.kv2.specs.SecretRows.{IsNumbered, AreVersions, version_entry, versions_prefix}
-use Rattle.kv2.specs.Versions.{Versions}
 use Rattle.kv2.proofs.Digits.{KeyLaws, name_lacks, same_digits}
 use Rattle.kv2.proofs.SecretsTold.{version_rows}
 use Rattle.kv2.proofs.VersionNames.{starts-name, same-parts}

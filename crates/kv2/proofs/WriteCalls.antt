@@ -1,27 +1,14 @@
 -- A write: what its calls say of the rows, and what the rows say of the broker.
-use Rattle.std.specs.Prelude.{◌≡◌, ◌+◌, ◌||◌, ℕ, Option, Some, None, option_map, unwrap_or, Result, Ok, Err, ⊤}
-use Rattle.std.proofs.Common.{refl, sym, ◌∙◌, ap, subst, arith}
-use Rattle.broker_types.specs.Text.{Text}
-use Rattle.broker_types.specs.Map.{get}
-use Rattle.broker_types.specs.MapLaws.{entries-empty}
-use Rattle.broker_types.specs.Refuse.{◌>>=◌, some_or}
-use Rattle.broker_types.specs.RequestError.{Ends, EndsOk}
-use Rattle.broker_types.specs.Secret.{Key}
-use Rattle.broker_types.specs.Broker.{Broker, Mount}
-use Rattle.broker_types.specs.Sound.{Forms, SoundSecrets, SoundMounts, IsPathText, IsSecretName}
-use Rattle.broker_types.specs.declared.refusal.Refusal.{Refusal}
+use Rattle.std.proofs.Common.{◌≡◌, ◌+◌, ◌||◌, ℕ, Option, Some, None, option_map, unwrap_or, Result, Ok, Err, refl, sym}
+use Rattle.records.specs.Words.{⊤, ◌∙◌, ap, subst, arith, Text, get, entries-empty, ◌>>=◌, some_or, Ends, EndsOk, Key}
+use Rattle.records.specs.Words.{Broker, Mount, Forms, SoundSecrets, SoundMounts, IsPathText, IsSecretName, Refusal}
+use Rattle.records.specs.Words.{RequestError, Refused, KeyEntry, key_entry, of_secrets, Tells, Table, none_of}
 use Rattle.broker_types.specs.declared.refusal.Refusal.TheVariants as refusal
-use Rattle.broker_types.specs.declared.request_error.RequestError.{RequestError}
-use Rattle.broker_types.specs.declared.request_error.RequestError.TheVariants.{Refused, Fault as Given}
-use Rattle.records.specs.KeyEntry.{KeyEntry, key_entry}
-use Rattle.records.specs.Parts.{of_secrets, Tells}
-use Rattle.records.specs.Table.{Table}
-use Rattle.records.specs.ValueLaws.{none_of}
+use Rattle.broker_types.specs.declared.request_error.RequestError.TheVariants.{Fault as Given}
 use Rattle.kv2.specs.SecretRows as rows
-use Rattle.kv2.specs.SecretRows.{WrittenRows, new_entry, next_entry, rows_with_version}
-use Rattle.kv2.specs.Secrets.{Written, secret_name, write, write_over, written}
-use Rattle.kv2.specs.SoundLaws.{room, is_secret_name}
-use Rattle.kv2.specs.Versions.{WriteAnswer, version_of, key_or_new, checked, or_if_zero, versions_kept}
+use Rattle.kv2.specs.Words.{WrittenRows, new_entry, next_entry, rows_with_version, Written, secret_name, write}
+use Rattle.kv2.specs.Words.{write_over, written, room, is_secret_name, WriteAnswer, version_of, key_or_new, checked}
+use Rattle.kv2.specs.Words.{or_if_zero, versions_kept}
 use Rattle.kv2.proofs.Digits.{KeyLaws, name_lacks}
 use Rattle.kv2.proofs.Writes.{written_told}
 

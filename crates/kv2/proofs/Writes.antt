@@ -1,33 +1,15 @@
 -- A write: its rows are those of the next broker.
-use Rattle.std.specs.Prelude.{◌≡◌, ◌≤◌, ◌+◌, ◌-◌, ◌==◌, ◌&&◌, ℕ, suc, zero, nat_lt, not, nat_eq, Bool, true, false}
-use Rattle.std.specs.Prelude.{cond, if◌then◌else◌, Option}
-use Rattle.std.specs.Prelude.{Some, None, option_map}
-use Rattle.std.specs.Ordering.{is_le}
-use Rattle.std.specs.List.{starts_with}
-use Rattle.std.proofs.Common.{refl, sym, ◌∙◌, ap, arith}
-use Rattle.std.proofs.lemmas.Bool.{false_from_ne_true}
-use Rattle.std.proofs.lemmas.Option.{none-some}
-use Rattle.broker_types.specs.Text.{Text, text_cmp, same}
-use Rattle.broker_types.specs.TextLaws.{same_true}
-use Rattle.broker_types.specs.Limits.{greatest_version}
-use Rattle.broker_types.specs.Map.{Map, get, put}
-use Rattle.broker_types.specs.MapLaws.{get-put}
-use Rattle.broker_types.specs.Secret.{Key, Version}
-use Rattle.broker_types.specs.Broker.{Broker, Mount}
+use Rattle.std.proofs.Common.{◌≡◌, ◌≤◌, ◌+◌, ◌-◌, ◌==◌, ◌&&◌, if◌then◌else◌, ℕ, suc, zero, nat_lt, not, nat_eq, Bool}
+use Rattle.records.specs.Words.{true, false, cond, Option, Some, None, option_map, is_le, starts_with, refl, sym, ◌∙◌}
+use Rattle.records.specs.Words.{ap, arith, false_from_ne_true, none-some, Text, text_cmp, same, same_true}
+use Rattle.records.specs.Words.{greatest_version, Map, get, put, get-put, Key, Version, Broker, Mount, key_entry}
+use Rattle.records.specs.Words.{of_secrets, Tells, key_row, key_entry_row, version_row, padded, version_of_digits}
+use Rattle.records.specs.Words.{version_row_of, version_at, version_key, line_feed, lacks, Table, with_row}
 use Rattle.records.specs.declared.kind.Kind.TheVariants as kind
-use Rattle.records.specs.declared.row.Row.{Row}
-use Rattle.records.specs.KeyEntry.{key_entry}
-use Rattle.records.specs.Parts.{of_secrets, Tells}
-use Rattle.records.specs.RowForms.{key_row, key_entry_row, version_row}
-use Rattle.records.specs.Rows.{padded, version_of_digits, version_row_of, version_at, version_key}
-use Rattle.records.specs.Splits.{line_feed, lacks}
-use Rattle.records.specs.Table.{Table, with_row}
+use Rattle.kv2.specs.Words.{Row, versions_prefix, next_entry, without_upto, written, next_versions, version_of}
+use Rattle.kv2.specs.Words.{new_version, with_version, versions_kept, key_or_new}
 use Rattle.records.specs.DigitLaws.{wide}
 use Rattle.kv2.specs.SecretRows as rows
-use Rattle.kv2.specs.SecretRows.{versions_prefix, next_entry, without_upto}
-use Rattle.kv2.specs.Secrets.{written}
-use Rattle.kv2.specs.VersionLaws.{next_versions}
-use Rattle.kv2.specs.Versions.{version_of, new_version, with_version, versions_kept, key_or_new}
 use Rattle.kv2.proofs.Digits.{KeyLaws, same_digits, upto_digits}
 use Rattle.kv2.proofs.SecretsTold.{key_rows, version_rows, version_row_of-some}
 use Rattle.kv2.proofs.Parts.{secrets_by}

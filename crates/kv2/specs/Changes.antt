@@ -1,15 +1,7 @@
 -- Changes of versions, as the code names them, and what the calls leave that make them.
-use Rattle.std.specs.Prelude.{ℕ, List, ⊤, Result, OnOk, IfErr}
-use Rattle.broker_types.specs.Text.{Text}
-use Rattle.broker_types.specs.Broker.{Broker}
-use Rattle.broker_types.specs.Fault.{IsMemoryOrStorage, IsNotBadStart}
-use Rattle.broker_types.specs.declared.fault.Fault.{Fault}
-use Rattle.broker_types.specs.Secret.{Version}
-use Rattle.broker_types.specs.Sound.{Forms, SoundSecrets, IsMoment, IsSecretName}
-use Rattle.records.specs.Calls.{IsCall}
-use Rattle.records.specs.Parts.{of_secrets, Tells}
-use Rattle.records.specs.Table.{table}
-use Rattle.records.specs.Transaction.{Seen, IsHonest}
+use Rattle.records.specs.Words.{ℕ, List, ⊤, Result, OnOk, IfErr, Text, Broker, IsMemoryOrStorage, IsNotBadStart, Fault}
+use Rattle.records.specs.Words.{Version, Forms, SoundSecrets, IsMoment, IsSecretName, IsCall, of_secrets, Tells, table}
+use Rattle.records.specs.Words.{Seen, IsHonest}
 use Rattle.kv2.specs.declared.changing.Change.{Change}
 use Rattle.kv2.specs.declared.changing.Change.TheVariants as done
 use Rattle.kv2.specs.SecretRows.{AreChanged, AreReadableVersions}

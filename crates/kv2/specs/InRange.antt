@@ -1,9 +1,7 @@
 -- What is told of a secret in the range of its rows: its times are moments (this project's row format). And which
 -- settings a secret of a sound broker can be given.
 use Rattle.std.specs.Prelude.{◌≤◌, List, All, length}
-use Rattle.broker_types.specs.Limits.{most_custom_metadata}
-use Rattle.broker_types.specs.Sound.{IsCustomPair, IsMoment}
-use Rattle.records.specs.RowReaders.{IsSomeIn, IsWide}
+use Rattle.records.specs.Words.{most_custom_metadata, IsCustomPair, IsMoment, IsSomeIn, IsWide}
 use Rattle.kv2.specs.Metadata.{Metadata}
 use Rattle.kv2.specs.Versions.{Settings}
 use Rattle.kv2.specs.declared.secret_metadata.VersionMetadata.{VersionMetadata}

@@ -1,15 +1,9 @@
 -- Laws of versioned secrets, as statements (this project's; Vault's documentation, "KV secrets engine - version 2").
-use Rattle.std.specs.Prelude.{◌≡◌, ◌≢◌, ◌<◌, ◌≤◌, ◌+◌, ◌^◌, ℕ, nat_eq, List, [], map, Bool, true, false, Ok}
-use Rattle.std.specs.Prelude.{Option, Some, None}
-use Rattle.std.specs.List.{starts_with}
+use Rattle.std.specs.Prelude.{◌≡◌, ◌≢◌, ◌<◌, ◌≤◌, ◌+◌, ◌^◌, ℕ, nat_eq, List, [], map, Bool, true, false, Ok, Option}
+use Rattle.records.specs.Words.{Some, None, starts_with, option_map_or, Text, same, Map, get, entries, Key, Version}
+use Rattle.records.specs.Words.{Broker, Mount, Evolves, Forms, Sound, SoundSecrets, IsPathText, IsObjectText}
+use Rattle.records.specs.Words.{IsSecretName, is_ascending}
 use Rattle.std.specs.FinMap as fin
-use Rattle.std.specs.Option.{option_map_or}
-use Rattle.broker_types.specs.Text.{Text, same}
-use Rattle.broker_types.specs.Map.{Map, get, entries}
-use Rattle.broker_types.specs.Secret.{Key, Version}
-use Rattle.broker_types.specs.Broker.{Broker, Mount}
-use Rattle.broker_types.specs.Evolves.{Evolves}
-use Rattle.broker_types.specs.Sound.{Forms, Sound, SoundSecrets, IsPathText, IsObjectText, IsSecretName, is_ascending}
 use Rattle.kv2.specs.InRange.{AreWithinLimits}
 use Rattle.kv2.specs.Metadata.{metadata_of}
 use Rattle.kv2.specs.Secrets.{Written, secret_name, key_at, write, set_metadata, delete, delete_versions, undelete}

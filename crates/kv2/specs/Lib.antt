@@ -7,3 +7,4 @@ pub mod Secrets
 pub mod SoundLaws
 pub mod VersionLaws
 pub mod Versions
+pub mod Words

@@ -1,10 +1,8 @@
 -- What is told of a secret besides its versions' texts (Vault's documentation, "KV secrets engine - version 2 (API)",
 -- read secret metadata).
-use Rattle.std.specs.Prelude.{ℕ, List, [], ◌∷◌, nat_lt, map, Bool, is_none, if◌then◌else◌}
+use Rattle.std.specs.Prelude.{◌∷◌, if◌then◌else◌, ℕ, List, [], nat_lt, map, Bool, is_none}
 use Rattle.std.specs.FinMap as fin
-use Rattle.broker_types.specs.Secret.{Key, Version}
-use Rattle.broker_types.specs.Text.{Text}
-use Rattle.records.specs.KeyEntry.{KeyEntry, key_entry}
+use Rattle.records.specs.Words.{Key, Version, Text, KeyEntry, key_entry}
 use Rattle.kv2.specs.declared.secret_metadata.VersionMetadata.{VersionMetadata}
 
 -- a version with its number, without its text

@@ -1,32 +1,16 @@
 -- Versioned secrets as rows: a key has one at its name, and each version one at the name, a line feed and twenty digits
 -- (this project's row format).
-use Rattle.std.specs.Prelude.{◌≡◌, ◌<◌, ◌+◌, ◌-◌, ◌^◌, ◌&&◌, ◌||◌, ◌==◌, ◌++◌, ℕ, List, [], ◌∷◌, nat_lt, Bool, true}
-use Rattle.std.specs.Prelude.{false}
-use Rattle.std.specs.Prelude.{◌≢◌, if◌then◌else◌, Option, Some, None, option_map, unwrap_or, Result, Ok}
-use Rattle.std.specs.Prelude.{◌≤◌, map, All}
-use Rattle.std.specs.List.{list_any}
-use Rattle.std.specs.Ordering.{is_le}
-use Rattle.broker_types.specs.Text.{Text, text_cmp, same}
-use Rattle.broker_types.specs.Limits.{greatest_version}
-use Rattle.broker_types.specs.Refuse.{◌>>=◌, some_or}
-use Rattle.broker_types.specs.Secret.{Version}
-use Rattle.broker_types.specs.Broker.{Mount}
-use Rattle.broker_types.specs.declared.refusal.Refusal.{Refusal}
+use Rattle.std.specs.Prelude.{◌≡◌, ◌<◌, ◌+◌, ◌-◌, ◌^◌, ◌&&◌, ◌||◌, ◌==◌, ◌++◌, ◌∷◌, ◌≢◌, if◌then◌else◌, ◌≤◌, ℕ, List}
+use Rattle.records.specs.Words.{[], nat_lt, Bool, true, false, Option, Some, None, option_map, unwrap_or, Result, Ok}
+use Rattle.records.specs.Words.{map, All, list_any, is_le, Text, text_cmp, same, greatest_version, ◌>>=◌, some_or}
+use Rattle.records.specs.Words.{Version, Mount, Refusal, RowKey, kind_number, children, keys_under, KeyEntry, named}
+use Rattle.records.specs.Words.{IsKeyInRange, IsVersionInRange, IsMountInRange, IsRowOf, key_entry_row, version_row}
+use Rattle.records.specs.Words.{mount_row, version_key, line_feed, Rows, rows_under, Table, table_of, with_row}
+use Rattle.records.specs.Words.{without_row, without_under, has_prefix, is_at}
 use Rattle.broker_types.specs.declared.refusal.Refusal.TheVariants as refusal
 use Rattle.records.specs.declared.kind.Kind.{Kind}
 use Rattle.records.specs.declared.kind.Kind.TheVariants as kind
 use Rattle.records.specs.declared.row.Row.{Row}
-use Rattle.records.specs.Kind.{RowKey, kind_number}
-use Rattle.records.specs.Children.{children, keys_under}
-use Rattle.records.specs.KeyEntry.{KeyEntry}
-use Rattle.records.specs.ListedMapLaws.{named}
-use Rattle.records.specs.Ranges.{IsKeyInRange, IsVersionInRange, IsMountInRange}
-use Rattle.records.specs.RowReaders.{IsRowOf}
-use Rattle.records.specs.RowForms.{key_entry_row, version_row, mount_row}
-use Rattle.records.specs.Rows.{version_key}
-use Rattle.records.specs.Splits.{line_feed}
-use Rattle.records.specs.Transaction.{Rows, rows_under}
-use Rattle.records.specs.Table.{Table, table_of, with_row, without_row, without_under, has_prefix, is_at}
 use Rattle.kv2.specs.Metadata.{Metadata, metadata_with}
 use Rattle.kv2.specs.Versions.{Found, Settings, asked_number, numbered, or_if_zero, checked, new_version, is_among}
 

@@ -1,21 +1,13 @@
 -- Versioned secrets of mounts: what each operation does to the maps (Vault's documentation, "KV secrets engine -
 -- version 2 (API)").
-use Rattle.std.specs.Prelude.{ℕ, ◌+◌, ◌||◌, nat_eq, List, [], ◌∷◌, ◌++◌, Bool, not, Option, unwrap_or, option_map}
-use Rattle.std.specs.Prelude.{option_and_then, Result, Ok}
-use Rattle.std.specs.List.{starts_with}
+use Rattle.std.specs.Prelude.{◌+◌, ◌||◌, ◌∷◌, ◌++◌, ℕ, nat_eq, List, [], Bool, not, Option, unwrap_or, option_map, Ok}
+use Rattle.records.specs.Words.{option_and_then, Result, starts_with, Text, get, put, without, keep, keys, entries}
+use Rattle.records.specs.Words.{change, ◌>>=◌, some_or, Key, Version, Broker, Mount, Refusal, folder, children, slash}
 use Rattle.std.specs.FinMap as fin
-use Rattle.broker_types.specs.Text.{Text}
-use Rattle.broker_types.specs.Map.{get, put, without, keep, keys, entries, change}
-use Rattle.broker_types.specs.Refuse.{◌>>=◌, some_or}
-use Rattle.broker_types.specs.Secret.{Key, Version}
-use Rattle.broker_types.specs.Broker.{Broker, Mount}
-use Rattle.broker_types.specs.declared.refusal.Refusal.{Refusal}
 use Rattle.broker_types.specs.declared.refusal.Refusal.TheVariants as refusal
-use Rattle.records.specs.Children.{folder, children}
-use Rattle.records.specs.Splits.{slash}
 use Rattle.kv2.specs.Metadata.{Metadata, metadata_of}
-use Rattle.kv2.specs.Versions.{Found, Settings, asked_number, numbered, versions_kept, checked, key_or_new}
-use Rattle.kv2.specs.Versions.{described, with_version, with_changed, soft_deleted, restored, destroyed}
+use Rattle.kv2.specs.Versions.{Found, Settings, asked_number, numbered, versions_kept, checked, key_or_new, described}
+use Rattle.kv2.specs.Versions.{with_version, with_changed, soft_deleted, restored, destroyed}
 
 -- the name of a secret among those of all mounts
 abbrev pub secret_name : Text → Text → Text

@@ -1,44 +1,24 @@
 -- Operations on secrets leave a sound broker sound, and let it evolve.
-use Rattle.std.specs.Prelude.{◌≡◌, ◌<◌, ◌≤◌, ◌+◌, ◌-◌, ◌==◌, ◌||◌, ◌∷◌, [], ℕ, List, Bool, true, false, cond, nat_lt}
-use Rattle.std.specs.Prelude.{◌^◌, if◌then◌else◌, Option, Some, None, is_none, option_map, unwrap_or, Result, Ok, Err}
-use Rattle.std.specs.Prelude.{⊤, length, All}
-use Rattle.std.specs.Option.{option_map_or}
-use Rattle.std.specs.Ordering.{nat_cmp}
+use Rattle.std.specs.Prelude.{◌≡◌, ◌<◌, ◌≤◌, ◌+◌, ◌-◌, ◌==◌, ◌||◌, ◌∷◌, ◌^◌, if◌then◌else◌, [], ℕ, List, Bool, true, Ok}
+use Rattle.records.specs.Words.{false, cond, nat_lt, Option, Some, None, is_none, option_map, unwrap_or, Result, Err, ⊤}
+use Rattle.records.specs.Words.{length, All, option_map_or, nat_cmp, refl, sym, ◌∙◌, subst, append_assoc, zero-le, lit<}
+use Rattle.records.specs.Words.{le_trans, le_refl, le-add_left, le-add_right, add-one-le, eqb-true, ltb-true, none-some}
+use Rattle.records.specs.Words.{same_Some, Text, text_cmp, same, same_true, greatest_version, most_custom_metadata, Map}
+use Rattle.records.specs.Words.{get, put, without, keep, change, len, get-put, without_is, get-keep, valued_is}
+use Rattle.records.specs.Words.{is_mount_name, ◌>>=◌, some_or, unless, Key, Version, Broker, Mount, Evolves, no_ok}
+use Rattle.records.specs.Words.{sound_with, evolves_with, Forms, Sound, SoundSecrets, IsSoundKey, IsSoundVersion}
+use Rattle.records.specs.Words.{IsSecretName, IsPathText, IsMoment, IsObjectText, IsSoundMount, IsCustomPair, Refusal}
+use Rattle.records.specs.Words.{few_listed, each_listed, IsSomeIn, IsWide, slash, ok_inj}
 use Rattle.std.specs.FinMap as fin
-use Rattle.std.proofs.Common.{refl, sym, ◌∙◌, subst, append_assoc, zero-le, lit<}
-use Rattle.std.proofs.Math.Nat.{le_trans, le_refl, le-add_left, le-add_right}
-use Rattle.std.proofs.Math.Numerals.{add-one-le}
-use Rattle.std.proofs.lemmas.Bool.{eqb-true, ltb-true}
-use Rattle.std.proofs.lemmas.Option.{none-some, same_Some}
-use Rattle.broker_types.specs.Text.{Text, text_cmp, same}
-use Rattle.broker_types.specs.TextLaws.{same_true}
-use Rattle.broker_types.specs.Limits.{greatest_version, most_custom_metadata}
-use Rattle.broker_types.specs.Map.{Map, get, put, without, keep, change, len}
-use Rattle.broker_types.specs.MapLaws.{get-put, without_is, get-keep, valued_is}
-use Rattle.broker_types.specs.Name.{is_mount_name}
-use Rattle.broker_types.specs.Refuse.{◌>>=◌, some_or, unless}
-use Rattle.broker_types.specs.Secret.{Key, Version}
-use Rattle.broker_types.specs.Broker.{Broker, Mount}
-use Rattle.broker_types.specs.Evolves.{Evolves}
-use Rattle.broker_types.specs.RefuseLaws.{no_ok}
-use Rattle.broker_types.specs.FieldLaws.{sound_with, evolves_with}
-use Rattle.broker_types.specs.Sound.{Forms, Sound, SoundSecrets, IsSoundKey, IsSoundVersion, IsSecretName, IsPathText}
-use Rattle.broker_types.specs.Sound.{IsMoment, IsObjectText, IsSoundMount, IsCustomPair}
-use Rattle.broker_types.specs.declared.refusal.Refusal.{Refusal}
 use Rattle.broker_types.specs.declared.refusal.Refusal.TheVariants as refusal
 use Rattle.broker_types.specs.declared.refusal.Reason.TheVariants as reason
 use Rattle.broker_types.specs.declared.refusal.Field.TheVariants as field
-use Rattle.records.specs.EntryMapLaws.{few_listed, each_listed}
-use Rattle.records.specs.RowReaders.{IsSomeIn, IsWide}
-use Rattle.records.specs.Splits.{slash}
-use Rattle.records.specs.ValueLaws.{ok_inj}
 use Rattle.kv2.specs.InRange.{AreWithinLimits}
 use Rattle.kv2.specs.Secrets.{Written, secret_name, with_key, write, write_over, written, delete, delete_versions}
 use Rattle.kv2.specs.Secrets.{undelete, destroy, remove_key, drop_mount, set_config, with_settings, set_metadata}
 use Rattle.kv2.specs.VersionLaws.{get-change_versions, next_versions}
-use Rattle.kv2.specs.Versions.{version_of, new_version, key_or_new, with_version, versions_kept, with_changed}
-use Rattle.kv2.specs.Versions.{is_among, soft_deleted, restored, destroyed, check_and_set, checked}
-use Rattle.kv2.specs.Versions.{Settings, described}
+use Rattle.kv2.specs.Versions.{version_of, new_version, key_or_new, with_version, versions_kept, with_changed, is_among}
+use Rattle.kv2.specs.Versions.{soft_deleted, restored, destroyed, check_and_set, checked, Settings, described}
 
 -- ---- other secrets
 

@@ -1,16 +1,11 @@
 -- Laws of versions by number: what a key has after an edit.
-use Rattle.std.specs.Prelude.{◌≡◌, ◌+◌, ◌-◌, ◌==◌, ◌&&◌, ℕ, List, [], ◌∷◌, nat_lt, Bool, true, false, cond}
-use Rattle.std.specs.Prelude.{if◌then◌else◌, Option, Some, None, option_map, T}
-use Rattle.std.specs.Ordering.{nat_cmp, is_lt, eq_by_cmp}
-use Rattle.std.specs.Cmp.{nat_cmp_total}
+use Rattle.std.specs.Prelude.{◌≡◌, ◌+◌, ◌-◌, ◌==◌, ◌&&◌, ◌∷◌, if◌then◌else◌, ℕ, List, [], nat_lt, Bool, true, false, T}
+use Rattle.records.specs.Words.{cond, Option, Some, None, option_map, nat_cmp, is_lt, eq_by_cmp, nat_cmp_total}
+use Rattle.records.specs.Words.{nat_cmp-IsAntisymmetric, below_all, refl, sym, ◌∙◌, ap, subst, eqb-true, Text, Key}
+use Rattle.records.specs.Words.{Version}
 use Rattle.std.specs.FinMap as fin
-use Rattle.std.specs.FinMap.{nat_cmp-IsAntisymmetric}
-use Rattle.std.specs.FinMap.Entries.{below_all, is_sorted}
-use Rattle.std.proofs.Common.{refl, sym, ◌∙◌, ap, subst}
-use Rattle.std.proofs.lemmas.Bool.{eqb-true}
+use Rattle.std.specs.FinMap.Entries.{is_sorted}
 use Rattle.records.specs.TableLaws.{eq-nat_cmp}
-use Rattle.broker_types.specs.Text.{Text}
-use Rattle.broker_types.specs.Secret.{Key, Version}
 use Rattle.kv2.specs.Versions.{Versions, version_of, kept_under, change_versions, changed_entries, with_version}
 use Rattle.kv2.specs.Versions.{new_version, key_or_new}
 

@@ -1,18 +1,9 @@
 -- One versioned secret (Vault's documentation, "KV secrets engine - version 2").
-use Rattle.std.specs.Prelude.{ℕ, ◌+◌, ◌-◌, ◌==◌, nat_lt, List, map, Bool, true, false, if◌then◌else◌, Option, Some}
-use Rattle.std.specs.Prelude.{None, is_none, unwrap_or, option_and_then, Result, Ok, Err, ⊤}
-use Rattle.std.specs.List.{list_any}
-use Rattle.std.specs.Option.{option_map_or}
-use Rattle.std.specs.Ordering.{nat_cmp}
+use Rattle.std.specs.Prelude.{◌+◌, ◌-◌, ◌==◌, if◌then◌else◌, ℕ, nat_lt, List, map, Bool, true, false, Option, Some, Ok}
+use Rattle.records.specs.Words.{None, is_none, unwrap_or, option_and_then, Result, Err, ⊤, list_any, option_map_or}
+use Rattle.records.specs.Words.{nat_cmp, FinMap, Text, greatest_version, empty, ◌>>=◌, unless, Key, Version, Mount}
+use Rattle.records.specs.Words.{Refusal}
 use Rattle.std.specs.FinMap as fin
-use Rattle.std.specs.FinMap.{FinMap}
-use Rattle.broker_types.specs.Text.{Text}
-use Rattle.broker_types.specs.Limits.{greatest_version}
-use Rattle.broker_types.specs.Map.{empty}
-use Rattle.broker_types.specs.Refuse.{◌>>=◌, unless}
-use Rattle.broker_types.specs.Secret.{Key, Version}
-use Rattle.broker_types.specs.Broker.{Mount}
-use Rattle.broker_types.specs.declared.refusal.Refusal.{Refusal}
 use Rattle.broker_types.specs.declared.refusal.Refusal.TheVariants as refusal
 use Rattle.broker_types.specs.declared.refusal.Reason.TheVariants as reason
 use Rattle.broker_types.specs.declared.refusal.Field.TheVariants as field

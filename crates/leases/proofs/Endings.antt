@@ -1,32 +1,17 @@
 -- Leases that end, from the rows that are taken out to those that are left, and to the broker.
-use Rattle.std.specs.Prelude.{◌≡◌, ◌≢◌, ◌∷◌, [], List, get_or, Contains, Bool, true, false, if◌then◌else◌, Option, Some}
-use Rattle.std.specs.Prelude.{None, option_and_then}
+use Rattle.std.proofs.Common.{◌≡◌, ◌≢◌, ◌∷◌, if◌then◌else◌, [], List, get_or, Contains, Bool, true, false, Option, Some}
+use Rattle.records.specs.Words.{None, option_and_then, AllByRecursion, refl, sym, ◌∙◌, ap, subst, inl, inr, arith}
+use Rattle.records.specs.Words.{false≢true, false_from_ne_true, All-contains, All-contains_itself, All-from_recursion}
+use Rattle.records.specs.Words.{recursion_from_All, none-some, same_Some, Text, same, same_self, same_true}
+use Rattle.records.specs.Words.{found_or_not, Lease, Broker, lease_of, RowKey, of_leases, Tells, KeepsOthers, lease_row}
+use Rattle.records.specs.Words.{credential_row, Table, table_of, is_at, without_row, table_of-remove, Rows}
 use Rattle.std.specs.FinMap as fin
-use Rattle.std.specs.List.{AllByRecursion}
-use Rattle.std.proofs.Common.{refl, sym, ◌∙◌, ap, subst, inl, inr, arith}
-use Rattle.std.proofs.lemmas.Bool.{false≢true, false_from_ne_true}
-use Rattle.std.proofs.lemmas.List.Elements.{All-contains, All-contains_itself, All-from_recursion, recursion_from_All}
-use Rattle.std.proofs.lemmas.Option.{none-some, same_Some}
-use Rattle.broker_types.specs.Text.{Text, same}
-use Rattle.broker_types.specs.TextLaws.{same_self, same_true}
-use Rattle.broker_types.specs.OptionLaws.{found_or_not}
-use Rattle.broker_types.specs.Token.{Lease}
-use Rattle.broker_types.specs.Broker.{Broker}
-use Rattle.broker_types.specs.IdentifierPlaces.{lease_of}
 use Rattle.records.specs.declared.kind.Kind.{Kind}
 use Rattle.records.specs.declared.kind.Kind.TheVariants as kind
-use Rattle.records.specs.declared.row.Row.{Row}
-use Rattle.records.specs.Kind.{RowKey}
-use Rattle.records.specs.Parts.{of_leases, Tells, KeepsOthers}
-use Rattle.records.specs.RowForms.{lease_row, credential_row}
-use Rattle.records.specs.Table.{Table, table_of, is_at, without_row}
-use Rattle.records.specs.TableLaws.{table_of-remove}
-use Rattle.records.specs.Transaction.{Rows}
-use Rattle.leases.specs.Endings.{Ending, is_named, AreReadable, unless_ended, EndsWith, EndsLeases, Leaves}
-use Rattle.leases.specs.LeaseRows.{IsLeaseRow, RepresentsLeases}
-use Rattle.leases.specs.Removed.{RemovesLease, RemovesEach, AreThoseThatEnd}
+use Rattle.leases.specs.Words.{Row, Ending, is_named, AreReadable, unless_ended, EndsWith, EndsLeases, Leaves}
+use Rattle.leases.specs.Words.{IsLeaseRow, RepresentsLeases, RemovesLease, RemovesEach, AreThoseThatEnd, AreLeases}
+use Rattle.leases.specs.Words.{are_leases, leases_tell, one_credential}
 use Rattle.leases.proofs.LeaseBodies.{credential_told}
-use Rattle.leases.specs.TellLaws.{AreLeases, are_leases, leases_tell, one_credential}
 
 -- ---- one lease
 

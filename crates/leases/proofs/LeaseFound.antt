@@ -1,24 +1,12 @@
 -- What the row of a lease says, and what is found.
-use Rattle.std.specs.Prelude.{◌≡◌, is_some, Option, Some, None, option_map, option_and_then}
-use Rattle.std.proofs.Common.{refl, sym, ◌∙◌, ap, subst, inl, inr}
-use Rattle.std.proofs.lemmas.Option.{none-some, same_Some}
-use Rattle.broker_types.specs.Text.{Text}
-use Rattle.broker_types.specs.Map.{get, first_where}
-use Rattle.broker_types.specs.OptionLaws.{found_or_not, mapped, mapped_none}
-use Rattle.broker_types.specs.SearchLaws.{first_where_is}
-use Rattle.broker_types.specs.Token.{Token, Lease}
-use Rattle.broker_types.specs.Broker.{Broker}
-use Rattle.broker_types.specs.IdentifierPlaces.{lease_of}
+use Rattle.std.proofs.Common.{◌≡◌, is_some, Option, Some, None, option_map, option_and_then, refl, sym, ◌∙◌, ap, subst}
+use Rattle.records.specs.Words.{inl, inr, none-some, same_Some, Text, get, first_where, found_or_not, mapped}
+use Rattle.records.specs.Words.{mapped_none, first_where_is, Token, Lease, Broker, lease_of, IsLeaseInRange}
+use Rattle.records.specs.Words.{lease_in_range, lease_row, credential_row, Table}
 use Rattle.records.specs.declared.kind.Kind.TheVariants as kind
-use Rattle.records.specs.declared.row.Row.{Row}
-use Rattle.records.specs.Ranges.{IsLeaseInRange}
-use Rattle.records.specs.RangeLaws.{lease_in_range}
-use Rattle.records.specs.RowForms.{lease_row, credential_row}
-use Rattle.records.specs.Table.{Table}
-use Rattle.leases.specs.LeaseRows.{Held, IsLeaseAt, IsReadableCredential, RepresentsLeases}
-use Rattle.leases.specs.Leases.{find, verify}
-use Rattle.leases.specs.TellLaws.{holds, holds_credential, lease_at, credential_at, lease_rows, credential_rows}
-use Rattle.leases.specs.TellLaws.{lease_in, is_there, are_leases}
+use Rattle.leases.specs.Words.{Row, Held, IsLeaseAt, IsReadableCredential, RepresentsLeases, find, verify, holds}
+use Rattle.leases.specs.Words.{holds_credential, lease_at, credential_at, lease_rows, credential_rows, lease_in}
+use Rattle.leases.specs.Words.{is_there, are_leases}
 
 -- the record of a row that is there
 pub at_is : (rows : Table) (q : Text) (o : Option Held) (r : Row) → IsLeaseAt rows q o → rows kind.Lease q ≡ Some r

@@ -1,28 +1,12 @@
 -- The rows of leases after one is made or renewed.
-use Rattle.std.specs.Prelude.{◌≡◌, ◌≢◌, ◌&&◌, Bool, true, false, cond, if◌then◌else◌, Option, Some, None, option_map}
-use Rattle.std.specs.Prelude.{option_and_then}
-use Rattle.std.proofs.Common.{refl, sym, ◌∙◌, ap}
-use Rattle.std.proofs.lemmas.Bool.{false≢true, and_from, false_from_ne_true}
-use Rattle.std.proofs.lemmas.Option.{same_Some}
-use Rattle.broker_types.specs.Text.{Text, same}
-use Rattle.broker_types.specs.TextLaws.{same_self, same_true}
-use Rattle.broker_types.specs.Map.{get, put, change}
-use Rattle.broker_types.specs.MapLaws.{get-put, get-change}
-use Rattle.broker_types.specs.OptionLaws.{mapped}
-use Rattle.broker_types.specs.Token.{Token, Lease}
-use Rattle.broker_types.specs.Broker.{Broker}
-use Rattle.broker_types.specs.Evolves.{IsNew}
-use Rattle.broker_types.specs.IdentifierPlaces.{lease, credential, lease_of, lease_identifier, AllUsed}
+use Rattle.std.proofs.Common.{◌≡◌, ◌≢◌, ◌&&◌, if◌then◌else◌, Bool, true, false, cond, Option, Some, None, option_map}
+use Rattle.records.specs.Words.{option_and_then, refl, sym, ◌∙◌, ap, false≢true, and_from, false_from_ne_true}
+use Rattle.records.specs.Words.{same_Some, Text, same, same_self, same_true, get, put, change, get-put, get-change}
+use Rattle.records.specs.Words.{mapped, Token, Lease, Broker, IsNew, lease, credential, lease_of, lease_identifier}
+use Rattle.records.specs.Words.{AllUsed, of_leases, Tells, KeepsOthers, lease_row, credential_row, Table, with_row}
 use Rattle.records.specs.declared.kind.Kind.TheVariants as kind
-use Rattle.records.specs.declared.row.Row.{Row}
-use Rattle.records.specs.Parts.{of_leases, Tells, KeepsOthers}
-use Rattle.records.specs.RowForms.{lease_row, credential_row}
-use Rattle.records.specs.Table.{Table, with_row}
-use Rattle.leases.specs.Leases.{edited, issue}
-use Rattle.leases.specs.LeaseRows.{with_issued, RepresentsLeases, KeepsOtherLeases}
-use Rattle.leases.specs.IssuedLaws.{lease_cases}
-use Rattle.leases.specs.SoundLaws.{lease_of-edited}
-use Rattle.leases.specs.TellLaws.{AreLeases, are_leases, leases_tell, one_owner}
+use Rattle.leases.specs.Words.{Row, edited, issue, with_issued, RepresentsLeases, KeepsOtherLeases, lease_cases}
+use Rattle.leases.specs.Words.{lease_of-edited, AreLeases, are_leases, leases_tell, one_owner}
 
 -- ---- a lease made
 

@@ -1,20 +1,10 @@
 -- What is listed of leases: each with its row, and all of them.
-use Rattle.std.specs.Prelude.{◌≡◌, ℕ, List, ◌∷◌, filter, Bool, true, false, cond, get_or, Some}
-use Rattle.std.specs.FinMap.{get, entries}
-use Rattle.std.proofs.Common.{refl, sym, ◌∙◌, ap}
-use Rattle.std.proofs.lemmas.List.Elements.{All-filter, filter_passes}
-use Rattle.broker_types.specs.Text.{Text}
+use Rattle.std.proofs.Common.{◌≡◌, ◌∷◌, ℕ, List, filter, Bool, true, false, cond, get_or, Some, refl, sym, ◌∙◌, ap}
+use Rattle.records.specs.Words.{get, entries, All-filter, filter_passes, Text, due_each, due_whole, AreDue}
+use Rattle.records.specs.Words.{Contains-filter, passing_each, passing_whole, RowKey, is_of_kind, same_kind, Table}
+use Rattle.records.specs.Words.{table_of, Rows}
 use Rattle.records.specs.declared.kind.Kind.TheVariants as kind
-use Rattle.records.specs.declared.row.Row.{Row}
-use Rattle.records.specs.DueLaws.{due_each, due_whole}
-use Rattle.records.specs.DueRows.{AreDue}
-use Rattle.records.specs.EntryLaws.{Contains-filter, passing_each, passing_whole}
-use Rattle.records.specs.Kind.{RowKey, is_of_kind}
-use Rattle.records.specs.KeyLaws.{same_kind}
-use Rattle.records.specs.Table.{Table, table_of}
-use Rattle.records.specs.Transaction.{Rows}
-use Rattle.leases.specs.Endings.{Ending, has_come}
-use Rattle.leases.specs.Removed.{leases_among, AreThoseThatEnd, AreStillDue}
+use Rattle.leases.specs.Words.{Row, Ending, has_come, leases_among, AreThoseThatEnd, AreStillDue}
 
 -- a lease at the head of a list is one of its leases
 pub among_lease : (e : RowKey × Row) (es : List (RowKey × Row)) → is_of_kind kind.Lease e.0 ≡ true

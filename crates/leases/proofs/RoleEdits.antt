@@ -1,17 +1,9 @@
 -- Rows of roles, edited.
-use Rattle.std.specs.Prelude.{◌≡◌, nat_eq, Bool, true, false, not, cond, if◌then◌else◌, Option, Some, None, option_map}
-use Rattle.std.specs.List.{starts_with}
-use Rattle.std.proofs.Common.{refl, sym, ◌∙◌, ap}
-use Rattle.std.proofs.lemmas.Bool.{false≢true}
-use Rattle.broker_types.specs.Text.{Text, same}
-use Rattle.broker_types.specs.Map.{Map, get, put, without, keep}
-use Rattle.broker_types.specs.MapLaws.{get-put, get-without, get-keep}
-use Rattle.broker_types.specs.Broker.{Broker, Role}
+use Rattle.std.proofs.Common.{◌≡◌, if◌then◌else◌, nat_eq, Bool, true, false, not, cond, Option, Some, None, option_map}
+use Rattle.records.specs.Words.{starts_with, refl, sym, ◌∙◌, ap, false≢true, Text, same, Map, get, put, without, keep}
+use Rattle.records.specs.Words.{get-put, get-without, get-keep, Broker, Role, of_roles, Tells, KeepsOthers, role_row}
+use Rattle.records.specs.Words.{rows_of, Table, with_row, without_row, without_under}
 use Rattle.records.specs.declared.kind.Kind.TheVariants as kind
-use Rattle.records.specs.Parts.{of_roles, Tells, KeepsOthers}
-use Rattle.records.specs.RowForms.{role_row}
-use Rattle.records.specs.Rows.{rows_of}
-use Rattle.records.specs.Table.{Table, with_row, without_row, without_under}
 
 role_rows : (b : Broker) (q : Text) → rows_of b kind.Role q ≡ option_map role_row (get b.roles q)
 unfolding rows_of

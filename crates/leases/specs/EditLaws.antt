@@ -1,16 +1,8 @@
 -- The leases that tokens have after an edit, lease by lease.
-use Rattle.std.specs.Prelude.{◌≡◌, ℕ, nat_lt, nat_le, Bool, true, false, not, cond, if◌then◌else◌, Option, Some}
-use Rattle.std.specs.Prelude.{None, option_and_then}
-use Rattle.std.specs.FinMap.{get-empty}
-use Rattle.std.specs.Option.{option_map_or}
-use Rattle.std.proofs.Common.{refl, ◌∙◌, ap}
-use Rattle.std.proofs.lemmas.Bool.{le-ltb, lt-ltb, leb-true, leb-false}
-use Rattle.broker_types.specs.Text.{Text, text_cmp, same}
-use Rattle.broker_types.specs.Map.{Map, get, empty, without, keep}
-use Rattle.broker_types.specs.MapLaws.{get-without, get-keep}
-use Rattle.broker_types.specs.Token.{Token, Lease}
-use Rattle.broker_types.specs.Broker.{Broker}
-use Rattle.records.specs.RowForms.{lease_row}
+use Rattle.std.specs.Prelude.{◌≡◌, if◌then◌else◌, ℕ, nat_lt, nat_le, Bool, true, false, not, cond, Option, Some, None}
+use Rattle.records.specs.Words.{option_and_then, get-empty, option_map_or, refl, ◌∙◌, ap, le-ltb, lt-ltb, leb-true}
+use Rattle.records.specs.Words.{leb-false, Text, text_cmp, same, Map, get, empty, without, keep, get-without, get-keep}
+use Rattle.records.specs.Words.{Token, Lease, Broker, lease_row}
 use Rattle.leases.specs.Leases.{edited, revoke, revoke_under, drop_owner, without_expired, is_under, live}
 use Rattle.leases.specs.SoundLaws.{lease_of-edited}
 use Rattle.leases.specs.Endings as rows

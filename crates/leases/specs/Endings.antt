@@ -1,16 +1,9 @@
 -- What the end of leases makes of rows, whatever these are (this project's definition).
-use Rattle.std.specs.Prelude.{◌≡◌, ◌||◌, ℕ, Bool, true, if◌then◌else◌, List, Option, Some, None, option_and_then}
-use Rattle.broker_types.specs.Text.{Text, same}
-use Rattle.broker_types.specs.Token.{Lease}
-use Rattle.broker_types.specs.Broker.{Broker}
-use Rattle.broker_types.specs.IdentifierPlaces.{lease_of}
+use Rattle.std.specs.Prelude.{◌≡◌, ◌||◌, if◌then◌else◌, ℕ, Bool, true, List, Option, Some, None, option_and_then}
+use Rattle.records.specs.Words.{Text, same, Lease, Broker, lease_of, has, is_due, of_leases, KeepsOthers, lease_row}
+use Rattle.records.specs.Words.{Table}
 use Rattle.records.specs.declared.kind.Kind.TheVariants as kind
 use Rattle.records.specs.declared.row.Row.{Row}
-use Rattle.records.specs.Children.{has}
-use Rattle.records.specs.DueRows.{is_due}
-use Rattle.records.specs.Parts.{of_leases, KeepsOthers}
-use Rattle.records.specs.RowForms.{lease_row}
-use Rattle.records.specs.Table.{Table}
 use Rattle.leases.specs.LeaseRows.{IsLeaseRow}
 use Rattle.leases.specs.Leases as leases
 

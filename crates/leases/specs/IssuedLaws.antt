@@ -1,27 +1,12 @@
 -- A lease made under new identifiers leaves a sound broker sound, and lets it evolve.
-use Rattle.std.specs.Prelude.{◌≡◌, ◌≢◌, ◌≤◌, ◌+◌, ◌-◌, ◌++◌, ◌==◌, ℕ, min, drop, length, codes, true, false}
-use Rattle.std.specs.Prelude.{if◌then◌else◌, Option, Some, None, option_map, option_and_then}
-use Rattle.std.proofs.Common.{arith, refl, sym, ◌∙◌, ap, subst, inl, inr, length-append}
-use Rattle.std.proofs.Math.Nat.{le_refl, le_trans, min-le_left, min-le_right, add-le-add, add-sub_cancel}
-use Rattle.std.proofs.Math.Seq.{drop-append_seam}
-use Rattle.std.proofs.lemmas.Bool.Decides.{nat_tests}
-use Rattle.std.proofs.lemmas.Option.{none-some}
-use Rattle.broker_types.specs.Text.{Text, same}
-use Rattle.broker_types.specs.Limits.{longest_ttl}
-use Rattle.broker_types.specs.Map.{Map, get, put}
-use Rattle.broker_types.specs.Name.{is_name, is_mount_name}
-use Rattle.broker_types.specs.Token.{Token, Lease}
-use Rattle.broker_types.specs.Broker.{Broker, Role}
-use Rattle.broker_types.specs.Evolves.{Evolves, IsNew}
-use Rattle.broker_types.specs.IdentifierLaws.{id-length}
-use Rattle.broker_types.specs.IdentifierPlaces.{token, accessor, lease, credential, wrapping_token, wrapping_accessor}
-use Rattle.broker_types.specs.IdentifierPlaces.{lease_of, token_identifier, lease_identifier}
-use Rattle.broker_types.specs.Sound.{Forms, Sound, IsSoundLease, IsIdentifier, IsMoment}
-use Rattle.broker_types.specs.MapLaws.{valued_is}
-use Rattle.broker_types.specs.NewPlaceLaws.{HasTwoMore, still_marked, sound_with_two}
-use Rattle.broker_types.specs.OptionLaws.{mapped}
-use Rattle.broker_types.specs.PutLaws.{put_is}
-use Rattle.broker_types.specs.TextLaws.{same_true}
+use Rattle.std.proofs.Common.{◌≡◌, ◌≢◌, ◌≤◌, ◌+◌, ◌-◌, ◌++◌, ◌==◌, if◌then◌else◌, ℕ, min, drop, length, codes, true, ap}
+use Rattle.records.specs.Words.{false, Option, Some, None, option_map, option_and_then, arith, refl, sym, ◌∙◌, subst}
+use Rattle.records.specs.Words.{inl, inr, length-append, le_refl, le_trans, min-le_left, min-le_right, add-le-add}
+use Rattle.records.specs.Words.{add-sub_cancel, drop-append_seam, nat_tests, none-some, Text, same, longest_ttl, Map}
+use Rattle.records.specs.Words.{get, put, is_name, is_mount_name, Token, Lease, Broker, Role, Evolves, IsNew, id-length}
+use Rattle.records.specs.Words.{token, accessor, lease, credential, wrapping_token, wrapping_accessor, lease_of}
+use Rattle.records.specs.Words.{token_identifier, lease_identifier, Forms, Sound, IsSoundLease, IsIdentifier, IsMoment}
+use Rattle.records.specs.Words.{valued_is, HasTwoMore, still_marked, sound_with_two, mapped, put_is, same_true}
 use Rattle.leases.specs.Leases.{with_leases, or_if_zero}
 use Rattle.leases.specs.Laws.{issued, MayBeIssued, IsBounded}
 use Rattle.leases.specs.Roles.{lease_id, new_lease, first_ttl, longest}

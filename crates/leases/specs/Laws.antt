@@ -1,23 +1,11 @@
 -- Laws of leases and roles, as statements (this project's; Vault's documentation, "Lease, renew, and revoke").
-use Rattle.std.specs.Prelude.{◌≡◌, ◌≢◌, ◌≤◌, ◌+◌, ◌∷◌, [], ◌&&◌, ℕ, true, false, List}
-use Rattle.std.specs.Prelude.{Option, Some, None, is_some, is_none, Ok}
-use Rattle.broker_types.specs.Text.{Text}
-use Rattle.broker_types.specs.Duration.{longest_duration}
-use Rattle.broker_types.specs.Limits.{longest_ttl}
-use Rattle.broker_types.specs.Map.{Map, get}
-use Rattle.broker_types.specs.Name.{is_name, is_mount_name}
-use Rattle.broker_types.specs.Token.{Token, Tokens, Lease}
-use Rattle.broker_types.specs.Broker.{Broker, Role}
-use Rattle.broker_types.specs.Evolves.{Evolves, IsNew}
-use Rattle.broker_types.specs.IdentifierPlaces.{OnePlaceEach, lease_of, lease_identifier}
-use Rattle.broker_types.specs.Sound.{Forms, Sound, IsIdentifier, IsMoment, IsSoundLease}
-use Rattle.broker_types.specs.Used.{use_up}
-use Rattle.records.specs.Children.{has}
-use Rattle.records.specs.PartLaws.{AgreeOutside}
-use Rattle.records.specs.Parts.{of_leases, Tells}
-use Rattle.records.specs.Table.{Table}
-use Rattle.leases.specs.Leases.{edited, issue, with_renewed, renewed, revoke, revoke_under, drop_owner}
-use Rattle.leases.specs.Leases.{without_expired, live}
+use Rattle.std.specs.Prelude.{◌≡◌, ◌≢◌, ◌≤◌, ◌+◌, ◌∷◌, ◌&&◌, [], ℕ, true, false, List, Option, Some, None, is_some, Ok}
+use Rattle.records.specs.Words.{is_none, Text, longest_duration, longest_ttl, Map, get, is_name, is_mount_name, Token}
+use Rattle.records.specs.Words.{Tokens, Lease, Broker, Role, Evolves, IsNew, OnePlaceEach, lease_of, lease_identifier}
+use Rattle.records.specs.Words.{Forms, Sound, IsIdentifier, IsMoment, IsSoundLease, use_up, has, AgreeOutside}
+use Rattle.records.specs.Words.{of_leases, Tells, Table}
+use Rattle.leases.specs.Leases.{edited, issue, with_renewed, renewed, revoke, revoke_under, drop_owner, without_expired}
+use Rattle.leases.specs.Leases.{live}
 use Rattle.leases.specs.Endings.{Ending, EndsLeases, AreReadable, Leaves, either, are_owned, has_come}
 use Rattle.leases.specs.LeaseRows.{RepresentsLeases}
 use Rattle.leases.specs.Roles.{set_role, remove_role, drop_roles, lease_id, new_lease}

@@ -1,23 +1,14 @@
 -- Leases as rows: each has one at its id, whose owner is its token, and one at its credential, whose owner is the id
 -- (this project's row format).
 use Rattle.std.specs.Prelude.{◌≡◌, ◌≢◌, ℕ, Option, Some, Result, Ok}
-use Rattle.broker_types.specs.Text.{Text}
-use Rattle.broker_types.specs.Token.{Lease}
-use Rattle.broker_types.specs.Broker.{Broker}
-use Rattle.broker_types.specs.IdentifierPlaces.{OnePlaceEach, lease_of}
-use Rattle.broker_types.specs.Sound.{IsSoundLease, IsMoment, IsEnd}
-use Rattle.broker_types.specs.Refuse.{◌>>=◌, some_or}
-use Rattle.broker_types.specs.declared.refusal.Refusal.{Refusal}
+use Rattle.records.specs.Words.{Text, Lease, Broker, OnePlaceEach, lease_of, IsSoundLease, IsMoment, IsEnd, ◌>>=◌}
+use Rattle.records.specs.Words.{some_or, Refusal, of_leases, Tells, IsLeaseInRange, IsSomeIn, IsRowOf, lease_row}
+use Rattle.records.specs.Words.{credential_row, Table, with_row}
 use Rattle.broker_types.specs.declared.refusal.Refusal.TheVariants as refusal
 use Rattle.broker_types.specs.declared.refusal.Reason.TheVariants as reason
 use Rattle.records.specs.declared.kind.Kind.{Kind}
 use Rattle.records.specs.declared.kind.Kind.TheVariants as kind
 use Rattle.records.specs.declared.row.Row.{Row}
-use Rattle.records.specs.Parts.{of_leases, Tells}
-use Rattle.records.specs.Ranges.{IsLeaseInRange}
-use Rattle.records.specs.RowReaders.{IsSomeIn, IsRowOf}
-use Rattle.records.specs.RowForms.{lease_row, credential_row}
-use Rattle.records.specs.Table.{Table, with_row}
 use Rattle.leases.specs.Leases as leases
 
 -- ---- which rows are those of a broker

@@ -1,22 +1,10 @@
 -- Leases that end one after another, those of tokens that ended, and brokers whose tokens have the same leases.
-use Rattle.std.specs.Prelude.{◌≡◌, ◌||◌, ◌&&◌, [], ℕ, List, Bool, true, false, if◌then◌else◌, Option, Some, None}
-use Rattle.std.specs.Prelude.{is_some, is_none, option_and_then}
-use Rattle.std.proofs.Common.{refl, sym, ◌∙◌, ap, inl, inr}
-use Rattle.std.proofs.lemmas.Bool.{false≢true, or_left, or_right}
-use Rattle.std.proofs.lemmas.Option.{none-some, same_Some}
-use Rattle.broker_types.specs.Text.{Text}
-use Rattle.broker_types.specs.OptionLaws.{found_or_not}
-use Rattle.broker_types.specs.Map.{Map, get}
-use Rattle.broker_types.specs.Token.{Token, Tokens, Lease}
-use Rattle.broker_types.specs.Broker.{Broker}
-use Rattle.broker_types.specs.IdentifierPlaces.{OnePlaceEach, lease_of}
+use Rattle.std.specs.Prelude.{◌≡◌, ◌||◌, ◌&&◌, if◌then◌else◌, [], ℕ, List, Bool, true, false, Option, Some, None, refl}
+use Rattle.records.specs.Words.{is_some, is_none, option_and_then, sym, ◌∙◌, ap, inl, inr, false≢true, or_left}
+use Rattle.records.specs.Words.{or_right, none-some, same_Some, Text, found_or_not, Map, get, Token, Tokens, Lease}
+use Rattle.records.specs.Words.{Broker, OnePlaceEach, lease_of, has, of_leases, Tells, lease_in_range, lease_row, Table}
 use Rattle.records.specs.declared.kind.Kind.TheVariants as kind
 use Rattle.records.specs.declared.row.Row.{Row}
-use Rattle.records.specs.Children.{has}
-use Rattle.records.specs.Parts.{of_leases, Tells}
-use Rattle.records.specs.RangeLaws.{lease_in_range}
-use Rattle.records.specs.RowForms.{lease_row}
-use Rattle.records.specs.Table.{Table}
 use Rattle.leases.specs.Laws.{AreLeft}
 use Rattle.leases.specs.Endings.{Ending, AreReadable, unless_ended, EndsWith, EndsLeases, either, Leaves, are_owned}
 use Rattle.leases.specs.Endings.{has_come}

@@ -11,3 +11,4 @@ pub mod Roles
 pub mod SoundLaws
 pub mod StaysSoundLaws
 pub mod TellLaws
+pub mod Words

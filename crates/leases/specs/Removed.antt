@@ -1,16 +1,10 @@
 -- Rows of leases taken out, one after another (this project's definition).
-use Rattle.std.specs.Prelude.{◌≡◌, ℕ, true, List, [], ◌∷◌, filter, Some, All, Contains}
+use Rattle.std.specs.Prelude.{◌≡◌, ◌∷◌, ℕ, true, List, [], filter, Some, All, Contains}
 use Rattle.std.specs.FinMap as fin
-use Rattle.broker_types.specs.Text.{Text}
-use Rattle.broker_types.specs.Token.{Lease}
+use Rattle.records.specs.Words.{Text, Lease, AreDue, RowKey, is_of_kind, IsLeaseInRange, lease_row, Table, table_of}
+use Rattle.records.specs.Words.{Rows}
 use Rattle.records.specs.declared.kind.Kind.TheVariants as kind
 use Rattle.records.specs.declared.row.Row.{Row}
-use Rattle.records.specs.DueRows.{AreDue}
-use Rattle.records.specs.Kind.{RowKey, is_of_kind}
-use Rattle.records.specs.Ranges.{IsLeaseInRange}
-use Rattle.records.specs.RowForms.{lease_row}
-use Rattle.records.specs.Table.{Table, table_of}
-use Rattle.records.specs.Transaction.{Rows}
 use Rattle.leases.specs.Endings.{Ending}
 
 -- the rows without that of a lease and that of its credential

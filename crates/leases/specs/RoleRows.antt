@@ -1,17 +1,9 @@
 -- Roles as rows: each has one, at its mount, a slash and its name (this project's row format).
-use Rattle.std.specs.Prelude.{Option, Result, Ok}
-use Rattle.broker_types.specs.Text.{Text}
-use Rattle.broker_types.specs.Name.{is_name}
-use Rattle.broker_types.specs.Broker.{Role}
-use Rattle.broker_types.specs.Refuse.{◌>>=◌, unless}
-use Rattle.broker_types.specs.declared.refusal.Refusal.{Refusal}
+use Rattle.records.specs.Words.{Option, Result, Ok, Text, is_name, Role, ◌>>=◌, unless, Refusal, IsRoleInRange, IsRowOf}
+use Rattle.records.specs.Words.{role_row, Table, with_row}
 use Rattle.broker_types.specs.declared.refusal.Refusal.TheVariants as refusal
 use Rattle.broker_types.specs.declared.refusal.Reason.TheVariants as reason
 use Rattle.records.specs.declared.kind.Kind.TheVariants as kind
-use Rattle.records.specs.Ranges.{IsRoleInRange}
-use Rattle.records.specs.RowReaders.{IsRowOf}
-use Rattle.records.specs.RowForms.{role_row}
-use Rattle.records.specs.Table.{Table, with_row}
 use Rattle.leases.specs.LeaseRows.{with_issued}
 use Rattle.leases.specs.Roles.{role_name, IssuedLease}
 

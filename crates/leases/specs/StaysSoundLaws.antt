@@ -1,29 +1,13 @@
 -- Renewals, the end of leases, and edits of roles leave a sound broker sound, and let it evolve.
-use Rattle.std.specs.Prelude.{◌≡◌, ◌≤◌, ◌+◌, [], ℕ, nat_lt, nat_eq, Bool, true, false, cond, not, if◌then◌else◌}
-use Rattle.std.specs.Prelude.{Option, Some, Ok, codes}
-use Rattle.std.specs.List.{starts_with}
-use Rattle.std.specs.Option.{option_map_or}
-use Rattle.std.proofs.Common.{refl, sym, ◌∙◌, ap, subst, append_assoc}
-use Rattle.std.proofs.Math.Nat.{le_trans, min-le_right, add-le-add}
-use Rattle.std.proofs.lemmas.Option.{same_Some}
-use Rattle.broker_types.specs.Text.{Text, same}
-use Rattle.broker_types.specs.Duration.{longest_duration}
-use Rattle.broker_types.specs.Map.{Map, get, empty, put, without, keep, change}
-use Rattle.broker_types.specs.MapLaws.{get-put, get-change, without_is, no_entry}
-use Rattle.broker_types.specs.Name.{is_name, is_mount_name}
-use Rattle.broker_types.specs.OptionLaws.{mapped}
-use Rattle.broker_types.specs.SearchLaws.{kept_get}
-use Rattle.broker_types.specs.TextLaws.{same_true}
-use Rattle.broker_types.specs.Token.{Lease}
-use Rattle.broker_types.specs.Broker.{Broker, Role}
-use Rattle.broker_types.specs.Evolves.{Evolves}
-use Rattle.broker_types.specs.FieldLaws.{sound_with}
-use Rattle.broker_types.specs.Refuse.{◌>>=◌, unless}
-use Rattle.broker_types.specs.RefuseLaws.{no_ok}
-use Rattle.broker_types.specs.Sound.{Forms, Sound, SoundRoles, IsSoundRole, IsSoundLease, IsMoment}
+use Rattle.std.specs.Prelude.{◌≡◌, ◌≤◌, ◌+◌, if◌then◌else◌, [], ℕ, nat_lt, nat_eq, Bool, true, false, cond, not, Option}
+use Rattle.records.specs.Words.{Some, Ok, codes, starts_with, option_map_or, refl, sym, ◌∙◌, ap, subst, append_assoc}
+use Rattle.records.specs.Words.{le_trans, min-le_right, add-le-add, same_Some, Text, same, longest_duration, Map, get}
+use Rattle.records.specs.Words.{empty, put, without, keep, change, get-put, get-change, without_is, no_entry, is_name}
+use Rattle.records.specs.Words.{is_mount_name, mapped, kept_get, same_true, Lease, Broker, Role, Evolves, sound_with}
+use Rattle.records.specs.Words.{◌>>=◌, unless, no_ok, Forms, Sound, SoundRoles, IsSoundRole, IsSoundLease, IsMoment}
+use Rattle.records.specs.Words.{ok_inj}
 use Rattle.broker_types.specs.declared.refusal.Refusal.TheVariants as refusal
 use Rattle.broker_types.specs.declared.refusal.Reason.TheVariants as reason
-use Rattle.records.specs.ValueLaws.{ok_inj}
 use Rattle.leases.specs.Leases.{edited, renewed, renewed_end, with_renewed, revoke, revoke_under, drop_owner}
 use Rattle.leases.specs.Leases.{without_expired, is_under, live}
 use Rattle.leases.specs.Roles.{role_name, set_role, remove_role, drop_roles}

@@ -1,16 +1,12 @@
 -- What a search among forms finds.
-use Rattle.std.specs.Prelude.{◌≡◌, ◌≤◌, ℕ, List, [], ◌∷◌, length, Bool, true, false, not, Option, Some, None}
-use Rattle.std.proofs.Common.{refl, sym, ◌∙◌, ap, zero-le, suc-le-suc}
-use Rattle.std.proofs.lemmas.Bool.{false≢true, not_from_true}
-use Rattle.std.proofs.lemmas.Option.{none-some}
+use Rattle.std.proofs.Common.{◌≡◌, ◌≤◌, ◌∷◌, ℕ, List, [], length, Bool, true, false, not, Option, Some, None, refl, sym}
+use Rattle.records.specs.Words.{◌∙◌, ap, zero-le, suc-le-suc, false≢true, not_from_true, none-some, Text, eqb_self}
+use Rattle.records.specs.Words.{slash, lacks}
 use Rattle.matchit.specs.Seek.{or_else, has_slash}
-use Rattle.broker_types.specs.Text.{Text}
-use Rattle.records.specs.SplitLaws.{eqb_self}
-use Rattle.records.specs.Splits.{slash, lacks}
-use Rattle.mounts.specs.Forms.{Ending, nothing, segment, segments}
+use Rattle.mounts.specs.Words.{Ending, nothing, segment, segments}
 use Rattle.mounts.proofs.FormSearch.{fits_form, is_nothing, is_segment, is_segments, FormOf, Has, after, keys_at}
-use Rattle.mounts.proofs.FormSearch.{first_of_keys, segment_key, search}
-use Rattle.mounts.proofs.FormSearch.{after_has, after_was, Ends, ends_is, ends_none, fits_cons, cons_fits, slash_or_not}
+use Rattle.mounts.proofs.FormSearch.{first_of_keys, segment_key, search, after_has, after_was, Ends, ends_is, ends_none}
+use Rattle.mounts.proofs.FormSearch.{fits_cons, cons_fits, slash_or_not}
 
 -- the key is that of a form that the path has, and no such form has a longer text
 pub record Found {K : Type 0} (es : List (FormOf K)) (path : Text) (k : K) : Type 0 where

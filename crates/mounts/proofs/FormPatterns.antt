@@ -1,18 +1,11 @@
 -- The pattern that a path finds, by its form.
-use Rattle.std.specs.Prelude.{◌≡◌, ◌≤◌, ℕ, List, [], ◌∷◌, length, drop, take, Bool, true, false, Some, None, nat_eq}
-use Rattle.std.specs.List.{starts_with}
-use Rattle.std.proofs.Common.{refl, sym, ◌∙◌, ap, subst, inl, inr}
-use Rattle.std.proofs.lemmas.Bool.{and_parts, false≢true, false_from_ne_true}
-use Rattle.std.proofs.lemmas.Option.{none-some}
+use Rattle.std.proofs.Common.{◌≡◌, ◌≤◌, ◌∷◌, ℕ, List, [], length, drop, take, Bool, true, false, Some, None, nat_eq, ap}
+use Rattle.records.specs.Words.{starts_with, refl, sym, ◌∙◌, subst, inl, inr, and_parts, false≢true, false_from_ne_true}
+use Rattle.records.specs.Words.{none-some, mapped, mapped_none, Text, same, same_true}
 use Rattle.matchit.specs.Seek.{first}
-use Rattle.broker_types.specs.OptionLaws.{mapped, mapped_none}
-use Rattle.broker_types.specs.Text.{Text, same}
-use Rattle.broker_types.specs.TextLaws.{same_true}
-use Rattle.mounts.specs.Forms.{Ending, nothing, segment, segments, Form, form_of, has_form, is_ending, is_literal}
-use Rattle.mounts.specs.Forms.{are_bytes}
-use Rattle.mounts.specs.Laws.{IsForm}
-use Rattle.mounts.specs.Patterns.{Router, router_of, pattern_found, fits, is_in_order, has_pattern}
-use Rattle.mounts.specs.RouteRow.{RouteRow}
+use Rattle.mounts.specs.Words.{Ending, nothing, segment, segments, Form, form_of, has_form, is_ending, is_literal}
+use Rattle.mounts.specs.Words.{are_bytes, IsForm, Router, router_of, pattern_found, fits, is_in_order, has_pattern}
+use Rattle.mounts.specs.Words.{RouteRow}
 use Rattle.mounts.proofs.FormSearch.{search}
 use Rattle.mounts.proofs.FormSeek.{seek_search}
 use Rattle.mounts.proofs.FormFound.{found_is, found_none}

@@ -1,22 +1,14 @@
 -- The router of rows has the tokens of their patterns' forms, and no others.
-use Rattle.std.specs.Prelude.{◌≡◌, ◌⊎◌, ℕ, List, [], ◌∷◌, true, false, cond, Option, Some, None, Result, Ok, Err}
-use Rattle.std.specs.Prelude.{if◌then◌else◌}
-use Rattle.std.specs.List.{list_all}
-use Rattle.std.proofs.Common.{refl, sym, ◌∙◌, ap, subst, inl, inr}
-use Rattle.std.proofs.lemmas.Bool.{and_parts, and_from, false≢true, or_left, or_right, or_cases}
-use Rattle.std.proofs.lemmas.Option.{same_Some}
+use Rattle.std.proofs.Common.{◌≡◌, ◌⊎◌, ◌∷◌, if◌then◌else◌, ℕ, List, [], true, false, cond, Option, Some, None, Result}
+use Rattle.records.specs.Words.{Ok, Err, list_all, refl, sym, ◌∙◌, ap, subst, inl, inr, and_parts, and_from, false≢true}
+use Rattle.records.specs.Words.{or_left, or_right, or_cases, same_Some, Text, same, same_self, same_true}
 use Rattle.matchit.specs.Order.{placed}
 use Rattle.matchit.specs.Rows.{comes_before}
 use Rattle.matchit.specs.Route.{Scan, parse_route}
 use Rattle.matchit.specs.Router.{RouteOf, route_from}
 use Rattle.matchit.specs.declared.error.InsertError.{InsertError}
-use Rattle.broker_types.specs.Text.{Text, same}
-use Rattle.broker_types.specs.TextLaws.{same_self, same_true}
-use Rattle.mounts.specs.Forms.{Ending, form_of, are_bytes}
-use Rattle.mounts.specs.Patterns.{Router, with_next, placed_as, is_again, router_behind, tokens, is_read_as}
-use Rattle.mounts.specs.Patterns.{reads_as_form}
-use Rattle.mounts.specs.Patterns.{has_pattern}
-use Rattle.mounts.specs.RouteRow.{RouteRow}
+use Rattle.mounts.specs.Words.{Ending, form_of, are_bytes, Router, with_next, placed_as, is_again, router_behind}
+use Rattle.mounts.specs.Words.{tokens, is_read_as, reads_as_form, has_pattern, RouteRow}
 use Rattle.mounts.proofs.FormSearch.{FormOf, Has}
 use Rattle.mounts.proofs.FormSeek.{rows, all_bytes}
 

@@ -1,12 +1,9 @@
 -- A search among forms: it finds one that the path has, with the longest text before the parameter.
-use Rattle.std.specs.Prelude.{◌≡◌, ◌⊎◌, ◌==◌, ◌&&◌, ℕ, List, [], ◌∷◌, Bool, true, false, not, cond, Option, Some, None}
-use Rattle.std.proofs.Common.{refl, sym, ◌∙◌, ap, subst, inl, inr}
-use Rattle.std.proofs.lemmas.Bool.{and_parts, and_from, eqb-true}
-use Rattle.std.proofs.lemmas.Option.{none-some, same_Some}
+use Rattle.std.proofs.Common.{◌≡◌, ◌⊎◌, ◌==◌, ◌&&◌, ◌∷◌, ℕ, List, [], Bool, true, false, not, cond, Option, Some, None}
+use Rattle.records.specs.Words.{refl, sym, ◌∙◌, ap, subst, inl, inr, and_parts, and_from, eqb-true, none-some}
+use Rattle.records.specs.Words.{same_Some, Text, slash, lacks}
 use Rattle.matchit.specs.Seek.{or_else, has_slash}
-use Rattle.broker_types.specs.Text.{Text}
-use Rattle.records.specs.Splits.{slash, lacks}
-use Rattle.mounts.specs.Forms.{Ending, nothing, segment, segments, has_form}
+use Rattle.mounts.specs.Words.{Ending, nothing, segment, segments, has_form}
 
 -- whether a path has the form of a text and an ending
 abbrev pub fits_form : Text → Ending → Text → Bool

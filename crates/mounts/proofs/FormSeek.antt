@@ -1,16 +1,12 @@
 -- The search of `matchit` among the tokens of forms is a search among the forms.
-use Rattle.std.specs.Prelude.{◌≡◌, ◌-◌, ◌==◌, ◌&&◌, ℕ, zero, suc, List, [], ◌∷◌, ◌++◌, length, Bool, true, false, cond}
-use Rattle.std.specs.Prelude.{nat_lt, Some, None}
-use Rattle.std.proofs.Common.{refl, sym, ◌∙◌, ap, arith}
-use Rattle.std.proofs.lemmas.Bool.{and_parts, and_from, false_from_ne_true, false≢true, eqb-true}
+use Rattle.std.proofs.Common.{◌≡◌, ◌-◌, ◌==◌, ◌&&◌, ◌∷◌, ◌++◌, ℕ, zero, suc, List, [], length, Bool, true, false, cond}
+use Rattle.records.specs.Words.{nat_lt, Some, None, refl, sym, ◌∙◌, ap, arith, and_parts, and_from, false_from_ne_true}
+use Rattle.records.specs.Words.{false≢true, eqb-true, Text}
 use Rattle.matchit.specs.Rows.{RowsOf, param_token, catch_all_token}
 use Rattle.matchit.specs.Seek.{own, step, or_else, seek, param_step, has_slash, segment, longest_suffix}
-use Rattle.broker_types.specs.Text.{Text}
-use Rattle.mounts.specs.Forms.{Ending, nothing, segment as one_segment, segments, are_bytes}
-use Rattle.mounts.specs.Patterns.{ending_tokens}
+use Rattle.mounts.specs.Words.{Ending, nothing, segment as one_segment, segments, are_bytes, ending_tokens}
 use Rattle.mounts.proofs.FormSearch.{is_nothing, is_segment, is_segments, behind, FormOf, go_on, after, with_key}
-use Rattle.mounts.proofs.FormSearch.{is_end, keys_at, first_of_keys}
-use Rattle.mounts.proofs.FormSearch.{segment_key, search}
+use Rattle.mounts.proofs.FormSearch.{is_end, keys_at, first_of_keys, segment_key, search}
 
 -- a byte is neither of the two tokens of parameters
 apart : (b n : ℕ) → nat_lt b 256 ≡ true → nat_lt n 256 ≡ false → (n == b) ≡ false

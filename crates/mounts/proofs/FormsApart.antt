@@ -1,11 +1,8 @@
 -- In a table in order no two patterns have one text and both a parameter, nor one text and both none.
-use Rattle.std.specs.Prelude.{◌≡◌, ◌==◌, ◌&&◌, ◌||◌, ◌++◌, ◌+◌, ℕ, List, [], ◌∷◌, length, get_or, true, false, cond}
-use Rattle.std.specs.Prelude.{if◌then◌else◌}
-use Rattle.std.specs.Prelude.{Option, Some, None, is_none, Result, Ok, Err}
-use Rattle.std.specs.List.{list_all}
-use Rattle.std.proofs.Common.{refl, sym, ◌∙◌, ap, subst, inl, inr, add-one}
-use Rattle.std.proofs.lemmas.Bool.{and_parts, or_left, or_right, false≢true}
-use Rattle.std.proofs.lemmas.Option.{same_Some}
+use Rattle.std.proofs.Common.{◌≡◌, ◌==◌, ◌&&◌, ◌||◌, ◌++◌, ◌+◌, ◌∷◌, if◌then◌else◌, ℕ, List, [], length, get_or, true}
+use Rattle.records.specs.Words.{false, cond, Option, Some, None, is_none, Result, Ok, Err, list_all, refl, sym, ◌∙◌, ap}
+use Rattle.records.specs.Words.{subst, inl, inr, add-one, and_parts, or_left, or_right, false≢true, same_Some, Text}
+use Rattle.records.specs.Words.{same_true, eqb_self}
 use Rattle.matchit.specs.Conflict.{conflicts, wild_clash}
 use Rattle.matchit.specs.Order.{common_len}
 use Rattle.matchit.specs.Rows.{param_token, catch_all_token}
@@ -13,14 +10,9 @@ use Rattle.matchit.specs.Route.{Scan, parse_route}
 use Rattle.matchit.specs.Router.{route_from, nearer, nearest, nearest_from}
 use Rattle.matchit.specs.declared.error.InsertError.{InsertError}
 use Rattle.matchit.proofs.NearestLemmas.{conflicts-self, nearer-some, from-some, near-yes}
-use Rattle.broker_types.specs.Text.{Text}
-use Rattle.broker_types.specs.TextLaws.{same_true}
-use Rattle.records.specs.SplitLaws.{eqb_self}
-use Rattle.mounts.specs.Forms.{Ending, nothing, segment, segments, Form, form_of, is_literal}
-use Rattle.mounts.specs.Patterns.{Router, with_next, placed_as, is_again, is_free, can_follow, fits_behind}
-use Rattle.mounts.specs.Patterns.{router_behind, ending_tokens, tokens}
-use Rattle.mounts.specs.Patterns.{is_read_as, reads_as_form}
-use Rattle.mounts.specs.RouteRow.{RouteRow}
+use Rattle.mounts.specs.Words.{Ending, nothing, segment, segments, Form, form_of, is_literal, Router, with_next}
+use Rattle.mounts.specs.Words.{placed_as, is_again, is_free, can_follow, fits_behind, router_behind, ending_tokens}
+use Rattle.mounts.specs.Words.{tokens, is_read_as, reads_as_form, RouteRow}
 use Rattle.mounts.proofs.FormRouters.{Keys, AreRoutes, HasPattern, IsBefore, placed_from, next_is}
 
 -- one text, and both have a parameter or neither has

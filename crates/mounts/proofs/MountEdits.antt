@@ -1,26 +1,12 @@
 -- Rows of mounts, edited.
-use Rattle.std.specs.Prelude.{◌≡◌, ◌==◌, ◌&&◌, Bool, true, false, if◌then◌else◌, cond, Option, Some, None, option_map}
-use Rattle.std.specs.Prelude.{is_some, Result, Ok}
-use Rattle.std.proofs.Common.{refl, sym, ◌∙◌, ap, subst}
-use Rattle.std.proofs.lemmas.Bool.{false≢true}
-use Rattle.std.proofs.lemmas.Option.{none-some, same_Some}
-use Rattle.broker_types.specs.Text.{Text, same}
-use Rattle.broker_types.specs.Map.{Map, get, put, without}
-use Rattle.broker_types.specs.MapLaws.{get-put, get-without}
-use Rattle.broker_types.specs.Broker.{Mount}
-use Rattle.broker_types.specs.Refuse.{◌>>=◌}
-use Rattle.broker_types.specs.RequestError.{EndsOk}
-use Rattle.broker_types.specs.declared.refusal.Refusal.{Refusal}
+use Rattle.std.proofs.Common.{◌≡◌, ◌==◌, ◌&&◌, if◌then◌else◌, Bool, true, false, cond, Option, Some, None, option_map}
+use Rattle.records.specs.Words.{is_some, Result, Ok, refl, sym, ◌∙◌, ap, subst, false≢true, none-some, same_Some, Text}
+use Rattle.records.specs.Words.{same, Map, get, put, without, get-put, get-without, Mount, ◌>>=◌, EndsOk, Refusal}
+use Rattle.records.specs.Words.{kind_number, of_mounts, KeepsOthers, IsMountInRange, IsSomeIn, mount_row, Table}
+use Rattle.records.specs.Words.{with_row, without_row}
 use Rattle.records.specs.declared.kind.Kind.{Kind}
 use Rattle.records.specs.declared.kind.Kind.TheVariants as kind
-use Rattle.records.specs.declared.row.Row.{Row}
-use Rattle.records.specs.Kind.{kind_number}
-use Rattle.records.specs.Parts.{of_mounts, KeepsOthers}
-use Rattle.records.specs.Ranges.{IsMountInRange}
-use Rattle.records.specs.RowReaders.{IsSomeIn}
-use Rattle.records.specs.RowForms.{mount_row}
-use Rattle.records.specs.Table.{Table, with_row, without_row}
-use Rattle.mounts.specs.MountRows.{IsMountAt, AreMounts}
+use Rattle.mounts.specs.Words.{Row, IsMountAt, AreMounts}
 
 -- ---- rows of other kinds
 

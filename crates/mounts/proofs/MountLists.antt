@@ -1,28 +1,13 @@
 -- The list of mounts, from the rows of mounts.
-use Rattle.std.specs.Prelude.{◌≡◌, ◌<◌, ◌+◌, ℕ, List, [], ◌∷◌, map, length, take, get_or, codes, All}
-use Rattle.std.specs.Cmp.Lexicographic.{nat_list_cmp_total}
+use Rattle.std.proofs.Common.{◌≡◌, ◌<◌, ◌+◌, ◌∷◌, ℕ, List, [], map, length, take, get_or, codes, All, refl, ◌∙◌, ap}
+use Rattle.records.specs.Words.{nat_list_cmp_total, fold, arith, get_or-map, length-map, map_more, fold-append, Text}
+use Rattle.records.specs.Words.{Map, empty, entries, entries-empty, each_entry, Mount, kv, RowKey, rows_under-listing}
+use Rattle.records.specs.Words.{IsMountInRange, mount_row, table_of, Rows, rows_under}
 use Rattle.std.specs.FinMap as fin
-use Rattle.std.specs.List.{fold}
-use Rattle.std.proofs.Common.{refl, ◌∙◌, ap, arith}
-use Rattle.std.proofs.lemmas.List.{get_or-map, length-map, map_more}
-use Rattle.std.proofs.lemmas.List.Sums.{fold-append}
-use Rattle.broker_types.specs.Text.{Text}
-use Rattle.broker_types.specs.Map.{Map, empty, entries}
-use Rattle.broker_types.specs.MapLaws.{entries-empty}
-use Rattle.broker_types.specs.SearchLaws.{each_entry}
-use Rattle.broker_types.specs.Broker.{Mount, kv}
 use Rattle.records.specs.declared.kind.Kind.TheVariants as kind
-use Rattle.records.specs.declared.row.Row.{Row}
-use Rattle.records.specs.Kind.{RowKey}
-use Rattle.records.specs.ListingLaws.{rows_under-listing}
-use Rattle.records.specs.Ranges.{IsMountInRange}
-use Rattle.records.specs.RowForms.{mount_row}
-use Rattle.records.specs.Table.{table_of}
-use Rattle.records.specs.Transaction.{Rows, rows_under}
-use Rattle.mounts.specs.declared.mount_type.MountType.{MountType}
+use Rattle.mounts.specs.Words.{Row, MountType, AreMounts, at_mount, placed, in_places, typed, printed, with_type}
+use Rattle.mounts.specs.Words.{listed, plain_mount}
 use Rattle.mounts.specs.declared.mount_type.MountType.TheVariants as mount
-use Rattle.mounts.specs.MountRows.{AreMounts, at_mount, placed, in_places}
-use Rattle.mounts.specs.Mounts.{typed, printed, with_type, listed, plain_mount}
 
 entries-fold : (types : Map MountType) (ms : List (Text × MountType))
     → entries (fold with_type types ms) ≡ fold placed (entries types) ms

@@ -1,15 +1,8 @@
 -- Rows that are those of no mount.
-use Rattle.std.specs.Prelude.{◌≡◌, Option, Some, None}
-use Rattle.std.proofs.Common.{refl, sym, ◌∙◌}
-use Rattle.std.proofs.lemmas.Option.{none-some, same_Some}
-use Rattle.broker_types.specs.Broker.{Mount}
-use Rattle.broker_types.specs.Text.{Text}
+use Rattle.std.proofs.Common.{◌≡◌, Option, Some, None, refl, sym, ◌∙◌}
+use Rattle.records.specs.Words.{none-some, same_Some, Mount, Text, IsMountInRange, mount_row, Table}
 use Rattle.records.specs.declared.kind.Kind.TheVariants as kind
-use Rattle.records.specs.declared.row.Row.{Row}
-use Rattle.records.specs.Ranges.{IsMountInRange}
-use Rattle.records.specs.RowForms.{mount_row}
-use Rattle.records.specs.Table.{Table}
-use Rattle.mounts.specs.MountRows.{IsMountAt}
+use Rattle.mounts.specs.Words.{Row, IsMountAt}
 
 -- nothing is known at a name whose row is that of no mount
 pub not_read : (rows : Table) (name : Text) (row : Row) → rows kind.Mount name ≡ Some row

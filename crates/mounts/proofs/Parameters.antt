@@ -1,27 +1,16 @@
 -- What an operation takes from a path is a path.
-use Rattle.std.specs.Prelude.{◌≡◌, ◌<◌, ◌||◌, ◌++◌, ℕ, List, [], ◌∷◌, suc, length, drop, get_or, Bool, true, false, not}
-use Rattle.std.specs.Prelude.{cond, nat_eq, if◌then◌else◌}
-use Rattle.std.specs.Prelude.{Some, None, option_map, Ok, is_ok}
-use Rattle.std.specs.List.{list_all, find, starts_with}
-use Rattle.std.proofs.Common.{refl, sym, ◌∙◌, ap, inl, inr}
-use Rattle.std.proofs.lemmas.Bool.{and_parts, and_from, false≢true, eqb-true, lt-ltb}
-use Rattle.std.proofs.lemmas.Option.{none-some, same_Some}
-use Rattle.broker_types.specs.Text.{Text}
-use Rattle.broker_types.specs.TextLaws.{same_true}
-use Rattle.broker_types.specs.Path.{is_path}
-use Rattle.broker_types.specs.Refuse.{◌>>=◌, some_or}
-use Rattle.broker_types.specs.declared.ask.Verb.{Verb}
+use Rattle.std.proofs.Common.{◌≡◌, ◌<◌, ◌||◌, ◌++◌, ◌∷◌, if◌then◌else◌, ℕ, List, [], suc, length, drop, get_or, Bool}
+use Rattle.records.specs.Words.{true, false, not, cond, nat_eq, Some, None, option_map, Ok, is_ok, list_all}
+use Rattle.records.specs.Words.{starts_with, refl, sym, ◌∙◌, ap, inl, inr, and_parts, and_from, false≢true, eqb-true}
+use Rattle.records.specs.Words.{lt-ltb, none-some, same_Some, Text, same_true, is_path, ◌>>=◌, some_or, Verb, slash}
+use Rattle.records.specs.Words.{ok_inj, begun}
+use Rattle.std.specs.List.{find}
 use Rattle.broker_types.specs.declared.refusal.Refusal.TheVariants as refusal
-use Rattle.records.specs.Splits.{slash}
-use Rattle.records.specs.ValueLaws.{ok_inj}
-use Rattle.records.specs.PrefixLaws.{begun}
 use Rattle.mounts.specs.declared.operation.Operation.{Operation}
-use Rattle.mounts.specs.Forms.{Ending, nothing, segment, segments, form_of, is_ending, is_literal, ends_segment}
-use Rattle.mounts.specs.Forms.{has_parameter, parameter, are_bytes}
-use Rattle.mounts.specs.RouteTable.{takes_parameter}
-use Rattle.mounts.specs.Patterns.{fits, is_in_order, is_row, reads_as_form, tells, differ, pattern_found}
-use Rattle.mounts.specs.Route.{Route, operation_for, methods_of, route_by}
-use Rattle.mounts.specs.RouteRow.{RouteRow}
+use Rattle.mounts.specs.Words.{Ending, nothing, segment, segments, form_of, is_ending, is_literal, ends_segment}
+use Rattle.mounts.specs.Words.{has_parameter, parameter, are_bytes, takes_parameter, fits, is_in_order, is_row}
+use Rattle.mounts.specs.Words.{reads_as_form, tells, differ, pattern_found, Route, operation_for, methods_of, route_by}
+use Rattle.mounts.specs.Words.{RouteRow}
 use Rattle.mounts.proofs.FormPatterns.{found_by_form}
 use Rattle.mounts.proofs.PathParts.{IsRest, rest_is_path}
 

@@ -1,16 +1,9 @@
 -- What stands behind a slash of a path is a path.
-use Rattle.std.specs.Prelude.{◌≡◌, ◌+◌, ◌&&◌, ◌==◌, ◌⊎◌, [], ◌∷◌, ◌++◌, length, nat_lt, nat_le, true, false}
-use Rattle.std.specs.Prelude.{if◌then◌else◌, Option, Some, None}
-use Rattle.std.specs.Prelude.{unwrap_or}
-use Rattle.std.specs.List.{list_all}
-use Rattle.std.proofs.Common.{refl, sym, ◌∙◌, ap, arith, length-append, inl, inr}
-use Rattle.std.proofs.lemmas.Bool.{and_parts, and_from, false≢true}
-use Rattle.std.proofs.lemmas.Bool.Decides.{nat_tests}
-use Rattle.broker_types.specs.Text.{Text}
-use Rattle.broker_types.specs.Path.{is_path, is_path_byte, is_segment, segments}
-use Rattle.records.specs.Splits.{slash, split_once}
-use Rattle.records.specs.SplitLaws.{lacking_split}
-use Rattle.mounts.specs.Route.{cut}
+use Rattle.std.proofs.Common.{◌≡◌, ◌+◌, ◌&&◌, ◌==◌, ◌⊎◌, ◌∷◌, ◌++◌, if◌then◌else◌, [], length, nat_lt, nat_le, true, ap}
+use Rattle.records.specs.Words.{false, Option, Some, None, unwrap_or, list_all, refl, sym, ◌∙◌, arith, length-append}
+use Rattle.records.specs.Words.{inl, inr, and_parts, and_from, false≢true, nat_tests, Text, is_path, is_path_byte}
+use Rattle.records.specs.Words.{is_segment, segments, slash, split_once, lacking_split}
+use Rattle.mounts.specs.Words.{cut}
 
 bytes_behind : (a p : Text) → list_all is_path_byte (a ++ 47 ∷ p) ≡ true → list_all is_path_byte p ≡ true
 bytes_behind [] p h = h

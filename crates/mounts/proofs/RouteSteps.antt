@@ -1,19 +1,9 @@
 -- The route of a path, step by step.
-use Rattle.std.specs.Prelude.{◌≡◌, List, Option, Some, None, Result, Ok, Err, ⊤}
-use Rattle.std.proofs.Common.{refl, sym, ◌∙◌, ap, subst}
-use Rattle.broker_types.specs.Text.{Text}
-use Rattle.broker_types.specs.Broker.{Mount}
-use Rattle.broker_types.specs.Refuse.{◌>>=◌, some_or}
-use Rattle.broker_types.specs.RequestError.{EndsOk, EndsRefused}
-use Rattle.broker_types.specs.declared.ask.Verb.{Verb}
-use Rattle.broker_types.specs.declared.refusal.Refusal.{Refusal}
+use Rattle.std.proofs.Common.{◌≡◌, List, Option, Some, None, Result, Ok, Err, refl, sym, ◌∙◌, ap, subst}
+use Rattle.records.specs.Words.{⊤, Text, Mount, ◌>>=◌, some_or, EndsOk, EndsRefused, Verb, Refusal}
 use Rattle.broker_types.specs.declared.refusal.Refusal.TheVariants as refusal
-use Rattle.mounts.specs.declared.mount_type.MountType.{MountType}
-use Rattle.mounts.specs.Patterns.{pattern_found}
-use Rattle.mounts.specs.Route.{Route, cut, route_by, within, route_at}
-use Rattle.mounts.specs.RouteRow.{RouteRow}
-use Rattle.mounts.specs.RouteTable.{route_rows}
-use Rattle.mounts.specs.Types.{type_at}
+use Rattle.mounts.specs.Words.{MountType, pattern_found, Route, cut, route_by, within, route_at, RouteRow, route_rows}
+use Rattle.mounts.specs.Words.{type_at}
 
 -- ---- how the code ends
 

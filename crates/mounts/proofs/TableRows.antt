@@ -1,15 +1,10 @@
 -- Where no two rows have one pattern and verb, each row is found by its own.
-use Rattle.std.specs.Prelude.{◌≡◌, List, [], ◌∷◌, true, false, cond, All, Some, option_map}
-use Rattle.std.specs.List.{list_any, find}
-use Rattle.std.proofs.Common.{refl, sym, ◌∙◌, ap}
-use Rattle.std.proofs.lemmas.Bool.{and_parts, and_from, or_parts, not-true, false≢true, false_from_ne_true}
-use Rattle.std.proofs.lemmas.List.Elements.{All-nil, All-cons, All-head, All-tail}
-use Rattle.broker_types.specs.TextLaws.{same_self, same_true}
-use Rattle.broker_types.specs.declared.ask.Verb.{Verb}
+use Rattle.std.proofs.Common.{◌≡◌, ◌∷◌, List, [], true, false, cond, All, Some, option_map, refl, sym, ◌∙◌, ap}
+use Rattle.records.specs.Words.{list_any, and_parts, and_from, or_parts, not-true, false≢true, false_from_ne_true}
+use Rattle.records.specs.Words.{All-nil, All-cons, All-head, All-tail, same_self, same_true, Verb}
+use Rattle.std.specs.List.{find}
 use Rattle.broker_types.specs.declared.ask.Verb.TheVariants as verb
-use Rattle.mounts.specs.Patterns.{same_verb, is_row, differ}
-use Rattle.mounts.specs.Route.{operation_for}
-use Rattle.mounts.specs.RouteRow.{RouteRow}
+use Rattle.mounts.specs.Words.{same_verb, is_row, differ, operation_for, RouteRow}
 
 verb_self : (v : Verb) → same_verb v v ≡ true
 verb_self verb.Get = refl

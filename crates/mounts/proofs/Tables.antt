@@ -1,12 +1,9 @@
 -- The tables are in order.
-use Rattle.std.specs.Prelude.{◌≡◌, true}
-use Rattle.std.proofs.Common.{refl}
+use Rattle.std.proofs.Common.{◌≡◌, true, refl}
 use Rattle.matchit.proofs.OnLiterals.{matchit_on_literals}
-use Rattle.broker_types.specs.Text.{same}
-use Rattle.mounts.specs.declared.mount_type.MountType.{MountType}
+use Rattle.records.specs.Words.{same}
+use Rattle.mounts.specs.Words.{MountType, is_in_order, fits, fits_behind, route_rows}
 use Rattle.mounts.specs.declared.mount_type.MountType.TheVariants as mount
-use Rattle.mounts.specs.Patterns.{is_in_order, fits, fits_behind}
-use Rattle.mounts.specs.RouteTable.{route_rows}
 
 pub in_order : (type : MountType) → is_in_order (route_rows type) ≡ true
 unfolding matchit_on_literals same fits fits_behind

@@ -1,11 +1,7 @@
 -- Where a text is cut.
-use Rattle.std.specs.Prelude.{◌≡◌, ◌<◌, ◌+◌, ℕ, suc, [], ◌∷◌, length, take, drop, true, false, not, cond, ◌==◌, Option}
-use Rattle.std.specs.Prelude.{Some, None}
-use Rattle.std.specs.List.{position_or_len, prefix_len, before_first, after_first}
-use Rattle.std.proofs.Common.{refl, sym, ◌∙◌, ap, arith, Bor}
-use Rattle.std.proofs.lemmas.Str.Pattern.{IsSplitOnceResult, split_once_first}
-use Rattle.broker_types.specs.Text.{Text}
-use Rattle.records.specs.Splits.{split_once, split_step}
+use Rattle.std.specs.Prelude.{◌≡◌, ◌<◌, ◌+◌, ◌∷◌, ◌==◌, ℕ, suc, [], length, take, drop, true, false, not, cond, Option}
+use Rattle.records.specs.Words.{Some, None, position_or_len, prefix_len, before_first, after_first, refl, sym, ◌∙◌, ap}
+use Rattle.records.specs.Words.{arith, Bor, IsSplitOnceResult, split_once_first, Text, split_once, split_step}
 
 found_later : (c x : ℕ) (s : Text) → (x == c) ≡ false
     → position_or_len (λ b. b == c) (x ∷ s) ≡ suc (position_or_len (λ b. b == c) s)

@@ -1,10 +1,7 @@
 -- What a pattern says: a text, and behind it nothing, one segment `{name}` or one or more segments `{*path}` (this
 -- project's definition; the notation is that of the crate `matchit`).
-use Rattle.std.specs.Prelude.{ℕ, [], ◌∷◌, length, drop, nat_eq, nat_lt, Bool, true, false, not, ◌&&◌, ◌==◌, Option}
-use Rattle.std.specs.Prelude.{Some, None, if◌then◌else◌}
-use Rattle.std.specs.List.{starts_with, list_all}
-use Rattle.broker_types.specs.Text.{Text}
-use Rattle.records.specs.Splits.{slash, split_once, lacks}
+use Rattle.std.specs.Prelude.{◌∷◌, ◌&&◌, ◌==◌, if◌then◌else◌, ℕ, [], length, drop, nat_eq, nat_lt, Bool, true, false}
+use Rattle.records.specs.Words.{not, Option, Some, None, starts_with, list_all, Text, slash, split_once, lacks}
 
 -- what stands behind the text of a pattern
 pub data Ending : Type 0 where

@@ -1,15 +1,9 @@
 -- Which pattern a path finds, and which row an operation is of.
-use Rattle.std.specs.Prelude.{◌≡◌, ◌||◌, ◌++◌, List, [], ◌∷◌, Bool, true, false, not, cond, unwrap_or}
-use Rattle.std.specs.Prelude.{Option, Some, None, option_map}
-use Rattle.std.specs.List.{find, list_all}
-use Rattle.std.proofs.Common.{refl, sym, ◌∙◌, ap, subst, inl, inr}
-use Rattle.std.proofs.lemmas.Bool.{and_parts, false≢true, or_cases}
-use Rattle.std.proofs.lemmas.Option.{none-some, same_Some}
-use Rattle.broker_types.specs.Text.{Text, same}
-use Rattle.broker_types.specs.TextLaws.{same_true}
-use Rattle.broker_types.specs.declared.ask.Verb.{Verb}
-use Rattle.records.specs.Splits.{slash, split_once}
-use Rattle.records.specs.SplitLaws.{lacking_split}
+use Rattle.std.proofs.Common.{◌≡◌, ◌||◌, ◌++◌, ◌∷◌, List, [], Bool, true, false, not, cond, unwrap_or, Option, Some, ap}
+use Rattle.records.specs.Words.{None, option_map, list_all, refl, sym, ◌∙◌, subst, inl, inr, and_parts, false≢true}
+use Rattle.records.specs.Words.{or_cases, none-some, same_Some, Text, same, same_true, Verb, slash, split_once}
+use Rattle.records.specs.Words.{lacking_split}
+use Rattle.std.specs.List.{find}
 use Rattle.mounts.specs.Forms.{form_of, has_form, are_bytes}
 use Rattle.mounts.specs.Laws.{FoundByForm, IsForm, NoneFoundByForm}
 use Rattle.mounts.specs.Patterns.{has_pattern, is_in_order, is_row, pattern_found, same_verb}

@@ -1,12 +1,6 @@
 -- Laws of routes and of mounts, as statements (this project's).
 use Rattle.std.specs.Prelude.{◌≡◌, ◌≤◌, ℕ, List, length, true, false, All, Option, Some, None, Ok}
-use Rattle.broker_types.specs.Text.{Text}
-use Rattle.broker_types.specs.Map.{Map}
-use Rattle.broker_types.specs.Broker.{Broker, Mount}
-use Rattle.broker_types.specs.Evolves.{Evolves}
-use Rattle.broker_types.specs.Sound.{Forms, Sound, SoundMounts}
-use Rattle.records.specs.Parts.{of_mounts, Tells}
-use Rattle.records.specs.Table.{Table}
+use Rattle.records.specs.Words.{Text, Map, Broker, Mount, Evolves, Forms, Sound, SoundMounts, of_mounts, Tells, Table}
 use Rattle.mounts.specs.declared.mount_type.MountType.{MountType}
 use Rattle.mounts.specs.Forms.{form_of, has_form, are_bytes}
 use Rattle.mounts.specs.MountRows.{AreMounts}

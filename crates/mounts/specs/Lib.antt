@@ -12,3 +12,4 @@ pub mod RouterProps
 pub mod SoundLaws
 pub mod TellLaws
 pub mod Types
+pub mod Words

@@ -1,19 +1,10 @@
 -- Mounts as rows: each has one, at its name (this project's row format).
 use Rattle.std.specs.Prelude.{◌≡◌, Option, None, is_some, ℕ, List, [], Result, Ok}
 use Rattle.std.specs.FinMap as fin
-use Rattle.std.specs.List.{fold}
-use Rattle.broker_types.specs.Text.{Text, text_cmp}
-use Rattle.broker_types.specs.Map.{Map, get}
-use Rattle.broker_types.specs.Broker.{Mount}
-use Rattle.broker_types.specs.Refuse.{◌>>=◌}
-use Rattle.broker_types.specs.declared.refusal.Refusal.{Refusal}
+use Rattle.records.specs.Words.{fold, Text, text_cmp, Map, get, Mount, ◌>>=◌, Refusal, RowKey, IsMountInRange, IsRowOf}
+use Rattle.records.specs.Words.{mount_row, Table, with_row, without_row}
 use Rattle.records.specs.declared.kind.Kind.TheVariants as kind
 use Rattle.records.specs.declared.row.Row.{Row}
-use Rattle.records.specs.Kind.{RowKey}
-use Rattle.records.specs.Ranges.{IsMountInRange}
-use Rattle.records.specs.RowReaders.{IsRowOf}
-use Rattle.records.specs.RowForms.{mount_row}
-use Rattle.records.specs.Table.{Table, with_row, without_row}
 use Rattle.mounts.specs.declared.mount_type.MountType.{MountType}
 use Rattle.mounts.specs.Mounts as mounts
 use Rattle.mounts.specs.Types.{fixed_type}

@@ -1,18 +1,11 @@
 -- Mounts, enabled, disabled and listed (Vault's documentation, "/sys/mounts"; the engine that issues credentials, and
 -- the names that are reserved, are this project's).
-use Rattle.std.specs.Prelude.{ℕ, ◌==◌, List, ◌∷◌, [], ◌++◌, map, Bool, false, not, ◌&&◌, ◌||◌, if◌then◌else◌, Option}
-use Rattle.std.specs.Prelude.{Some, None, is_some, Result, Ok, codes, ⊤}
-use Rattle.std.specs.List.{list_any, fold}
-use Rattle.std.specs.Option.{option_map_or}
-use Rattle.broker_types.specs.Text.{Text, same}
-use Rattle.broker_types.specs.Name.{is_name, reserved_names}
-use Rattle.broker_types.specs.Map.{Map, get, empty, put, without, entries}
-use Rattle.broker_types.specs.Broker.{Mount, Engine, kv, issued}
-use Rattle.broker_types.specs.Refuse.{◌>>=◌, some_or, unless}
-use Rattle.broker_types.specs.declared.refusal.Refusal.{Refusal}
+use Rattle.std.specs.Prelude.{◌==◌, ◌∷◌, ◌++◌, ◌&&◌, ◌||◌, if◌then◌else◌, ℕ, List, [], map, Bool, false, not, Option, ⊤}
+use Rattle.records.specs.Words.{Some, None, is_some, Result, Ok, codes, list_any, fold, option_map_or, Text, same}
+use Rattle.records.specs.Words.{is_name, reserved_names, Map, get, empty, put, without, entries, Mount, Engine, kv}
+use Rattle.records.specs.Words.{issued, ◌>>=◌, some_or, unless, Refusal, slash}
 use Rattle.broker_types.specs.declared.refusal.Refusal.TheVariants as refusal
 use Rattle.broker_types.specs.declared.refusal.Reason.TheVariants as reason
-use Rattle.records.specs.Splits.{slash}
 use Rattle.mounts.specs.declared.mount_type.MountType.{MountType}
 use Rattle.mounts.specs.declared.mount_type.MountType.TheVariants as mount
 use Rattle.mounts.specs.Types.{type_of}

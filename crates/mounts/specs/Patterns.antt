@@ -1,16 +1,13 @@
 -- The router of a table's rows, and which of its patterns a path finds (the search is that of the crate `matchit`).
-use Rattle.std.specs.Prelude.{ℕ, List, [], ◌∷◌, ◌++◌, Bool, true, false, not, ◌&&◌, ◌||◌, if◌then◌else◌, Option, Some}
-use Rattle.std.specs.Prelude.{None, is_none, Result, Ok, Err, option_map}
-use Rattle.std.specs.List.{list_all, list_any}
-use Rattle.std.specs.Option.{option_map_or}
+use Rattle.std.specs.Prelude.{◌∷◌, ◌++◌, ◌&&◌, ◌||◌, if◌then◌else◌, ℕ, List, [], Bool, true, false, not, Option, Some}
+use Rattle.records.specs.Words.{None, is_none, Result, Ok, Err, option_map, list_all, list_any, option_map_or, Text}
+use Rattle.records.specs.Words.{same, Verb}
 use Rattle.matchit.specs.Rows.{RowsOf, param_token, catch_all_token}
 use Rattle.matchit.specs.Order.{placed}
 use Rattle.matchit.specs.Route.{Scan, parse_route}
 use Rattle.matchit.specs.Router.{RouteOf, route_from, nearest}
 use Rattle.matchit.specs.Seek.{first}
 use Rattle.matchit.specs.declared.error.InsertError.{InsertError}
-use Rattle.broker_types.specs.Text.{Text, same}
-use Rattle.broker_types.specs.declared.ask.Verb.{Verb}
 use Rattle.broker_types.specs.declared.ask.Verb.TheVariants as verb
 use Rattle.mounts.specs.Forms.{Ending, nothing, segment, segments, Form, form_of, has_parameter, are_bytes}
 use Rattle.mounts.specs.RouteTable.{takes_parameter}

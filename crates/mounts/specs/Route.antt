@@ -1,18 +1,11 @@
 -- Which operation a verb and a path mean (Vault's documentation, "HTTP API"; RFC 9110, section 15.5.6, for a method
 -- that is not allowed).
-use Rattle.std.specs.Prelude.{List, [], Bool, ◌&&◌, Option, option_map, Result, Ok, unwrap_or}
-use Rattle.std.specs.List.{find, list_any}
-use Rattle.std.specs.Option.{option_map_or}
-use Rattle.broker_types.specs.Text.{Text}
-use Rattle.broker_types.specs.Map.{Map, get}
-use Rattle.broker_types.specs.Broker.{Mount}
-use Rattle.broker_types.specs.Refuse.{◌>>=◌, some_or}
-use Rattle.broker_types.specs.declared.ask.Verb.{Verb}
+use Rattle.std.specs.Prelude.{◌&&◌, List, [], Bool, Option, option_map, Result, Ok, unwrap_or}
+use Rattle.std.specs.List.{find}
+use Rattle.records.specs.Words.{list_any, option_map_or, Text, Map, get, Mount, ◌>>=◌, some_or, Verb, Methods, Refusal}
+use Rattle.records.specs.Words.{slash, split_once}
 use Rattle.broker_types.specs.declared.ask.Verb.TheVariants as verb
-use Rattle.broker_types.specs.declared.status.Methods.{Methods}
-use Rattle.broker_types.specs.declared.refusal.Refusal.{Refusal}
 use Rattle.broker_types.specs.declared.refusal.Refusal.TheVariants as refusal
-use Rattle.records.specs.Splits.{slash, split_once}
 use Rattle.mounts.specs.declared.operation.Operation.{Operation}
 use Rattle.mounts.specs.Forms.{parameter, form_of, has_form}
 use Rattle.mounts.specs.Patterns.{pattern_found, is_row}

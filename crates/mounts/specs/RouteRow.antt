@@ -1,7 +1,5 @@
 -- A row of the table of routes: which operation a verb means at the paths of a pattern (this project's definition).
-use Rattle.std.specs.Prelude.{List, map}
-use Rattle.broker_types.specs.Text.{Text}
-use Rattle.broker_types.specs.declared.ask.Verb.{Verb}
+use Rattle.records.specs.Words.{List, map, Text, Verb}
 use Rattle.mounts.specs.declared.operation.Operation.{Operation}
 use Rattle.mounts.specs.declared.table.RouteRow as code
 

@@ -2,15 +2,15 @@
 -- (Vault's documentation, "HTTP API"). Rows of one pattern stand together. A route that is not served has no row. What
 -- each operation asks for before its body is read; and which take a name or a path from the path of their request (this
 -- project's definition).
-use Rattle.std.specs.Prelude.{List, [], ◌∷◌, Bool, true, false, codes}
+use Rattle.std.specs.Prelude.{◌∷◌, List, [], Bool, true, false, codes}
 use Rattle.broker_types.specs.declared.ask.Verb.TheVariants as verb
 use Rattle.mounts.specs.declared.mount_type.MountType.{MountType}
 use Rattle.mounts.specs.declared.mount_type.MountType.TheVariants as mount
 use Rattle.mounts.specs.declared.operation.CubbyholeOperation.{CubbyholeOperation}
 use Rattle.mounts.specs.declared.operation.Facts.{Facts}
 use Rattle.mounts.specs.declared.operation.Operation.{Operation}
-use Rattle.mounts.specs.declared.operation.Operation.TheVariants.{Cubbyholes, Tokens, Secrets, Policies}
-use Rattle.mounts.specs.declared.operation.Operation.TheVariants.{Mounts, Leases, Issued, Wrappings}
+use Rattle.mounts.specs.declared.operation.Operation.TheVariants.{Cubbyholes, Tokens, Secrets, Policies, Mounts, Leases}
+use Rattle.mounts.specs.declared.operation.Operation.TheVariants.{Issued, Wrappings}
 use Rattle.mounts.specs.declared.operation.CubbyholeOperation.TheVariants as cubbyhole
 use Rattle.mounts.specs.declared.operation.IssuedOperation.{IssuedOperation}
 use Rattle.mounts.specs.declared.operation.IssuedOperation.TheVariants as issued

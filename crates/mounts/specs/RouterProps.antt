@@ -1,9 +1,7 @@
 -- The router of each type of mounts, and what a router is made of, for a struct that keeps it.
-use Rattle.std.specs.Prelude.{ℕ, List}
-use Rattle.std.proofs.Common.{refl}
-use Rattle.std.specs.Coded.{Coded, codes, code_by, coded_ℕ, coded_list, coded×}
+use Rattle.records.specs.Words.{ℕ, List, refl, Coded, code_by, coded_ℕ, coded_list, coded×, Text}
+use Rattle.std.specs.Coded.{codes}
 use Rattle.matchit.specs.Router.{RouteOf}
-use Rattle.broker_types.specs.Text.{Text}
 use Rattle.mounts.specs.declared.mount_type.MountType.{MountType}
 use Rattle.mounts.specs.Patterns.{Router, router_of}
 use Rattle.mounts.specs.RouteTable.{route_rows}

@@ -1,25 +1,12 @@
 -- Mounts that are enabled or disabled leave a sound broker sound, and let it evolve.
 use Rattle.std.specs.Prelude.{◌≡◌, ◌<◌, ◌^◌, ◌||◌, ℕ, Bool, true, false, not, cond, Option, Some, None, Result, Ok, Err}
-use Rattle.std.specs.Prelude.{is_some}
-use Rattle.std.specs.List.{list_any}
-use Rattle.std.proofs.Common.{refl, sym, ◌∙◌, ap, subst, lit<}
-use Rattle.std.proofs.lemmas.Bool.{and_from, or_parts, not_from_false}
-use Rattle.std.proofs.lemmas.Option.{none-some, same_Some}
-use Rattle.broker_types.specs.Text.{Text, same}
-use Rattle.broker_types.specs.TextLaws.{same_true}
-use Rattle.broker_types.specs.Map.{Map, get, put, without}
-use Rattle.broker_types.specs.MapLaws.{get-put, get-without}
-use Rattle.broker_types.specs.Name.{is_name, reserved_names, is_mount_name}
-use Rattle.broker_types.specs.Broker.{Broker, Mount, Engine}
-use Rattle.broker_types.specs.Evolves.{Evolves}
-use Rattle.broker_types.specs.RefuseLaws.{no_ok}
-use Rattle.broker_types.specs.FieldLaws.{sound_with, evolves_with}
-use Rattle.broker_types.specs.Sound.{Forms, Sound, SoundMounts, IsSoundMount}
-use Rattle.broker_types.specs.Refuse.{◌>>=◌, some_or, unless}
-use Rattle.broker_types.specs.declared.refusal.Refusal.{Refusal}
+use Rattle.records.specs.Words.{is_some, list_any, refl, sym, ◌∙◌, ap, subst, lit<, and_from, or_parts, not_from_false}
+use Rattle.records.specs.Words.{none-some, same_Some, Text, same, same_true, Map, get, put, without, get-put}
+use Rattle.records.specs.Words.{get-without, is_name, reserved_names, is_mount_name, Broker, Mount, Engine, Evolves}
+use Rattle.records.specs.Words.{no_ok, sound_with, evolves_with, Forms, Sound, SoundMounts, IsSoundMount, ◌>>=◌}
+use Rattle.records.specs.Words.{some_or, unless, Refusal, ok_inj}
 use Rattle.broker_types.specs.declared.refusal.Refusal.TheVariants as refusal
 use Rattle.broker_types.specs.declared.refusal.Reason.TheVariants as reason
-use Rattle.records.specs.ValueLaws.{ok_inj}
 use Rattle.mounts.specs.Mounts.{engine_asked, plain_mount, new_mount, enabled, may_go, disabled}
 
 -- ---- what is enabled

@@ -1,12 +1,6 @@
 -- The rows of mounts that a broker has tell its mounts, and they alone do (this project's).
-use Rattle.std.proofs.Common.{refl, sym, ◌∙◌}
-use Rattle.std.proofs.lemmas.Bool.{false≢true}
-use Rattle.broker_types.specs.Broker.{Broker}
-use Rattle.broker_types.specs.Sound.{SoundMounts}
+use Rattle.records.specs.Words.{refl, sym, ◌∙◌, false≢true, Broker, SoundMounts, of_mounts, Tells, Table, mount_rows}
 use Rattle.records.specs.declared.kind.Kind.TheVariants as kind
-use Rattle.records.specs.Parts.{of_mounts, Tells}
-use Rattle.records.specs.Table.{Table}
-use Rattle.records.specs.PartLaws.{mount_rows}
 use Rattle.mounts.specs.MountRows.{AreMounts}
 
 module _ (rows : Table) (b : Broker) where

@@ -1,8 +1,6 @@
 -- Types of mounts (Vault's documentation, "Secrets engines"; the engine that issues credentials is this project's).
-use Rattle.std.specs.Prelude.{Option, Some, None, if◌then◌else◌, option_map, codes}
-use Rattle.broker_types.specs.Text.{Text, same}
-use Rattle.broker_types.specs.Broker.{Mount, Engine, kv, issued}
-use Rattle.records.specs.Rows.{or_else}
+use Rattle.std.specs.Prelude.{if◌then◌else◌, Option, Some, None, option_map, codes}
+use Rattle.records.specs.Words.{Text, same, Mount, Engine, kv, issued, or_else}
 use Rattle.mounts.specs.declared.mount_type.MountType.{MountType}
 use Rattle.mounts.specs.declared.mount_type.MountType.TheVariants as mount
 

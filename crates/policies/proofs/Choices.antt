@@ -1,20 +1,10 @@
 -- The first pattern that is tried and named is the one of the best place.
-use Rattle.std.specs.Prelude.{nat_lt}
-use Rattle.std.specs.List.{list_any, find, fold}
-use Rattle.std.specs.Option.{option_map_or}
-use Rattle.std.proofs.Common.{◌≡◌, ℕ, ◌+◌, ◌==◌, ◌≤◌, ◌&&◌, ◌||◌, ◌⊎◌, inl, inr, refl, sym, ◌∙◌}
-use Rattle.std.proofs.Common.{ap, subst, arith, List, [], ◌∷◌, length, Bool, true, false, not, if◌then◌else◌, Some}
-use Rattle.std.proofs.lemmas.Bool.{or_parts}
-use Rattle.std.proofs.lemmas.Bool.Decides.{nat_tests}
-use Rattle.broker_types.specs.Text.{Text}
-use Rattle.broker_types.specs.declared.ask.Verb.{Verb}
-use Rattle.policies.specs.declared.capability.Capability.{Capability}
-use Rattle.policies.specs.declared.pattern.Pattern.{Pattern}
-use Rattle.policies.specs.CapabilityWords.{is_grant, is_deny}
-use Rattle.policies.specs.Patterns.{same_pattern, tried}
-use Rattle.policies.specs.Rules.{Rule, Rules}
-use Rattle.policies.specs.Allows.{is_named, is_granted, allows}
-use Rattle.policies.specs.PatternPlaces.{place, step, best_allows}
+use Rattle.std.specs.Prelude.{◌≡◌, ◌+◌, ◌==◌, ◌≤◌, ◌&&◌, ◌||◌, ◌⊎◌, ◌∷◌, if◌then◌else◌, nat_lt, ℕ, refl, List, [], Bool}
+use Rattle.records.specs.Words.{list_any, fold, option_map_or, inl, inr, sym, ◌∙◌, ap, subst, arith, length, true}
+use Rattle.records.specs.Words.{false, not, Some, or_parts, nat_tests, Text, Verb}
+use Rattle.std.specs.List.{find}
+use Rattle.policies.specs.Words.{Capability, Pattern, is_grant, is_deny, same_pattern, tried, Rule, Rules, is_named}
+use Rattle.policies.specs.Words.{is_granted, allows, place, step, best_allows}
 use Rattle.policies.proofs.Bests.{none, said_at, gives, refuses, Folded, folded}
 
 -- ---- tests over rules

@@ -1,29 +1,14 @@
 -- Laws of what policies grant.
-use Rattle.std.specs.Prelude.{◌≡◌, List, [], ◌∷◌, ◌++◌, Bool, true, false, not, ◌&&◌, ◌||◌, Some, None, flat_map}
-use Rattle.std.specs.Prelude.{unwrap_or, option_and_then}
-use Rattle.std.specs.List.{list_any, find}
-use Rattle.std.specs.Option.{option_map_or}
-use Rattle.std.proofs.Common.{refl, sym, ◌∙◌, ap, IsPermutation}
-use Rattle.std.proofs.lemmas.Bool.{and_parts, and_from, or_right, false≢true, not-true, false_from_ne_true}
-use Rattle.std.proofs.lemmas.List.Folds.{list_any-append}
-use Rattle.std.proofs.lemmas.List.Sorted.{list_any-IsPermutation}
-use Rattle.broker_types.specs.Map.{Map, get}
-use Rattle.broker_types.specs.Text.{Text, same}
-use Rattle.broker_types.specs.TextLaws.{same_self}
-use Rattle.broker_types.specs.declared.ask.Verb.{Verb}
-use Rattle.records.specs.Children.{has}
-use Rattle.records.specs.HasLaws.{any_found, any_from}
-use Rattle.policies.specs.declared.capability.Capability.{Capability}
+use Rattle.std.proofs.Common.{◌≡◌, ◌∷◌, ◌++◌, ◌&&◌, ◌||◌, List, [], Bool, true, false, not, Some, None, flat_map, refl}
+use Rattle.records.specs.Words.{unwrap_or, option_and_then, list_any, option_map_or, sym, ◌∙◌, ap, IsPermutation}
+use Rattle.records.specs.Words.{and_parts, and_from, or_right, false≢true, not-true, false_from_ne_true}
+use Rattle.records.specs.Words.{list_any-append, list_any-IsPermutation, Map, get, Text, same, same_self, Verb, has}
+use Rattle.records.specs.Words.{any_found, any_from}
+use Rattle.std.specs.List.{find}
+use Rattle.policies.specs.Words.{Capability, Pattern, chosen, is_said, is_granted, allows, rules_named, rules_of}
+use Rattle.policies.specs.Words.{grants, Says, IsGranted, same_pattern, tried, is_root, policy_of, Rule, is_grant}
+use Rattle.policies.specs.Words.{is_deny}
 use Rattle.policies.specs.declared.capability.Word.{Word}
-use Rattle.policies.specs.declared.pattern.Pattern.{Pattern}
-use Rattle.policies.specs.Allows.{chosen, is_said, is_granted, allows}
-use Rattle.policies.specs.Grants.{rules_named, rules_of, grants}
-use Rattle.policies.specs.Laws.{Says, IsGranted}
-use Rattle.policies.specs.Patterns.{same_pattern, tried}
-use Rattle.policies.specs.Policies.{is_root}
-use Rattle.policies.specs.PolicyTexts.{policy_of}
-use Rattle.policies.specs.Rules.{Rule}
-use Rattle.policies.specs.CapabilityWords.{is_grant, is_deny}
 
 any_flat : {X Y : Type 0} (p : Y → Bool) (f : X → List Y) (xs : List X)
     → list_any p (flat_map f xs) ≡ list_any (λ x. list_any p (f x)) xs

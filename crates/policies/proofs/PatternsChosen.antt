@@ -1,21 +1,11 @@
 -- Which pattern is chosen: that of a rule, an exact one or the longest prefix.
-use Rattle.std.specs.Prelude.{nat_eq, is_some}
-use Rattle.std.specs.List.{find, starts_with}
-use Rattle.std.proofs.Common.{◌≡◌, ◌≢◌, ℕ, ◌+◌, ◌≤◌, ◌<◌, ◌⊎◌, inl, inr, refl, sym, ◌∙◌, ap, subst, arith, List, []}
-use Rattle.std.proofs.Common.{◌∷◌, length, Bool, true, false, cond, if◌then◌else◌, Some}
-use Rattle.std.proofs.lemmas.Bool.{false≢true}
-use Rattle.std.proofs.lemmas.Option.{none-some, same_Some}
-use Rattle.broker_types.specs.Text.{Text, same}
-use Rattle.broker_types.specs.TextLaws.{same_self, same_true}
-use Rattle.broker_types.specs.declared.ask.Verb.{Verb}
+use Rattle.std.proofs.Common.{◌≡◌, ◌≢◌, ◌+◌, ◌≤◌, ◌<◌, ◌⊎◌, ◌∷◌, if◌then◌else◌, nat_eq, is_some, ℕ, inl, inr, refl, sym}
+use Rattle.std.specs.List.{find}
+use Rattle.records.specs.Words.{starts_with, ◌∙◌, ap, subst, arith, List, [], length, Bool, true, false, cond, Some}
+use Rattle.records.specs.Words.{false≢true, none-some, same_Some, Text, same, same_self, same_true, Verb}
 use Rattle.broker_types.specs.declared.ask.Verb.TheVariants as verb
-use Rattle.policies.specs.declared.pattern.Pattern.{Pattern}
-use Rattle.policies.specs.declared.pattern.Pattern.TheVariants.{Exact, Prefix}
-use Rattle.policies.specs.Allows.{is_named, chosen}
-use Rattle.policies.specs.Laws.{IsLongest}
-use Rattle.policies.specs.Patterns.{same_pattern, with_slash, tried}
-use Rattle.policies.specs.PatternPlaces.{place, exact_place, tried_text}
-use Rattle.policies.specs.Rules.{Rules}
+use Rattle.policies.specs.Words.{Pattern, Exact, Prefix, is_named, chosen, IsLongest, same_pattern, with_slash, tried}
+use Rattle.policies.specs.Words.{place, exact_place, tried_text, Rules}
 use Rattle.policies.proofs.Choices.{most_places}
 use Rattle.policies.proofs.PlaceLemmas.{exact_placed, prefix_placed}
 

@@ -1,18 +1,10 @@
 -- How early a pattern is tried.
-use Rattle.std.specs.Prelude.{nat_eq}
-use Rattle.std.specs.List.{starts_with}
-use Rattle.std.proofs.Common.{◌≡◌, ℕ, ◌+◌, ◌==◌, ◌&&◌, ◌||◌, ◌⊎◌, inl, inr, refl, sym, ◌∙◌}
-use Rattle.std.proofs.Common.{ap, arith, List, [], ◌∷◌, ◌++◌, map, length, Bool, true, false, if◌then◌else◌}
-use Rattle.std.proofs.lemmas.Bool.Decides.{nat_tests}
-use Rattle.std.proofs.lemmas.List.{length-map}
-use Rattle.std.proofs.lemmas.Bool.{and_right}
-use Rattle.broker_types.specs.Text.{Text, same}
-use Rattle.broker_types.specs.TextLaws.{same_self}
-use Rattle.broker_types.specs.declared.ask.Verb.{Verb}
+use Rattle.std.proofs.Common.{◌≡◌, ◌+◌, ◌==◌, ◌&&◌, ◌||◌, ◌⊎◌, ◌∷◌, ◌++◌, if◌then◌else◌, nat_eq, ℕ, inl, inr, refl, sym}
+use Rattle.records.specs.Words.{starts_with, ◌∙◌, ap, arith, List, [], map, length, Bool, true, false, nat_tests}
+use Rattle.records.specs.Words.{length-map, and_right, Text, same, same_self, Verb}
 use Rattle.broker_types.specs.declared.ask.Verb.TheVariants as verb
-use Rattle.policies.specs.declared.pattern.Pattern.TheVariants.{Exact, Prefix}
-use Rattle.policies.specs.Patterns.{tried, beginnings, with_slash}
-use Rattle.policies.specs.PatternPlaces.{place, exact_place, prefix_place, tried_text}
+use Rattle.policies.specs.Words.{Exact, Prefix, tried, beginnings, with_slash, place, exact_place, prefix_place}
+use Rattle.policies.specs.Words.{tried_text}
 
 -- ---- among texts
 

@@ -1,21 +1,10 @@
 -- Rules gathered policy by policy.
-use Rattle.std.specs.Prelude.{◌≡◌, ◌<◌, ◌+◌, ℕ, suc, ◌++◌, List, [], ◌∷◌, length, take, drop, get_or, flat_map, All}
-use Rattle.std.specs.Prelude.{Any, Option, Some, None}
-use Rattle.std.specs.Prelude.{unwrap_or, option_and_then}
-use Rattle.std.proofs.Common.{sym, ◌∙◌, ap, subst, arith, append_assoc}
-use Rattle.std.proofs.Math.Seq.{drop-cons}
-use Rattle.std.proofs.lemmas.List.{take_more, get_or_default}
-use Rattle.std.proofs.lemmas.List.Elements.{All-push, All-same}
-use Rattle.std.proofs.lemmas.Option.{none-some, same_Some}
-use Rattle.broker_types.specs.Map.{Map, get}
-use Rattle.broker_types.specs.Text.{Text}
-use Rattle.records.specs.Table.{Table, table_of}
-use Rattle.records.specs.Transaction.{Rows}
-use Rattle.policies.specs.Grants.{rules_named}
-use Rattle.policies.specs.PolicyLaws.{one_policy}
-use Rattle.policies.specs.PolicyRows.{IsPolicyAt, ArePoliciesAt, GivesRules, IsReadable, IsUnreadable, kept_rules}
-use Rattle.policies.specs.PolicyTexts.{policy_of}
-use Rattle.policies.specs.Rules.{Rule}
+use Rattle.std.proofs.Common.{◌≡◌, ◌<◌, ◌+◌, ◌++◌, ◌∷◌, ℕ, suc, List, [], length, take, drop, get_or, flat_map, All, ap}
+use Rattle.records.specs.Words.{Any, Option, Some, None, unwrap_or, option_and_then, sym, ◌∙◌, subst, arith}
+use Rattle.records.specs.Words.{append_assoc, drop-cons, take_more, get_or_default, All-push, All-same, none-some}
+use Rattle.records.specs.Words.{same_Some, Map, get, Text, Table, table_of, Rows}
+use Rattle.policies.specs.Words.{rules_named, one_policy, IsPolicyAt, ArePoliciesAt, GivesRules, IsReadable}
+use Rattle.policies.specs.Words.{IsUnreadable, kept_rules, policy_of, Rule}
 
 kept_named : (o : Option Text) (rules : List Rule) → kept_rules o ≡ Some rules
     → unwrap_or (option_and_then policy_of o) [] ≡ rules

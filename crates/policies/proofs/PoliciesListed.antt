@@ -1,23 +1,11 @@
 -- The list of policies, from the rows of policies.
-use Rattle.std.specs.Prelude.{◌≡◌, List, [], ◌∷◌, map, if◌then◌else◌}
-use Rattle.std.specs.Cmp.Lexicographic.{nat_list_cmp_total}
+use Rattle.std.proofs.Common.{◌≡◌, ◌∷◌, if◌then◌else◌, List, [], map, refl, sym, ◌∙◌, ap}
+use Rattle.records.specs.Words.{nat_list_cmp_total, is_lt, ordering_reverse, by_order, Less, Equal, Greater, Map, put}
+use Rattle.records.specs.Words.{entries, keys, Text, text_cmp, keys_under, RowKey, rows_under-listing, policy_row}
+use Rattle.records.specs.Words.{table_of, Rows}
 use Rattle.std.specs.FinMap as fin
-use Rattle.std.specs.Ordering.{is_lt, ordering_reverse}
-use Rattle.std.specs.FinMap.Entries.{by_order}
-use Rattle.std.specs.declared.cmp.Ordering.TheVariants.{Less, Equal, Greater}
-use Rattle.std.proofs.Common.{refl, sym, ◌∙◌, ap}
-use Rattle.broker_types.specs.Map.{Map, put, entries, keys}
-use Rattle.broker_types.specs.Text.{Text, text_cmp}
 use Rattle.records.specs.declared.kind.Kind.TheVariants as kind
-use Rattle.records.specs.declared.row.Row.{Row}
-use Rattle.records.specs.Children.{keys_under}
-use Rattle.records.specs.Kind.{RowKey}
-use Rattle.records.specs.ListingLaws.{rows_under-listing}
-use Rattle.records.specs.RowForms.{policy_row}
-use Rattle.records.specs.Table.{table_of}
-use Rattle.records.specs.Transaction.{Rows}
-use Rattle.policies.specs.Policies.{root, default, listed}
-use Rattle.policies.specs.PolicyRows.{ArePolicies, with_name, all_names}
+use Rattle.policies.specs.Words.{Row, root, default, listed, ArePolicies, with_name, all_names}
 
 names_of : (es : List (Text × Text))
     → map (λ (e : RowKey × Row). e.0.1) (map (λ (e : Text × Text). ((kind.Policy, e.0), policy_row e.1)) es) ≡ map

@@ -1,23 +1,11 @@
 -- Rows of policies, edited.
-use Rattle.std.specs.Prelude.{◌≡◌, ◌==◌, ◌&&◌, Bool, true, false, if◌then◌else◌, cond, Some, None, option_map, Result}
-use Rattle.std.specs.Prelude.{Ok}
-use Rattle.std.proofs.Common.{refl, sym, ◌∙◌, ap, subst}
-use Rattle.broker_types.specs.Map.{Map, get, put, without}
-use Rattle.broker_types.specs.MapLaws.{get-put, get-without}
-use Rattle.broker_types.specs.Refuse.{◌>>=◌}
-use Rattle.broker_types.specs.RequestError.{Ends}
-use Rattle.broker_types.specs.Text.{Text, same}
-use Rattle.broker_types.specs.declared.refusal.Refusal.{Refusal}
+use Rattle.std.proofs.Common.{◌≡◌, ◌==◌, ◌&&◌, if◌then◌else◌, Bool, true, false, cond, Some, None, option_map, Result}
+use Rattle.records.specs.Words.{Ok, refl, sym, ◌∙◌, ap, subst, Map, get, put, without, get-put, get-without, ◌>>=◌}
+use Rattle.records.specs.Words.{Ends, Text, same, Refusal, kind_number, same_kind, of_policies, KeepsOthers, policy_row}
+use Rattle.records.specs.Words.{Table, with_row, without_row, false≢true}
 use Rattle.records.specs.declared.kind.Kind.{Kind}
 use Rattle.records.specs.declared.kind.Kind.TheVariants as kind
-use Rattle.records.specs.declared.row.Row.{Row}
-use Rattle.records.specs.Kind.{kind_number}
-use Rattle.records.specs.KeyLaws.{same_kind}
-use Rattle.records.specs.Parts.{of_policies, KeepsOthers}
-use Rattle.records.specs.RowForms.{policy_row}
-use Rattle.records.specs.Table.{Table, with_row, without_row}
-use Rattle.std.proofs.lemmas.Bool.{false≢true}
-use Rattle.policies.specs.PolicyRows.{ArePolicies}
+use Rattle.policies.specs.Words.{Row, ArePolicies}
 
 -- a step that answered, and then the value
 

@@ -1,19 +1,9 @@
 -- Policies that rows tell.
-use Rattle.std.specs.Prelude.{◌≡◌, Bool, true, false, if◌then◌else◌, Option, Some, None, [], Result, Ok, Err, IfOk}
-use Rattle.std.proofs.Common.{refl, sym, ◌∙◌, ap}
-use Rattle.std.proofs.lemmas.Option.{none-some, same_Some}
-use Rattle.broker_types.specs.Map.{Map, get}
-use Rattle.broker_types.specs.Sound.{SoundPolicies, IsShortText}
-use Rattle.broker_types.specs.Text.{Text}
+use Rattle.std.proofs.Common.{◌≡◌, if◌then◌else◌, Bool, true, false, Option, Some, None, [], Result, Ok, Err, IfOk, sym}
+use Rattle.records.specs.Words.{refl, ◌∙◌, ap, none-some, same_Some, Map, get, SoundPolicies, IsShortText, Text}
+use Rattle.records.specs.Words.{IsSomeIn, policy_row, Table}
 use Rattle.records.specs.declared.kind.Kind.TheVariants as kind
-use Rattle.records.specs.declared.row.Row.{Row}
-use Rattle.records.specs.RowReaders.{IsSomeIn}
-use Rattle.records.specs.RowForms.{policy_row}
-use Rattle.records.specs.Table.{Table}
-use Rattle.policies.specs.Policies.{is_root, text_of}
-use Rattle.policies.specs.PolicyLaws.{one_policy}
-use Rattle.policies.specs.PolicyRows.{IsPolicyAt, ArePolicies}
-use Rattle.policies.specs.PolicyTexts.{policy_forms}
+use Rattle.policies.specs.Words.{Row, is_root, text_of, one_policy, IsPolicyAt, ArePolicies, policy_forms}
 
 -- the text that is told is that of the policy
 pub text_told : (rows : Table) (policies : Map Text) (name : Text) (o : Option Text) → is_root name ≡ false

@@ -1,8 +1,7 @@
 -- Which capabilities rules allow at a path (Vault's documentation, "Policies", policy syntax and capabilities).
-use Rattle.std.specs.Prelude.{List, Bool, false, not, ◌&&◌, ◌||◌, Option}
-use Rattle.std.specs.List.{list_any, find}
-use Rattle.std.specs.Option.{option_map_or}
-use Rattle.broker_types.specs.Text.{Text}
+use Rattle.std.specs.Prelude.{◌&&◌, ◌||◌, List, Bool, false, not, Option}
+use Rattle.records.specs.Words.{list_any, option_map_or, Text}
+use Rattle.std.specs.List.{find}
 use Rattle.policies.specs.declared.capability.Capability.{Capability}
 use Rattle.policies.specs.declared.capability.Word.{Word}
 use Rattle.policies.specs.declared.pattern.Pattern.{Pattern}

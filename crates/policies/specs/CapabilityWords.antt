@@ -1,6 +1,6 @@
 -- What a policy says of a pattern: capabilities, and the words `deny` and `patch` (Vault's documentation, "Policies",
 -- capabilities; that `patch` grants nothing is this project's).
-use Rattle.std.specs.Prelude.{Bool, true, false}
+use Rattle.records.specs.Words.{Bool, true, false}
 use Rattle.policies.specs.declared.capability.Capability.{Capability}
 use Rattle.policies.specs.declared.capability.Capability.TheVariants.{Create, Read, Update, Delete, List, Sudo}
 use Rattle.policies.specs.declared.capability.Word.{Word}

@@ -1,8 +1,7 @@
 -- Examples of policies: what they allow, and what texts are read as (this project's, after Vault's documentation,
 -- "Policies").
-use Rattle.std.specs.Prelude.{◌≡◌, List, [], ◌∷◌, ◌++◌, codes, Bool, true, false, Some, None}
-use Rattle.broker_types.specs.Text.{Text}
-use Rattle.broker_types.specs.declared.ask.Verb.{Verb}
+use Rattle.std.specs.Prelude.{◌≡◌, ◌∷◌, ◌++◌, List, [], codes, Bool, true, false, Some, None}
+use Rattle.records.specs.Words.{Text, Verb}
 use Rattle.broker_types.specs.declared.ask.Verb.TheVariants as verb
 use Rattle.policies.specs.declared.capability.Capability.{Capability}
 use Rattle.policies.specs.declared.capability.Capability.TheVariants as may

@@ -1,9 +1,5 @@
 -- What a caller's policies grant (Vault's documentation, "Policies").
-use Rattle.std.specs.Prelude.{List, [], Bool, option_and_then, unwrap_or, flat_map}
-use Rattle.std.specs.List.{list_any}
-use Rattle.broker_types.specs.Map.{Map, get}
-use Rattle.broker_types.specs.Text.{Text}
-use Rattle.broker_types.specs.declared.ask.Verb.{Verb}
+use Rattle.records.specs.Words.{List, [], Bool, option_and_then, unwrap_or, flat_map, list_any, Map, get, Text, Verb}
 use Rattle.policies.specs.declared.capability.Capability.{Capability}
 use Rattle.policies.specs.Allows.{allows}
 use Rattle.policies.specs.Policies.{is_root}

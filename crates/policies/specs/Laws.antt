@@ -1,19 +1,9 @@
 -- Laws of what policies grant, and of policies that are set and deleted, as statements (this project's; Vault's
 -- documentation, "Policies").
-use Rattle.std.specs.Prelude.{◌≡◌, ◌≢◌, ◌≤◌, ◌<◌, ◌^◌, ◌⊎◌, nat_eq, List, [], ◌∷◌, length, Bool, true, false, Option}
-use Rattle.std.specs.Prelude.{Some, None, Ok, is_some, IsPermutation}
-use Rattle.std.specs.List.{list_any, starts_with}
-use Rattle.broker_types.specs.Broker.{Broker}
-use Rattle.broker_types.specs.Evolves.{Evolves}
-use Rattle.broker_types.specs.First.{default_policy}
-use Rattle.broker_types.specs.Map.{Map, get}
-use Rattle.broker_types.specs.Sound.{Sound}
-use Rattle.broker_types.specs.Text.{Text}
-use Rattle.broker_types.specs.declared.ask.Verb.{Verb}
+use Rattle.std.specs.Prelude.{◌≡◌, ◌≢◌, ◌≤◌, ◌<◌, ◌^◌, ◌⊎◌, ◌∷◌, nat_eq, List, [], length, Bool, true, false, Option}
+use Rattle.records.specs.Words.{Some, None, Ok, is_some, IsPermutation, list_any, starts_with, Broker, Evolves}
+use Rattle.records.specs.Words.{default_policy, Map, get, Sound, Text, Verb, has, of_policies, Tells, Table}
 use Rattle.broker_types.specs.declared.ask.Verb.TheVariants as verb
-use Rattle.records.specs.Children.{has}
-use Rattle.records.specs.Parts.{of_policies, Tells}
-use Rattle.records.specs.Table.{Table}
 use Rattle.policies.specs.declared.capability.Capability.{Capability}
 use Rattle.policies.specs.declared.capability.Word.{Word}
 use Rattle.policies.specs.declared.pattern.Pattern.{Pattern}

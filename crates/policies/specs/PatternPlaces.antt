@@ -1,8 +1,6 @@
 -- How early a pattern is tried, as a number; what is known of the first pattern tried, rule by rule (this project's).
-use Rattle.std.specs.Prelude.{ℕ, ◌+◌, ◌==◌, nat_lt, nat_eq, List, [], ◌∷◌, ◌||◌, ◌&&◌, not, length, Bool, if◌then◌else◌}
-use Rattle.std.specs.List.{list_any, starts_with}
-use Rattle.broker_types.specs.Text.{Text, same}
-use Rattle.broker_types.specs.declared.ask.Verb.{Verb}
+use Rattle.std.specs.Prelude.{◌+◌, ◌==◌, ◌∷◌, ◌||◌, ◌&&◌, if◌then◌else◌, ℕ, nat_lt, nat_eq, List, [], not, length, Bool}
+use Rattle.records.specs.Words.{list_any, starts_with, Text, same, Verb}
 use Rattle.broker_types.specs.declared.ask.Verb.TheVariants as verb
 use Rattle.policies.specs.declared.allowing.Best.{Best}
 use Rattle.policies.specs.declared.capability.Capability.{Capability}

@@ -1,10 +1,8 @@
 -- Which patterns match a path, in the order in which they are tried (Vault's documentation, "Policies", policy syntax;
 -- for LIST this project's).
-use Rattle.std.specs.Prelude.{List, [], ◌∷◌, ◌++◌, map, Bool, false}
-use Rattle.broker_types.specs.Text.{Text, same}
-use Rattle.broker_types.specs.declared.ask.Verb.{Verb}
+use Rattle.std.specs.Prelude.{◌∷◌, ◌++◌, List, [], map, Bool, false}
+use Rattle.records.specs.Words.{Text, same, Verb, slash}
 use Rattle.broker_types.specs.declared.ask.Verb.TheVariants as verb
-use Rattle.records.specs.Splits.{slash}
 use Rattle.policies.specs.declared.pattern.Pattern.{Pattern}
 use Rattle.policies.specs.declared.pattern.Pattern.TheVariants.{Exact, Prefix}
 

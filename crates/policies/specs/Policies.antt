@@ -1,11 +1,7 @@
 -- Policies, set, deleted, read and listed (Vault's documentation, "/sys/policies"; the texts of refusals and their
 -- order are this project's).
-use Rattle.std.specs.Prelude.{List, [], Bool, ◌||◌, not, if◌then◌else◌, Option, Some, Result, Ok, codes, ⊤}
-use Rattle.broker_types.specs.Map.{Map, get, put, without, keys}
-use Rattle.broker_types.specs.Name.{is_name}
-use Rattle.broker_types.specs.Refuse.{◌>>=◌, unless}
-use Rattle.broker_types.specs.Text.{Text, same}
-use Rattle.broker_types.specs.declared.refusal.Refusal.{Refusal}
+use Rattle.std.specs.Prelude.{◌||◌, if◌then◌else◌, List, [], Bool, not, Option, Some, Result, Ok, codes, ⊤}
+use Rattle.records.specs.Words.{Map, get, put, without, keys, is_name, ◌>>=◌, unless, Text, same, Refusal}
 use Rattle.broker_types.specs.declared.refusal.Refusal.TheVariants as refusal
 use Rattle.broker_types.specs.declared.refusal.Reason.TheVariants as reason
 use Rattle.policies.specs.PolicyTexts.{policy_read}

@@ -1,31 +1,15 @@
 -- Policies that rows tell: which rows they are, and that they say one thing (this project's).
+use Rattle.std.specs.Prelude.{◌≡◌, ◌++◌, ◌∷◌, List, [], All, true, Option, Some, None, option_map, is_some, false, cond}
 use lib.Utf8.{encode}
-use Rattle.std.specs.Prelude.{◌≡◌, ◌++◌, List, [], ◌∷◌, All, true, Option, Some, None, option_map, is_some}
-use Rattle.std.specs.Prelude.{false, cond, drop, flat_map, option_and_then, unwrap_or}
-use Rattle.std.specs.List.{list_any}
-use Rattle.std.specs.Str.{is_utf8, chars}
-use Rattle.std.proofs.Common.{refl, sym, ◌∙◌, ap, subst}
-use Rattle.std.proofs.lemmas.Bool.{true≢false, false≢true}
-use Rattle.std.proofs.lemmas.List.Elements.{All-nil, All-cons, All-head, All-tail}
-use Rattle.std.proofs.lemmas.Option.{none-some, same_Some}
+use Rattle.records.specs.Words.{drop, flat_map, option_and_then, unwrap_or, list_any, is_utf8, chars, refl, sym, ◌∙◌}
+use Rattle.records.specs.Words.{ap, subst, true≢false, false≢true, All-nil, All-cons, All-head, All-tail, none-some}
+use Rattle.records.specs.Words.{same_Some, Broker, default_policy, Map, empty, get, put, without, get-put, get-without}
+use Rattle.records.specs.Words.{IsShortText, Text, same, same_true, same_self, Verb, of_policies, Tells, IsSomeIn}
+use Rattle.records.specs.Words.{policy_row, rows_of, count, Table}
 use Rattle.json.specs.Json.{value}
 use Rattle.json.specs.Lex.{lex, punctuate}
 use Rattle.json.specs.Text.{content}
-use Rattle.broker_types.specs.Broker.{Broker}
-use Rattle.broker_types.specs.First.{default_policy}
-use Rattle.broker_types.specs.Map.{Map, empty, get, put, without}
-use Rattle.broker_types.specs.MapLaws.{get-put, get-without}
-use Rattle.broker_types.specs.Sound.{IsShortText}
-use Rattle.broker_types.specs.Text.{Text, same}
-use Rattle.broker_types.specs.TextLaws.{same_true, same_self}
-use Rattle.broker_types.specs.declared.ask.Verb.{Verb}
 use Rattle.records.specs.declared.row.Row.{Row}
-use Rattle.records.specs.Parts.{of_policies, Tells}
-use Rattle.records.specs.RowReaders.{IsSomeIn}
-use Rattle.records.specs.RowForms.{policy_row}
-use Rattle.records.specs.Rows.{rows_of}
-use Rattle.records.specs.Spelling.{count}
-use Rattle.records.specs.Table.{Table}
 use Rattle.policies.specs.Grants.{rules_named, rules_of}
 use Rattle.policies.specs.Policies.{is_root}
 use Rattle.policies.specs.PolicyRows.{IsPolicyAt, ArePolicies, ArePoliciesAt, IsReadable}

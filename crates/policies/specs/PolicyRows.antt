@@ -1,16 +1,8 @@
 -- Policies as rows: each has one, at its name (this project's row format).
-use Rattle.std.specs.Prelude.{◌≡◌, List, [], ◌∷◌, false, if◌then◌else◌, Option, Some, None}
-use Rattle.std.specs.Prelude.{option_map, Result, Ok, All}
-use Rattle.std.specs.Ordering.{is_lt}
-use Rattle.broker_types.specs.Map.{Map, get}
-use Rattle.broker_types.specs.Refuse.{◌>>=◌}
-use Rattle.broker_types.specs.Sound.{IsShortText}
-use Rattle.broker_types.specs.Text.{Text, text_cmp}
-use Rattle.broker_types.specs.declared.refusal.Refusal.{Refusal}
+use Rattle.std.specs.Prelude.{◌≡◌, ◌∷◌, if◌then◌else◌, List, [], false, Option, Some, None, option_map, Result, Ok, All}
+use Rattle.records.specs.Words.{is_lt, Map, get, ◌>>=◌, IsShortText, Text, text_cmp, Refusal, IsSomeIn, policy_row}
+use Rattle.records.specs.Words.{Table, with_row, without_row}
 use Rattle.records.specs.declared.kind.Kind.TheVariants as kind
-use Rattle.records.specs.RowReaders.{IsSomeIn}
-use Rattle.records.specs.RowForms.{policy_row}
-use Rattle.records.specs.Table.{Table, with_row, without_row}
 use Rattle.policies.specs.Policies as policies
 use Rattle.policies.specs.Policies.{is_root, root, default}
 use Rattle.policies.specs.PolicyTexts.{policy_of}

@@ -1,19 +1,13 @@
 -- The texts of policies (Vault's documentation, "Policies" and "/sys/policies"; that they are JSON alone, and without
 -- parameters and segments `+`, is this project's).
-use Rattle.std.specs.Prelude.{◌==◌, ◌-◌, ◌&&◌, ◌||◌, ℕ, List, [], ◌∷◌, length, take, Bool, true, false, if◌then◌else◌}
-use Rattle.std.specs.Prelude.{Option, Some, None, option_map, option_and_then, is_some, Result, codes}
-use Rattle.std.specs.List.{list_any, slice_split}
+use Rattle.std.specs.Prelude.{◌==◌, ◌-◌, ◌&&◌, ◌||◌, ◌∷◌, if◌then◌else◌, ℕ, List, [], length, take, Bool, true, false}
+use Rattle.records.specs.Words.{Option, Some, None, option_map, option_and_then, is_some, Result, codes, list_any}
+use Rattle.records.specs.Words.{slice_split, some_or, Forms, Text, same, Refusal, slash}
 use Rattle.serde_json.specs.Data.{Data, Members, no_members, member}
 use Rattle.serde_json.specs.Find.{as_str, as_object, get_member}
-use Rattle.broker_types.specs.Refuse.{some_or}
-use Rattle.broker_types.specs.Sound.{Forms}
-use Rattle.broker_types.specs.Text.{Text, same}
-use Rattle.broker_types.specs.declared.refusal.Refusal.{Refusal}
 use Rattle.broker_types.specs.declared.refusal.Refusal.TheVariants as refusal
 use Rattle.broker_types.specs.declared.refusal.Reason.TheVariants as reason
-use Rattle.records.specs.Splits.{slash}
-use Rattle.api_json.specs.Json.{tree}
-use Rattle.api_json.specs.Kinds.{as_list}
+use Rattle.api_json.specs.Words.{tree, as_list}
 use Rattle.policies.specs.declared.capability.Capability.{Capability}
 use Rattle.policies.specs.declared.capability.Capability.TheVariants as may
 use Rattle.policies.specs.declared.capability.Word.{Word}

@@ -1,6 +1,5 @@
 -- What policies say (Vault's documentation, "Policies").
-use Rattle.std.specs.Prelude.{List, Bool}
-use Rattle.broker_types.specs.declared.ask.Verb.{Verb}
+use Rattle.records.specs.Words.{List, Bool, Verb}
 use Rattle.policies.specs.declared.capability.Word.{Word}
 use Rattle.policies.specs.declared.pattern.Pattern.{Pattern}
 

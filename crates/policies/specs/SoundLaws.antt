@@ -1,28 +1,15 @@
 -- Policies that are set or deleted leave a sound broker sound, and let it evolve.
-use Rattle.std.specs.Prelude.{◌≡◌, ◌<◌, ◌^◌, length, Bool, true, false, not, cond, Option, Some, None, is_some}
-use Rattle.std.specs.Prelude.{Ok, Err, ⊤, option_and_then, if◌then◌else◌, IsUtf8}
-use Rattle.std.specs.Str.{is_utf8}
-use Rattle.std.proofs.Common.{refl, sym, ◌∙◌, ap, subst, List}
-use Rattle.std.proofs.lemmas.Bool.{false≢true}
-use Rattle.std.proofs.lemmas.Option.{none-some, same_Some}
-use Rattle.std.proofs.lemmas.Str.{IsUtf8-from_is_utf8}
+use Rattle.std.specs.Prelude.{◌≡◌, ◌<◌, ◌^◌, if◌then◌else◌, length, Bool, true, false, not, cond, Option, Some, None, ⊤}
+use Rattle.records.specs.Words.{is_some, Ok, Err, option_and_then, IsUtf8, is_utf8, refl, sym, ◌∙◌, ap, subst, List}
+use Rattle.records.specs.Words.{false≢true, none-some, same_Some, IsUtf8-from_is_utf8, Broker, Evolves, Map, get, put}
+use Rattle.records.specs.Words.{without, get-put, get-without, is_name, ◌>>=◌, some_or, unless, no_ok, sound_with}
+use Rattle.records.specs.Words.{evolves_with, Forms, Sound, SoundPolicies, IsSoundPolicy, Text, same, same_true}
+use Rattle.records.specs.Words.{same_self, ok_inj}
 use Rattle.serde_json.specs.Read.{read}
 use Rattle.serde_json.specs.Find.{as_object}
-use Rattle.broker_types.specs.Broker.{Broker}
-use Rattle.broker_types.specs.Evolves.{Evolves}
-use Rattle.broker_types.specs.Map.{Map, get, put, without}
-use Rattle.broker_types.specs.MapLaws.{get-put, get-without}
-use Rattle.broker_types.specs.Name.{is_name}
-use Rattle.broker_types.specs.Refuse.{◌>>=◌, some_or, unless}
-use Rattle.broker_types.specs.RefuseLaws.{no_ok}
-use Rattle.broker_types.specs.FieldLaws.{sound_with, evolves_with}
-use Rattle.broker_types.specs.Sound.{Forms, Sound, SoundPolicies, IsSoundPolicy}
-use Rattle.broker_types.specs.Text.{Text, same}
-use Rattle.broker_types.specs.TextLaws.{same_true, same_self}
 use Rattle.broker_types.specs.declared.refusal.Refusal.TheVariants as refusal
 use Rattle.broker_types.specs.declared.refusal.Reason.TheVariants as reason
-use Rattle.records.specs.ValueLaws.{ok_inj}
-use Rattle.api_json.specs.Json.{without_floats}
+use Rattle.api_json.specs.Words.{without_floats}
 use Rattle.policies.specs.Policies.{is_root, root, fixed, may_set, set, may_delete, deleted}
 use Rattle.policies.specs.PolicyTexts.{policy_of, policy_in, is_policy, policy_forms, unsupported}
 use Rattle.policies.specs.Rules.{Rule}

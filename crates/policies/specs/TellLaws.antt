@@ -1,15 +1,7 @@
 -- The rows of policies that a broker has tell its policies, and they alone do (this project's).
-use Rattle.std.specs.Prelude.{◌≡◌, option_map}
-use Rattle.std.proofs.Common.{refl, sym, ◌∙◌}
-use Rattle.std.proofs.lemmas.Bool.{false≢true}
-use Rattle.broker_types.specs.Broker.{Broker}
-use Rattle.broker_types.specs.Map.{get}
-use Rattle.broker_types.specs.Text.{Text}
+use Rattle.std.proofs.Common.{◌≡◌, option_map, refl, sym, ◌∙◌}
+use Rattle.records.specs.Words.{false≢true, Broker, get, Text, of_policies, Tells, policy_row, rows_of, Table}
 use Rattle.records.specs.declared.kind.Kind.TheVariants as kind
-use Rattle.records.specs.Parts.{of_policies, Tells}
-use Rattle.records.specs.RowForms.{policy_row}
-use Rattle.records.specs.Rows.{rows_of}
-use Rattle.records.specs.Table.{Table}
 use Rattle.policies.specs.PolicyRows.{ArePolicies}
 
 policy_at : (b : Broker) (name : Text) → rows_of b kind.Policy name ≡ option_map policy_row (get b.policies name)

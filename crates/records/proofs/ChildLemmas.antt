@@ -1,13 +1,8 @@
 -- The children of a folder, one key after another.
-use Rattle.std.specs.Prelude.{◌≡◌, ◌<◌, ◌+◌, ◌==◌, ℕ, suc, List, [], ◌∷◌, ◌++◌, map, filter, drop, take, length, nat_eq}
-use Rattle.std.specs.Prelude.{Bool, true, false, not}
-use Rattle.std.specs.Prelude.{cond, if◌then◌else◌}
-use Rattle.std.specs.List.{starts_with, position_or_len, prefix_len, before_first}
-use Rattle.std.proofs.Common.{refl, sym, ◌∙◌, ap, arith}
-use Rattle.std.proofs.lemmas.Bool.{eqb-true}
-use Rattle.broker_types.specs.Text.{Text}
-use Rattle.records.specs.Children.{child, past, below, push_once, push_each}
-use Rattle.records.specs.Splits.{slash}
+use Rattle.std.proofs.Common.{◌≡◌, ◌<◌, ◌+◌, ◌==◌, ◌∷◌, ◌++◌, if◌then◌else◌, ℕ, suc, List, [], map, filter, drop, take}
+use Rattle.records.specs.Words.{length, nat_eq, Bool, true, false, not, cond, starts_with, position_or_len, prefix_len}
+use Rattle.records.specs.Words.{before_first, refl, sym, ◌∙◌, ap, arith, eqb-true, Text, child, past, below, push_once}
+use Rattle.records.specs.Words.{push_each, slash}
 
 -- ---- a path, and its first part
 

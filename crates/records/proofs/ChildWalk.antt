@@ -1,32 +1,15 @@
 -- The children of a folder, found by a walk over pages of its keys that passes each child's other keys over.
-use Rattle.std.specs.Prelude.{◌≡◌, ◌<◌, ◌+◌, ◌-◌, ◌==◌, ℕ, List, [], ◌∷◌, ◌++◌, map, filter, take, drop, length}
-use Rattle.std.specs.Prelude.{slice_get, nat_eq}
-use Rattle.std.specs.Prelude.{Bool, true, false, cond, if◌then◌else◌, Some, None, ◌&&◌, ⊤, ◌≤◌, min}
-use Rattle.std.specs.declared.cmp.Ordering.{Ordering}
-use Rattle.std.specs.declared.cmp.Ordering.TheVariants.{Less, Equal, Greater}
-use Rattle.std.specs.Ordering.{nat_cmp, is_ge, ordering_then, ordering_reverse}
-use Rattle.std.specs.Cmp.{nat_cmp_total, tied_itself}
-use Rattle.std.specs.Cmp.Lexicographic.{nat_list_cmp_total}
-use Rattle.std.specs.FinMap.{entries, is_sorted}
-use Rattle.std.specs.FinMap.Entries.{below_all}
-use Rattle.std.specs.List.{starts_with, AllByRecursion}
-use Rattle.std.proofs.Common.{refl, sym, ◌∙◌, ap, subst, arith}
-use Rattle.std.proofs.lemmas.Bool.{and_parts, false≢true, eqb-true}
-use Rattle.std.proofs.lemmas.List.{take-append-drop, take_all, length-map, length-take}
-use Rattle.broker_types.specs.Text.{Text, text_cmp, same}
-use Rattle.broker_types.specs.TextLaws.{same_self, same_true}
-use Rattle.broker_types.specs.TestLaws.{is_less, T_true}
-use Rattle.records.specs.declared.kind.Kind.{Kind}
-use Rattle.records.specs.declared.row.Row.{Row}
-use Rattle.records.specs.Kind.{RowKey, is_of_kind}
-use Rattle.records.specs.Children.{child, past, below, is_text, push_once, push_each}
-use Rattle.records.specs.ListedMapLaws.{named, listed-sorted, names_are}
-use Rattle.records.specs.Splits.{slash}
-use Rattle.records.specs.Transaction.{Rows, rows_under, rows_from}
+use Rattle.std.proofs.Common.{◌≡◌, ◌<◌, ◌+◌, ◌-◌, ◌==◌, ◌∷◌, ◌++◌, if◌then◌else◌, ◌&&◌, ◌≤◌, ℕ, List, [], map, filter}
+use Rattle.records.specs.Words.{take, drop, length, slice_get, nat_eq, Bool, true, false, cond, Some, None, ⊤, min}
+use Rattle.records.specs.Words.{Ordering, Less, Equal, Greater, nat_cmp, is_ge, ordering_then, ordering_reverse}
+use Rattle.records.specs.Words.{nat_cmp_total, tied_itself, nat_list_cmp_total, entries, is_sorted, below_all}
+use Rattle.records.specs.Words.{starts_with, AllByRecursion, refl, sym, ◌∙◌, ap, subst, arith, and_parts, false≢true}
+use Rattle.records.specs.Words.{eqb-true, take-append-drop, take_all, length-map, length-take, Text, text_cmp, same}
+use Rattle.records.specs.Words.{same_self, same_true, is_less, T_true, Kind, Row, RowKey, is_of_kind, child, past}
+use Rattle.records.specs.Words.{below, is_text, push_once, push_each, named, listed-sorted, names_are, slash, Rows}
+use Rattle.records.specs.Words.{rows_under, rows_from, not_below_none, begun, after_prefix}
 use Rattle.records.proofs.ChildLemmas.{below_one, push_more}
 use Rattle.records.proofs.ChildrenInOrder.{last_is}
-use Rattle.records.specs.PageLaws.{not_below_none}
-use Rattle.records.specs.PrefixLaws.{begun, after_prefix}
 
 -- ---- paths, and what is past their first parts
 

@@ -1,8 +1,6 @@
 -- Children of folders, computed.
-use Rattle.std.specs.Prelude.{◌≡◌, [], ◌∷◌, map, codes, ⊤}
-use Rattle.std.proofs.Common.{refl, sym}
-use Rattle.broker_types.specs.Text.{same}
-use Rattle.records.specs.Children.{folder, child, children, member}
+use Rattle.std.proofs.Common.{◌≡◌, ◌∷◌, [], map, codes, refl, sym}
+use Rattle.records.specs.Words.{⊤, same, folder, child, children, member}
 use Rattle.records.proofs.ChildrenInOrder.{children_ordered}
 
 first_part : child (codes "b/c") ≡ codes "b/"

@@ -1,26 +1,13 @@
 -- The children of keys in order are the set of them.
-use Rattle.std.specs.Prelude.{◌≡◌, ◌-◌, ◌⊎◌, ◌==◌, List, [], ◌∷◌, ◌++◌, map, filter, drop, length, slice_get, nat_eq}
-use Rattle.std.specs.Prelude.{true, false, cond}
-use Rattle.std.specs.Prelude.{if◌then◌else◌, Some, ⊤}
-use Rattle.std.specs.declared.cmp.Ordering.TheVariants.{Less, Equal, Greater}
-use Rattle.std.specs.List.{starts_with}
-use Rattle.std.specs.Ordering.{nat_cmp, is_eq, ordering_then}
-use Rattle.std.specs.Cmp.{tied_itself}
-use Rattle.std.specs.Cmp.Lexicographic.{nat_list_cmp_total}
+use Rattle.std.proofs.Common.{◌≡◌, ◌-◌, ◌⊎◌, ◌==◌, ◌∷◌, ◌++◌, if◌then◌else◌, List, [], map, filter, drop, length, true}
+use Rattle.records.specs.Words.{slice_get, nat_eq, false, cond, Some, ⊤, Less, Equal, Greater, starts_with, nat_cmp}
+use Rattle.records.specs.Words.{is_eq, ordering_then, tied_itself, nat_list_cmp_total, is_sorted, below_all, by_order}
+use Rattle.records.specs.Words.{refl, sym, ◌∙◌, ap, append_assoc, arith, inl, inr, length-append, get_or-append_seam}
+use Rattle.records.specs.Words.{and_parts, nil_from_length, slice_get-get_or, Text, text_cmp, same, same-text_cmp}
+use Rattle.records.specs.Words.{same_self, is_less, child, below, children, children_in_order, member, set_of, is_text}
+use Rattle.records.specs.Words.{push_each, slash, after_prefix, begun}
 use Rattle.std.specs.FinMap as fin
-use Rattle.std.specs.FinMap.{is_sorted, put}
-use Rattle.std.specs.FinMap.Entries.{below_all, by_order}
-use Rattle.std.proofs.Common.{refl, sym, ◌∙◌, ap, append_assoc, arith, inl, inr, length-append}
-use Rattle.std.proofs.Math.Seq.{get_or-append_seam}
-use Rattle.std.proofs.lemmas.Bool.{and_parts}
-use Rattle.std.proofs.lemmas.List.{nil_from_length}
-use Rattle.std.proofs.lemmas.Option.{slice_get-get_or}
-use Rattle.broker_types.specs.Text.{Text, text_cmp, same}
-use Rattle.broker_types.specs.TextLaws.{same-text_cmp, same_self}
-use Rattle.broker_types.specs.TestLaws.{is_less}
-use Rattle.records.specs.Children.{child, below, children, children_in_order, member, set_of, is_text, push_each}
-use Rattle.records.specs.Splits.{slash}
-use Rattle.records.specs.PrefixLaws.{after_prefix, begun}
+use Rattle.std.specs.FinMap.{put}
 
 -- ---- texts one after another, each once where equal ones stand together
 

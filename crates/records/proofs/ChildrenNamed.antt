@@ -1,25 +1,11 @@
 -- Texts with the same rests have the same children.
-use Rattle.std.specs.Prelude.{◌≡◌, ◌&&◌, ◌||◌, List, [], ◌∷◌, ◌++◌, map, filter, drop, length, is_some, nat_eq, Bool}
-use Rattle.std.specs.Prelude.{true, false, cond, Option, Some, None, ⊤}
-use Rattle.std.specs.List.{starts_with, list_any}
-use Rattle.std.specs.Ordering.{eq_by_cmp}
-use Rattle.std.specs.Cmp.Lexicographic.{nat_list_cmp_total}
+use Rattle.std.specs.Prelude.{◌≡◌, ◌&&◌, ◌||◌, ◌∷◌, ◌++◌, List, [], map, filter, drop, length, is_some, nat_eq, Bool, ⊤}
+use Rattle.records.specs.Words.{true, false, cond, Option, Some, None, starts_with, list_any, eq_by_cmp}
+use Rattle.records.specs.Words.{nat_list_cmp_total, is_some-find, refl, sym, ◌∙◌, ap, append_assoc, and_parts, and_from}
+use Rattle.records.specs.Words.{false≢true, drop-append_seam, both_ways, Text, text_cmp, same-text_cmp, same_map, Kind}
+use Rattle.records.specs.Words.{Row, child, below, children, member, set_of, has, keys_under, AreNames, Rows}
+use Rattle.records.specs.Words.{rows_under, named, find-listed, names_are, any_found, any_from, begins_with, begun}
 use Rattle.std.specs.FinMap as fin
-use Rattle.std.specs.FinMap.Entries.{is_some-find}
-use Rattle.std.proofs.Common.{refl, sym, ◌∙◌, ap, append_assoc}
-use Rattle.std.proofs.lemmas.Bool.{and_parts, and_from, false≢true}
-use Rattle.std.proofs.Math.Seq.{drop-append_seam}
-use Rattle.std.specs.Cmp.{both_ways}
-use Rattle.broker_types.specs.Text.{Text, text_cmp}
-use Rattle.broker_types.specs.TextLaws.{same-text_cmp}
-use Rattle.broker_types.specs.MapLaws.{same_map}
-use Rattle.records.specs.declared.kind.Kind.{Kind}
-use Rattle.records.specs.declared.row.Row.{Row}
-use Rattle.records.specs.Children.{child, below, children, member, set_of, has, keys_under, AreNames}
-use Rattle.records.specs.Transaction.{Rows, rows_under}
-use Rattle.records.specs.ListedMapLaws.{named, find-listed, names_are}
-use Rattle.records.specs.HasLaws.{any_found, any_from}
-use Rattle.records.specs.PrefixLaws.{begins_with, begun}
 
 -- ---- whether a child is among the children
 

@@ -1,16 +1,8 @@
 -- Numbers in twenty digits are in the order of the numbers.
-use Rattle.std.specs.Prelude.{◌≡◌, ◌<◌, ◌≤◌, ◌+◌, ◌-◌, ◌*◌, ◌^◌, ℕ, [], ◌∷◌, length, true}
-use Rattle.std.specs.declared.cmp.Ordering.TheVariants.{Less, Equal, Greater}
-use Rattle.std.specs.Ordering.{nat_cmp, ordering_then}
-use Rattle.std.specs.Cmp.{nat_cmp_is}
-use Rattle.std.specs.Char.{is_ascii_digit}
-use Rattle.std.specs.Str.{all_ascii_digits}
-use Rattle.std.proofs.Common.{sym, ◌∙◌, ap, arith, inl, inr, refl}
-use Rattle.std.proofs.lemmas.Bool.{cases_order, and_parts}
-use Rattle.std.proofs.lemmas.Bool.Decides.{nat_tests}
-use Rattle.broker_types.specs.Text.{Text, text_cmp}
-use Rattle.records.specs.Rows.{padded, digits_after}
-use Rattle.records.specs.DigitLaws.{padded_digits, digits_after-padded, length-padded}
+use Rattle.std.proofs.Common.{◌≡◌, ◌<◌, ◌≤◌, ◌+◌, ◌-◌, ◌*◌, ◌^◌, ◌∷◌, ℕ, [], length, true, sym, ◌∙◌, ap, arith, inl}
+use Rattle.records.specs.Words.{Less, Equal, Greater, nat_cmp, ordering_then, nat_cmp_is, is_ascii_digit}
+use Rattle.records.specs.Words.{all_ascii_digits, inr, refl, cases_order, and_parts, nat_tests, Text, text_cmp, padded}
+use Rattle.records.specs.Words.{digits_after, padded_digits, digits_after-padded, length-padded}
 
 digits_lt : (m n : ℕ) (xs ys : Text) → length xs ≡ length ys → all_ascii_digits xs ≡ true → m < n
     → digits_after m xs < digits_after n ys

@@ -1,15 +1,8 @@
 -- The order of due rows.
-use Rattle.std.proofs.Common.{◌≡◌, false, true, refl, sym, ap, ◌∙◌}
-use Rattle.std.specs.Prelude.{unwrap_or}
-use Rattle.std.specs.declared.cmp.Ordering.{Ordering}
-use Rattle.std.specs.declared.cmp.Ordering.TheVariants.{Less, Equal, Greater}
-use Rattle.std.specs.Ordering.{is_lt, ordering_reverse}
-use Rattle.std.specs.Cmp.{IsTotalOrder, IsStrictWeakOrder, nat_cmp_total}
-use Rattle.std.proofs.lemmas.Cmp.{on_total, then_total}
-use Rattle.records.specs.Kind.{RowKey}
-use Rattle.records.specs.KeyLaws.{key_cmp_total}
-use Rattle.records.specs.DueRows.{due_cmp}
-use Rattle.records.specs.declared.row.Row.{Row}
+use Rattle.std.proofs.Common.{◌≡◌, false, true, refl, sym, ap, ◌∙◌, unwrap_or}
+use Rattle.records.specs.Words.{Ordering, Less, Equal, Greater, is_lt, ordering_reverse, IsTotalOrder}
+use Rattle.records.specs.Words.{IsStrictWeakOrder, nat_cmp_total, on_total, then_total, RowKey, key_cmp_total, due_cmp}
+use Rattle.records.specs.Words.{Row}
 
 pub due_total : IsTotalOrder due_cmp
 due_total =

@@ -1,27 +1,13 @@
 -- Rows that are due have one order.
-use Rattle.std.specs.Prelude.{◌≡◌, ℕ, suc, List, [], ◌∷◌, Bool, true, false, T, ◌&&◌, map, unwrap_or, IsPermutation}
-use Rattle.std.specs.Prelude.{IsSorted}
-use Rattle.std.specs.declared.cmp.Ordering.{Ordering}
-use Rattle.std.specs.declared.cmp.Ordering.TheVariants.{Less, Equal, Greater}
-use Rattle.std.specs.Ordering.{eq_by_cmp, is_eq, is_lt, is_gt, nat_cmp, ordering_then, ordering_reverse}
-use Rattle.std.specs.Cmp.{IsTotalOrder, nat_cmp_total, tied_itself, eq_by_cmp_equiv}
-use Rattle.std.specs.FinMap.{IsAntisymmetric, find, is_sorted}
-use Rattle.std.specs.FinMap.Entries.{below_all, same_entries}
-use Rattle.std.specs.List.{AllByRecursion, IsDistinct}
-use Rattle.std.proofs.Common.{refl, sym, ◌∙◌, ap, subst, arith, inl, inr}
-use Rattle.std.proofs.lemmas.Bool.{false≢true}
-use Rattle.std.proofs.lemmas.Cmp.{on_total, then_total, upto}
-use Rattle.std.proofs.lemmas.List.Sorted.{Contains-permutation, IsPermutation-map, IsPermutation-sym}
-use Rattle.std.proofs.lemmas.List.Sorted.{IsPermutation-trans}
-use Rattle.std.proofs.lemmas.Map.Keys.{IsDistinct-IsPermutation}
-use Rattle.std.proofs.lemmas.Map.Lookups.{exact_pairs, exact_unsigned}
-use Rattle.std.proofs.lemmas.Option.{none-some}
-use Rattle.broker_types.specs.OptionLaws.{found_or_not}
-use Rattle.records.specs.declared.row.Row.{Row}
-use Rattle.records.specs.DueRows.{is_due, rows_due, due_cmp, AreDue, DueRowsHaveOneOrder}
-use Rattle.records.specs.EntryLaws.{found_in, in_found, passing_once}
-use Rattle.records.specs.Kind.{RowKey, key_cmp}
-use Rattle.records.specs.KeyLaws.{key_cmp_total, key_cmp_exact}
+use Rattle.std.proofs.Common.{◌≡◌, ◌∷◌, ◌&&◌, ℕ, suc, List, [], Bool, true, false, T, map, unwrap_or, IsPermutation, ap}
+use Rattle.records.specs.Words.{IsSorted, Ordering, Less, Equal, Greater, eq_by_cmp, is_eq, is_lt, is_gt, nat_cmp}
+use Rattle.records.specs.Words.{ordering_then, ordering_reverse, IsTotalOrder, nat_cmp_total, tied_itself}
+use Rattle.records.specs.Words.{eq_by_cmp_equiv, IsAntisymmetric, find, is_sorted, below_all, same_entries}
+use Rattle.records.specs.Words.{AllByRecursion, IsDistinct, refl, sym, ◌∙◌, subst, arith, inl, inr, false≢true}
+use Rattle.records.specs.Words.{on_total, then_total, upto, Contains-permutation, IsPermutation-map, IsPermutation-sym}
+use Rattle.records.specs.Words.{IsPermutation-trans, IsDistinct-IsPermutation, exact_pairs, exact_unsigned, none-some}
+use Rattle.records.specs.Words.{found_or_not, Row, is_due, rows_due, due_cmp, AreDue, DueRowsHaveOneOrder, found_in}
+use Rattle.records.specs.Words.{in_found, passing_once, RowKey, key_cmp, key_cmp_total, key_cmp_exact}
 use Rattle.records.proofs.DueLemmas.{due_total}
 
 -- ---- entries by when they are due, and then by kind and key

@@ -1,13 +1,8 @@
 -- Lists, read item by item.
-use Rattle.std.specs.Prelude.{◌≡◌, ◌<◌, ◌^◌, ◌+◌, ◌-◌, ℕ, suc, List, [], ◌∷◌, ◌++◌, length, All, Bool, true, false, Ok}
-use Rattle.std.specs.Prelude.{Err}
-use Rattle.std.proofs.Common.{refl, sym, ◌∙◌, ap, subst, arith, append_assoc}
-use Rattle.std.proofs.lemmas.List.{append-nil, length-append, nil_from_length}
-use Rattle.std.proofs.lemmas.List.Elements.{All-nil, All-head, All-tail, All-push}
-use Rattle.broker_types.specs.declared.fault.Fault.{Fault}
-use Rattle.records.specs.Spelling.{count, items, listed}
-use Rattle.records.specs.RowReaders.{IsListOf}
-use Rattle.records.specs.Fields.{ReadsField}
+use Rattle.std.proofs.Common.{◌≡◌, ◌<◌, ◌^◌, ◌+◌, ◌-◌, ◌∷◌, ◌++◌, ℕ, suc, List, [], length, All, Bool, true, false, Ok}
+use Rattle.records.specs.Words.{Err, refl, sym, ◌∙◌, ap, subst, arith, append_assoc, append-nil, length-append}
+use Rattle.records.specs.Words.{nil_from_length, All-nil, All-head, All-tail, All-push, Fault, count, items, listed}
+use Rattle.records.specs.Words.{IsListOf, ReadsField}
 use Rattle.records.proofs.FieldReads.{finds_other, gives_up_too}
 
 module _ {X : Type 0} (P : X → Type 0) (spell : X → List ℕ) where

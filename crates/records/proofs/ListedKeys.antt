@@ -1,14 +1,7 @@
 -- The children of what is listed.
-use Rattle.std.specs.Prelude.{◌≡◌, map}
-use Rattle.std.proofs.Common.{sym, ◌∙◌, ap}
-use Rattle.broker_types.specs.Text.{Text}
-use Rattle.broker_types.specs.TestLaws.{T_true}
-use Rattle.records.specs.declared.kind.Kind.{Kind}
-use Rattle.records.specs.declared.row.Row.{Row}
-use Rattle.records.specs.Kind.{RowKey}
-use Rattle.records.specs.Transaction.{Rows, rows_under}
-use Rattle.records.specs.Children.{children, children_in_order}
-use Rattle.records.specs.ListedMapLaws.{named, listed-sorted, names_are}
+use Rattle.std.proofs.Common.{◌≡◌, map, sym, ◌∙◌, ap}
+use Rattle.records.specs.Words.{Text, T_true, Kind, Row, RowKey, Rows, rows_under, children, children_in_order, named}
+use Rattle.records.specs.Words.{listed-sorted, names_are}
 use Rattle.records.proofs.ChildrenInOrder.{children_ordered}
 
 -- the children of what is listed are the set of them

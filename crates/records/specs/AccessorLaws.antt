@@ -1,10 +1,7 @@
 -- The accessor that a row tells is that of its token or response (this project's row format).
-use Rattle.std.specs.Prelude.{◌≡◌, ◌<◌, ◌^◌, ◌++◌, ℕ, List, length, take}
-use Rattle.std.specs.Int.{w32, to_be_bytes, from_be_bytes}
-use Rattle.std.proofs.Common.{◌∙◌, ap, append_assoc}
-use Rattle.std.proofs.Math.Seq.{take-append_seam}
-use Rattle.std.proofs.lemmas.Nat.{from_be_bytes-to_be_bytes_4}
-use Rattle.broker_types.specs.Broker.{Waiting}
+use Rattle.std.proofs.Common.{◌≡◌, ◌<◌, ◌^◌, ◌++◌, ℕ, List, length, take, ◌∙◌, ap, append_assoc}
+use Rattle.broker_types.specs.Words.{w32, to_be_bytes, from_be_bytes, take-append_seam, from_be_bytes-to_be_bytes_4}
+use Rattle.broker_types.specs.Words.{Waiting}
 use Rattle.records.specs.Accessors.{accessor_in}
 use Rattle.records.specs.Ranges.{IsTokenInRange, IsWaitingInRange}
 use Rattle.records.specs.RowForms.{entry_row, waiting_row, pair}

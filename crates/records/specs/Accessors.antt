@@ -1,10 +1,7 @@
 -- What the row of a token or of a waiting response tells of its accessor: the text that its body begins with (this
 -- project's row format).
-use Rattle.std.specs.Prelude.{ℕ, List, [], ◌∷◌, Bool, false, take}
-use Rattle.std.specs.Int.{w32, from_be_bytes}
-use Rattle.std.specs.List.{list_any}
-use Rattle.std.specs.Option.{option_map_or}
-use Rattle.broker_types.specs.Text.{Text, same}
+use Rattle.std.specs.Prelude.{◌∷◌, ℕ, List, [], Bool, false, take}
+use Rattle.broker_types.specs.Words.{w32, from_be_bytes, list_any, option_map_or, Text, same}
 use Rattle.records.specs.declared.kind.Kind.{Kind}
 use Rattle.records.specs.declared.row.Row.{Row}
 use Rattle.records.specs.Table.{Table}

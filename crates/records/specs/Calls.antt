@@ -1,8 +1,6 @@
 -- What holds of a call over a transaction, by how it ends (this project's definition).
 use Rattle.std.specs.Prelude.{◌≡◌, Result, Ok, Err, ⊤, IfErr, OnOk}
-use Rattle.broker_types.specs.Broker.{Broker}
-use Rattle.broker_types.specs.RequestError.{step_fails}
-use Rattle.broker_types.specs.Sound.{Forms}
+use Rattle.broker_types.specs.Words.{Broker, step_fails, Forms}
 use Rattle.broker_types.specs.declared.fault.Fault.{Fault}
 use Rattle.broker_types.specs.declared.fault.Fault.TheVariants.{Memory, Storage, Damaged, BadStart}
 use Rattle.broker_types.specs.declared.request_error.RequestError.{RequestError}

@@ -1,12 +1,8 @@
 -- The immediate children of a folder among paths (Vault's documentation, "KV secrets engine - version 2" and
 -- "Cubbyhole secrets engine", list secrets).
-use Rattle.std.specs.Prelude.{◌≡◌, ◌==◌, ◌++◌, ◌-◌, ◌+◌, List, [], ◌∷◌, Bool, false, Option, Some, None, if◌then◌else◌}
-use Rattle.std.specs.Prelude.{map}
-use Rattle.std.specs.Prelude.{filter, drop, length, slice_get, is_some, nat_eq, ⊤}
-use Rattle.std.specs.List.{starts_with, list_any}
-use Rattle.std.specs.FinMap.{from_entries, get}
-use Rattle.broker_types.specs.Text.{Text, same}
-use Rattle.broker_types.specs.Map.{Map, keys}
+use Rattle.std.specs.Prelude.{◌≡◌, ◌==◌, ◌++◌, ◌-◌, ◌+◌, ◌∷◌, if◌then◌else◌, List, [], Bool, false, Option, Some, None}
+use Rattle.broker_types.specs.Words.{map, filter, drop, length, slice_get, is_some, nat_eq, ⊤, starts_with, list_any}
+use Rattle.broker_types.specs.Words.{from_entries, get, Text, same, Map, keys}
 use Rattle.records.specs.declared.kind.Kind.{Kind}
 use Rattle.records.specs.Splits.{slash}
 use Rattle.records.specs.Transaction.{Rows, rows_under}

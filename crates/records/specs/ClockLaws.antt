@@ -1,9 +1,7 @@
 -- Laws of the clock's row.
-use Rattle.std.specs.Prelude.{◌≡◌, ℕ, [], Bool, true, false, if◌then◌else◌, Option, Some, None}
-use Rattle.std.proofs.Common.{refl, ap}
-use Rattle.broker_types.specs.Text.{Text, same}
+use Rattle.std.proofs.Common.{◌≡◌, if◌then◌else◌, ℕ, [], Bool, true, false, Option, Some, None, refl, ap}
+use Rattle.broker_types.specs.Words.{Text, same, Broker}
 use Rattle.broker_types.specs.TextLaws.{same_self}
-use Rattle.broker_types.specs.Broker.{Broker}
 use Rattle.records.specs.declared.kind.Kind.{Kind}
 use Rattle.records.specs.declared.kind.Kind.TheVariants as kind
 use Rattle.records.specs.RowForms.{clock_row}

@@ -1,17 +1,8 @@
 -- Records by their fields: the fields that tell a key, a version, a lease and a response.
-use Rattle.std.specs.Prelude.{◌≡◌, ◌<◌, ◌≤◌, ◌++◌, List, [], ℕ, Bool, true, false, Option, Some, None, is_none}
-use Rattle.std.specs.Prelude.{unwrap_or}
-use Rattle.std.proofs.Common.{refl, sym, ◌∙◌, ap, subst, arith, lit<}
-use Rattle.std.proofs.lemmas.List.Elements.{All-nil}
-use Rattle.std.proofs.lemmas.Option.{same_Some}
-use Rattle.std.proofs.lemmas.Str.{IsUtf8-from_ascii}
-use Rattle.std.proofs.lemmas.Str.Ascii.{IsAscii-from_all}
-use Rattle.broker_types.specs.Text.{Text}
-use Rattle.broker_types.specs.Token.{Lease}
-use Rattle.broker_types.specs.Secret.{Version}
-use Rattle.broker_types.specs.Broker.{Waiting, waiting_ends}
-use Rattle.broker_types.specs.Limits.{longest_ttl, greatest_version}
-use Rattle.broker_types.specs.Sound.{IsMoment, IsEnd, IsShortText}
+use Rattle.std.specs.Prelude.{◌≡◌, ◌<◌, ◌≤◌, ◌++◌, List, [], ℕ, Bool, true, false, Option, Some, None, is_none, refl}
+use Rattle.broker_types.specs.Words.{unwrap_or, sym, ◌∙◌, ap, subst, arith, lit<, All-nil, same_Some, IsUtf8-from_ascii}
+use Rattle.broker_types.specs.Words.{IsAscii-from_all, Text, Lease, Version, Waiting, waiting_ends, longest_ttl}
+use Rattle.broker_types.specs.Words.{greatest_version, IsMoment, IsEnd, IsShortText}
 use Rattle.records.specs.declared.row.Row.{Row}
 use Rattle.records.specs.Fields.{IsLongText}
 use Rattle.records.specs.KeyEntry.{KeyEntry, secret_in}

@@ -1,11 +1,8 @@
 -- The key of a cubbyhole's row says which token and which path it is of.
-use Rattle.std.specs.Prelude.{◌≡◌, ◌+◌, ◌==◌, ◌∷◌, ◌++◌, length, take, drop, codes, true}
-use Rattle.std.proofs.Common.{ap, subst, get_or, ◌∙◌}
-use Rattle.std.proofs.lemmas.List.{length-append}
-use Rattle.std.proofs.Math.Seq.{take-append_seam, drop-append-add, get_or-append_seam}
-use Rattle.broker_types.specs.Text.{Text}
+use Rattle.std.proofs.Common.{◌≡◌, ◌+◌, ◌==◌, ◌∷◌, ◌++◌, length, take, drop, codes, true, ap, subst, get_or, ◌∙◌}
+use Rattle.broker_types.specs.Words.{length-append, take-append_seam, drop-append-add, get_or-append_seam, Text}
+use Rattle.broker_types.specs.Words.{IsTokenText}
 use Rattle.broker_types.specs.IdentifierLaws.{id-length}
-use Rattle.broker_types.specs.Sound.{IsTokenText}
 use Rattle.records.specs.Rows.{token_len, has_slash}
 use Rattle.records.specs.Splits.{slash}
 

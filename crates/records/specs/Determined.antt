@@ -1,8 +1,6 @@
 -- What rows determine, as a statement (this project's).
 use Rattle.std.specs.Prelude.{◌≡◌, Option}
-use Rattle.broker_types.specs.Text.{Text}
-use Rattle.broker_types.specs.Broker.{Broker}
-use Rattle.broker_types.specs.Sound.{Forms, Sound}
+use Rattle.broker_types.specs.Words.{Text, Broker, Forms, Sound}
 use Rattle.records.specs.Ranges.{IsTokenInRange}
 use Rattle.records.specs.RowForms.{entry_row}
 use Rattle.records.specs.Rows.{rows_of}

@@ -1,17 +1,11 @@
 -- Numbers in twenty digits, and what they tell.
-use Rattle.std.specs.Prelude.{◌≡◌, ◌<◌, ◌≤◌, ◌+◌, ◌-◌, ◌^◌, ◌&&◌, ℕ, suc, zero, ◌++◌, length, replicate, true, false}
-use Rattle.std.specs.Prelude.{nat_le, if◌then◌else◌, Some, None, decimal, Result, Ok, ◌∷◌, []}
-use Rattle.std.specs.Str.{all_ascii_digits}
-use Rattle.std.specs.Str.Parse.{ParsesUnsigned}
-use Rattle.std.proofs.Common.{refl, sym, ◌∙◌, ap, subst, arith, length-append, append_assoc}
-use Rattle.std.proofs.lemmas.Bool.{and_parts, le-leb, leb-true}
-use Rattle.std.proofs.lemmas.List.{length-replicate}
-use Rattle.std.proofs.lemmas.Fmt.{length-decimal-le, digits_decimal, digits_value-decimal}
-use Rattle.std.proofs.lemmas.Option.{same_Some, none-some}
-use Rattle.std.proofs.lemmas.Str.Parse.{IsNumeralModel, numerals_by_fold, tells_all_ascii_digits, parse_gives}
-use Rattle.broker_types.specs.Text.{Text}
+use Rattle.std.specs.Prelude.{◌≡◌, ◌<◌, ◌≤◌, ◌+◌, ◌-◌, ◌^◌, ◌&&◌, ◌++◌, if◌then◌else◌, ◌∷◌, ℕ, suc, zero, length, true}
+use Rattle.broker_types.specs.Words.{replicate, false, nat_le, Some, None, decimal, Result, Ok, [], all_ascii_digits}
+use Rattle.broker_types.specs.Words.{ParsesUnsigned, refl, sym, ◌∙◌, ap, subst, arith, length-append, append_assoc}
+use Rattle.broker_types.specs.Words.{and_parts, le-leb, leb-true, length-replicate, length-decimal-le, digits_decimal}
+use Rattle.broker_types.specs.Words.{digits_value-decimal, same_Some, none-some, IsNumeralModel, numerals_by_fold}
+use Rattle.broker_types.specs.Words.{tells_all_ascii_digits, parse_gives, Text, greatest_version}
 use Rattle.broker_types.specs.TextLaws.{same_self, same_true}
-use Rattle.broker_types.specs.Limits.{greatest_version}
 use Rattle.records.specs.Rows.{padded, digits_after, are_digits_of, version_of_digits}
 
 -- the number of digits is what std reads off them

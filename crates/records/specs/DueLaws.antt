@@ -1,14 +1,8 @@
 -- Of the rows that are due, those of one kind: what a sweep of this kind goes over (this project's).
 use Rattle.std.specs.Prelude.{◌≡◌, ℕ, List, Bool, true, map, filter, Some, All, Contains}
-use Rattle.std.specs.Ordering.{eq_by_cmp}
-use Rattle.std.specs.FinMap.{get}
-use Rattle.std.specs.List.{IsDistinct}
-use Rattle.std.proofs.lemmas.List.Elements.{All-filter, filter_passes}
-use Rattle.std.proofs.lemmas.List.Sorted.{All-permutation, Contains-permutation, IsPermutation-map}
-use Rattle.std.proofs.lemmas.Map.Keys.{IsDistinct-IsPermutation}
-use Rattle.std.proofs.lemmas.Map.Made.{IsDistinct-keys_filter}
-use Rattle.std.specs.Cmp.{eq_by_cmp_equiv}
-use Rattle.broker_types.specs.Text.{Text, same}
+use Rattle.broker_types.specs.Words.{eq_by_cmp, get, IsDistinct, All-filter, filter_passes, All-permutation}
+use Rattle.broker_types.specs.Words.{Contains-permutation, IsPermutation-map, IsDistinct-IsPermutation}
+use Rattle.broker_types.specs.Words.{IsDistinct-keys_filter, eq_by_cmp_equiv, Text, same}
 use Rattle.records.specs.declared.kind.Kind.{Kind}
 use Rattle.records.specs.declared.row.Row.{Row}
 use Rattle.records.specs.DueRows.{is_due, rows_due, AreDue}

@@ -1,9 +1,6 @@
 -- The rows that are due (this project's definition).
 use Rattle.std.specs.Prelude.{◌≡◌, ℕ, Bool, false, nat_le, unwrap_or, List, filter, Option, IsPermutation, IsSorted}
-use Rattle.std.specs.Option.{option_map_or}
-use Rattle.std.specs.declared.cmp.Ordering.{Ordering}
-use Rattle.std.specs.Ordering.{nat_cmp, ordering_then}
-use Rattle.std.specs.FinMap.{entries}
+use Rattle.broker_types.specs.Words.{option_map_or, Ordering, nat_cmp, ordering_then, entries}
 use Rattle.records.specs.declared.row.Row.{Row}
 use Rattle.records.specs.Kind.{RowKey, key_cmp}
 use Rattle.records.specs.Transaction.{Rows}

@@ -1,21 +1,12 @@
 -- Entries of rows, as elements of their list (this project's).
-use Rattle.std.specs.Prelude.{◌≡◌, ◌⊎◌, List, [], ◌∷◌, Bool, true, false, cond, T, map, filter, Some, All}
-use Rattle.std.specs.Prelude.{Contains}
-use Rattle.std.specs.declared.cmp.Ordering.{Ordering}
-use Rattle.std.specs.Ordering.{eq_by_cmp, is_eq, ordering_then}
-use Rattle.std.specs.Cmp.{IsTotalOrder, eq_by_cmp_equiv, nat_cmp_total, tied_itself}
-use Rattle.std.specs.FinMap.{IsAntisymmetric, get, entries, find, is_sorted, entries_sorted, get-entries}
-use Rattle.std.specs.FinMap.Entries.{below_all}
-use Rattle.std.specs.List.{AllByRecursion, IsDistinct}
-use Rattle.std.specs.Map.{lookup}
-use Rattle.std.proofs.Common.{refl, sym, ◌∙◌, ap, subst, inl, inr, ⊎_elim, arith}
-use Rattle.std.proofs.lemmas.List.Elements.{All-head, All-tail, All-filter, filter_passes}
-use Rattle.std.proofs.lemmas.List.Elements.{All-contains_itself, Contains-append_left, Contains-append_right}
-use Rattle.std.proofs.lemmas.List.Elements.{Contains-append_cases, Contains-push_cases}
-use Rattle.std.proofs.lemmas.Map.Made.{IsDistinct-keys_filter}
-use Rattle.std.proofs.lemmas.Map.Views.{lookup-from_Contains}
-use Rattle.std.proofs.lemmas.Option.{none-some, same_Some}
-use Rattle.broker_types.specs.Text.{Text, text_cmp, same}
+use Rattle.std.proofs.Common.{◌≡◌, ◌⊎◌, ◌∷◌, List, [], Bool, true, false, cond, T, map, filter, Some, All, Contains, ap}
+use Rattle.broker_types.specs.Words.{Ordering, eq_by_cmp, is_eq, ordering_then, IsTotalOrder, eq_by_cmp_equiv}
+use Rattle.broker_types.specs.Words.{nat_cmp_total, tied_itself, IsAntisymmetric, get, entries, find, is_sorted}
+use Rattle.broker_types.specs.Words.{entries_sorted, get-entries, below_all, AllByRecursion, IsDistinct, lookup, refl}
+use Rattle.broker_types.specs.Words.{sym, ◌∙◌, subst, inl, inr, ⊎_elim, arith, All-head, All-tail, All-filter}
+use Rattle.broker_types.specs.Words.{filter_passes, All-contains_itself, Contains-append_left, Contains-append_right}
+use Rattle.broker_types.specs.Words.{Contains-append_cases, Contains-push_cases, IsDistinct-keys_filter}
+use Rattle.broker_types.specs.Words.{lookup-from_Contains, none-some, same_Some, Text, text_cmp, same}
 use Rattle.broker_types.specs.TextLaws.{same-text_cmp}
 use Rattle.broker_types.specs.TestLaws.{is_equal, less_apart, T_left, T_right}
 use Rattle.records.specs.declared.kind.Kind.{Kind}

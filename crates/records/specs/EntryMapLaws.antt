@@ -1,19 +1,10 @@
 -- Laws of maps that are made of lists of entries: metadata, and sets of texts, as code has them.
-use Rattle.std.specs.Prelude.{◌≡◌, ◌≤◌, ◌+◌, ◌&&◌, ℕ, suc, List, [], ◌∷◌, length, map, Bool, true, false, cond, Some}
-use Rattle.std.specs.Prelude.{All}
-use Rattle.std.specs.Cmp.Lexicographic.{nat_list_cmp_total}
-use Rattle.std.specs.FinMap.{find, from_entries, get-from_entries, is_sorted, len-insert, len-empty, contains_key}
-use Rattle.std.specs.FinMap.Entries.{below_all}
-use Rattle.std.specs.Ordering.{is_lt}
-use Rattle.std.proofs.Common.{refl, sym, ◌∙◌, ap, subst, arith}
-use Rattle.std.proofs.lemmas.Bool.{and_parts}
-use Rattle.std.proofs.lemmas.List.Elements.{All-head, All-tail}
-use Rattle.std.proofs.lemmas.Option.{same_Some}
-use Rattle.std.proofs.lemmas.Float.{T_from_true}
-use Rattle.broker_types.specs.Text.{Text, text_cmp, same}
-use Rattle.broker_types.specs.Map.{Map, get, len, entries}
+use Rattle.std.specs.Prelude.{◌≡◌, ◌≤◌, ◌+◌, ◌&&◌, ◌∷◌, ℕ, suc, List, [], length, map, Bool, true, false, cond, Some}
+use Rattle.broker_types.specs.Words.{All, nat_list_cmp_total, find, from_entries, get-from_entries, is_sorted}
+use Rattle.broker_types.specs.Words.{len-insert, len-empty, contains_key, below_all, is_lt, refl, sym, ◌∙◌, ap, subst}
+use Rattle.broker_types.specs.Words.{arith, and_parts, All-head, All-tail, same_Some, T_from_true, Text, text_cmp, same}
+use Rattle.broker_types.specs.Words.{Map, get, len, entries, is_ascending}
 use Rattle.broker_types.specs.MapLaws.{get-put, no_entry, entries_are}
-use Rattle.broker_types.specs.Sound.{is_ascending}
 use Rattle.broker_types.specs.TextLaws.{same_true}
 use Rattle.broker_types.specs.TestLaws.{is_less}
 

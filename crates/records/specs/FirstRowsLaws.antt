@@ -1,18 +1,10 @@
 -- Laws of the rows of the first broker.
-use Rattle.std.specs.Prelude.{◌≡◌, ℕ, [], ◌+◌, take, drop, codes, Bool, true, false, not, if◌then◌else◌, is_none, ⊤}
-use Rattle.std.specs.Prelude.{Option, Some, None, option_map, option_and_then}
+use Rattle.std.proofs.Common.{◌≡◌, ◌+◌, if◌then◌else◌, ℕ, [], take, drop, codes, Bool, true, false, not, is_none, Some}
+use Rattle.broker_types.specs.Words.{⊤, Option, None, option_map, option_and_then, get-empty, refl, sym, ◌∙◌, ap, Text}
+use Rattle.broker_types.specs.Words.{text_cmp, same, get, empty, put, first_where, id, token_text, Token, Lease, Key}
+use Rattle.broker_types.specs.Words.{Broker, Waiting, first_broker, root_token, default_policy, secret_mount}
 use Rattle.std.specs.FinMap as map
-use Rattle.std.specs.FinMap.{get-empty}
 use Rattle.std.specs.List.{find}
-use Rattle.std.proofs.Common.{refl, sym, ◌∙◌, ap}
-use Rattle.broker_types.specs.Text.{Text, text_cmp, same}
-use Rattle.broker_types.specs.Map.{get, empty, put, first_where}
-use Rattle.broker_types.specs.Identifier.{id}
-use Rattle.broker_types.specs.TokenText.{token_text}
-use Rattle.broker_types.specs.Token.{Token, Lease}
-use Rattle.broker_types.specs.Secret.{Key}
-use Rattle.broker_types.specs.Broker.{Broker, Waiting}
-use Rattle.broker_types.specs.First.{first_broker, root_token, default_policy, secret_mount}
 use Rattle.broker_types.specs.TextLaws.{same_equiv}
 use Rattle.broker_types.specs.MapLaws.{get-put, get-one, entries-empty, entries-one}
 use Rattle.records.specs.declared.kind.Kind.{Kind}

@@ -1,10 +1,6 @@
 -- Laws of texts among others.
-use Rattle.std.specs.Prelude.{◌≡◌, ◌||◌, List, [], ◌∷◌, Bool, true, false}
-use Rattle.std.specs.List.{list_any}
-use Rattle.std.specs.Ordering.{eq_by_cmp}
-use Rattle.std.proofs.Common.{refl, sym, ◌∙◌, ap}
-use Rattle.std.proofs.lemmas.Bool.{or_right, false≢true}
-use Rattle.broker_types.specs.Text.{Text, text_cmp, same}
+use Rattle.std.proofs.Common.{◌≡◌, ◌||◌, ◌∷◌, List, [], Bool, true, false, refl, sym, ◌∙◌, ap}
+use Rattle.broker_types.specs.Words.{list_any, eq_by_cmp, or_right, false≢true, Text, text_cmp, same}
 use Rattle.broker_types.specs.TextLaws.{same-text_cmp, same_self, same_true}
 use Rattle.records.specs.Children.{has}
 

@@ -1,13 +1,8 @@
 -- The order of keys: it is total, and keys that compare alike are one (this project's).
-use Rattle.std.specs.Prelude.{◌≡◌, ℕ, List, ◌==◌, true, if◌then◌else◌, refl}
-use Rattle.std.specs.Ordering.{nat_cmp}
-use Rattle.std.specs.Cmp.{IsTotalOrder, nat_cmp_total}
-use Rattle.std.specs.Cmp.Lexicographic.{slice_cmp, nat_list_cmp_total}
-use Rattle.std.specs.FinMap.{IsAntisymmetric, slice_cmp-IsAntisymmetric, nat_cmp-IsAntisymmetric}
-use Rattle.std.proofs.Common.{sym, ap, ◌∙◌}
-use Rattle.std.proofs.lemmas.Bool.{eqb-true}
-use Rattle.std.proofs.lemmas.Cmp.{on_total, then_total}
-use Rattle.std.proofs.lemmas.Map.Lookups.{exact_pairs, exact_unsigned}
+use Rattle.std.proofs.Common.{◌≡◌, ◌==◌, if◌then◌else◌, ℕ, List, true, refl, sym, ap, ◌∙◌, eqb-true}
+use Rattle.broker_types.specs.Words.{nat_cmp, IsTotalOrder, nat_cmp_total, slice_cmp, nat_list_cmp_total}
+use Rattle.broker_types.specs.Words.{IsAntisymmetric, slice_cmp-IsAntisymmetric, nat_cmp-IsAntisymmetric, on_total}
+use Rattle.broker_types.specs.Words.{then_total, exact_pairs, exact_unsigned}
 use Rattle.records.specs.declared.kind.Kind.{Kind}
 use Rattle.records.specs.declared.kind.Kind.TheVariants as kind
 use Rattle.records.specs.Kind.{kind_number, key_cmp}

@@ -1,15 +1,9 @@
 -- What is listed under a prefix, as a map from keys of one kind (this project's).
-use Rattle.std.specs.Prelude.{◌≡◌, ◌&&◌, ◌==◌, List, [], ◌∷◌, map, filter, nat_eq, Bool, true}
-use Rattle.std.specs.Prelude.{false, cond, Some, None, T}
-use Rattle.std.specs.declared.cmp.Ordering.TheVariants.{Equal}
-use Rattle.std.specs.Ordering.{nat_cmp, is_eq, is_lt, ordering_then}
-use Rattle.std.specs.Cmp.{nat_cmp_is}
-use Rattle.std.specs.FinMap.{get, entries, find, is_sorted, get-entries, entries_sorted}
-use Rattle.std.specs.FinMap.Entries.{find-where_key, is_sorted-where_key, below_all}
-use Rattle.std.specs.List.{starts_with}
-use Rattle.std.proofs.Common.{refl, sym, ◌∙◌, ap, subst}
-use Rattle.std.proofs.lemmas.Bool.{and_parts, eqb-true, and_from}
-use Rattle.broker_types.specs.Text.{Text, text_cmp}
+use Rattle.std.specs.Prelude.{◌≡◌, ◌&&◌, ◌==◌, ◌∷◌, List, [], map, filter, nat_eq, Bool, true, false, cond, Some, None}
+use Rattle.broker_types.specs.Words.{T, Equal, nat_cmp, is_eq, is_lt, ordering_then, nat_cmp_is, get, entries, find}
+use Rattle.broker_types.specs.Words.{is_sorted, get-entries, entries_sorted, find-where_key, is_sorted-where_key}
+use Rattle.broker_types.specs.Words.{below_all, starts_with, refl, sym, ◌∙◌, ap, subst, and_parts, eqb-true, and_from}
+use Rattle.broker_types.specs.Words.{Text, text_cmp}
 use Rattle.records.specs.declared.kind.Kind.{Kind}
 use Rattle.records.specs.declared.row.Row.{Row}
 use Rattle.records.specs.Kind.{RowKey, key_cmp, is_of_kind, kind_number}

@@ -1,15 +1,8 @@
 -- Entries in the order of their keys, page by page: the first of them, and what is above the last of these.
-use Rattle.std.specs.Prelude.{◌≡◌, ◌<◌, ◌-◌, ◌&&◌, ℕ, List, [], ◌∷◌, ◌++◌, length, slice_get, true, not, cond, Some}
-use Rattle.std.specs.Prelude.{None}
-use Rattle.std.specs.declared.cmp.Ordering.{Ordering}
-use Rattle.std.specs.declared.cmp.Ordering.TheVariants.{Less, Equal, Greater}
-use Rattle.std.specs.Ordering.{nat_cmp, is_eq, is_ge, is_le, is_lt, ordering_then}
-use Rattle.std.specs.Cmp.{IsTotalOrder}
-use Rattle.std.specs.FinMap.{find, is_sorted}
-use Rattle.std.specs.FinMap.Entries.{below_all}
-use Rattle.std.proofs.Common.{refl, sym, ◌∙◌, ap, arith, suc}
-use Rattle.std.proofs.lemmas.Bool.{and_parts}
-use Rattle.broker_types.specs.Text.{Text, text_cmp}
+use Rattle.std.proofs.Common.{◌≡◌, ◌<◌, ◌-◌, ◌&&◌, ◌∷◌, ◌++◌, ℕ, List, [], length, slice_get, true, not, cond, Some, ap}
+use Rattle.broker_types.specs.Words.{None, Ordering, Less, Equal, Greater, nat_cmp, is_eq, is_ge, is_le, is_lt}
+use Rattle.broker_types.specs.Words.{ordering_then, IsTotalOrder, find, is_sorted, below_all, refl, sym, ◌∙◌, arith}
+use Rattle.broker_types.specs.Words.{suc, and_parts, Text, text_cmp}
 use Rattle.broker_types.specs.TestLaws.{is_less}
 
 -- ---- the least text above another

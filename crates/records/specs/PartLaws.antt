@@ -1,12 +1,6 @@
 -- Which rows a part of a broker has: another value of the part leaves the rows of all other kinds (this project's).
-use Rattle.std.specs.Prelude.{◌≡◌, ℕ, true, false, option_map, ⊤, refl}
-use Rattle.std.proofs.Common.{sym, ◌∙◌, ap}
-use Rattle.std.proofs.lemmas.Bool.{true≢false, false≢true}
-use Rattle.broker_types.specs.Text.{Text}
-use Rattle.broker_types.specs.Map.{Map, get}
-use Rattle.broker_types.specs.Token.{Tokens}
-use Rattle.broker_types.specs.Secret.{Key}
-use Rattle.broker_types.specs.Broker.{Broker, Waiting, Mount, Role}
+use Rattle.std.proofs.Common.{◌≡◌, ℕ, true, false, option_map, refl, sym, ◌∙◌, ap, true≢false}
+use Rattle.broker_types.specs.Words.{⊤, false≢true, Text, Map, get, Tokens, Key, Broker, Waiting, Mount, Role}
 use Rattle.records.specs.declared.kind.Kind.{Kind}
 use Rattle.records.specs.declared.kind.Kind.TheVariants as kind
 use Rattle.records.specs.Parts.{Part, Tells, KeepsOthers, of_tokens, of_tokens_and_theirs, of_secrets, of_waiting}

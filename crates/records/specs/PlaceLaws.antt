@@ -1,14 +1,8 @@
 -- What an edit at a key's place does to entries.
-use Rattle.std.specs.Prelude.{◌≡◌, suc, ◌<◌, ◌≤◌, true, false, List, [], ◌∷◌, length, slice_index_or}
-use Rattle.std.specs.List.{insert}
-use Rattle.std.specs.Ordering.{match_ordering}
+use Rattle.std.proofs.Common.{◌≡◌, ◌<◌, ◌≤◌, ◌∷◌, suc, true, false, List, [], length, slice_index_or, refl, sym, ap}
+use Rattle.broker_types.specs.Words.{insert, match_ordering, by_order, Ordering, Less, Equal, Greater, set, zero-le}
+use Rattle.broker_types.specs.Words.{suc-le-suc, zero-lt-suc, false≢true}
 use Rattle.std.specs.FinMap.{put}
-use Rattle.std.specs.FinMap.Entries.{by_order}
-use Rattle.std.specs.declared.cmp.Ordering.{Ordering}
-use Rattle.std.specs.declared.cmp.Ordering.TheVariants.{Less, Equal, Greater}
-use Rattle.std.proofs.Common.{refl, sym, ap, set, zero-le, suc-le-suc}
-use Rattle.std.proofs.Math.Nat.{zero-lt-suc}
-use Rattle.std.proofs.lemmas.Bool.{false≢true}
 use Rattle.records.specs.KeyPlaces.{rank, is_met}
 
 module _ {K X : Type 0} (order : K → K → Ordering) where

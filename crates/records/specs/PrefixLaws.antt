@@ -1,12 +1,7 @@
 -- Laws of a prefix, and of what follows it.
-use Rattle.std.specs.Prelude.{◌≡◌, ◌++◌, ◌∷◌, [], take, drop, length, nat_eq, true}
-use Rattle.std.specs.Cmp.{nat_cmp_total, tied_itself}
-use Rattle.std.specs.List.{starts_with}
-use Rattle.std.specs.Ordering.{ordering_then}
-use Rattle.std.proofs.Common.{refl, sym, ◌∙◌, ap}
-use Rattle.std.proofs.Math.Seq.{take-append_seam}
-use Rattle.std.proofs.lemmas.List.{take-append-drop}
-use Rattle.broker_types.specs.Text.{Text, text_cmp, same}
+use Rattle.std.proofs.Common.{◌≡◌, ◌++◌, ◌∷◌, [], take, drop, length, nat_eq, true, refl, sym, ◌∙◌, ap}
+use Rattle.broker_types.specs.Words.{nat_cmp_total, tied_itself, starts_with, ordering_then, take-append_seam}
+use Rattle.broker_types.specs.Words.{take-append-drop, Text, text_cmp, same}
 use Rattle.broker_types.specs.TextLaws.{same_self, same_true}
 
 -- a text that is the prefix and a rest begins with it

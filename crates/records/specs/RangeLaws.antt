@@ -1,30 +1,18 @@
 -- What sound brokers have is in the range of rows (this project's).
-use Rattle.std.specs.Prelude.{◌≡◌, ◌≢◌, ◌<◌, ◌≤◌, ◌^◌, ◌&&◌, ◌||◌, ◌==◌, nat_le, nat_lt, ℕ, List, [], ◌∷◌, length, map}
-use Rattle.std.specs.Prelude.{All, Bool, true, Some, None}
+use Rattle.std.specs.Prelude.{◌≡◌, ◌≢◌, ◌<◌, ◌≤◌, ◌^◌, ◌&&◌, ◌||◌, ◌==◌, ◌∷◌, nat_le, nat_lt, ℕ, List, [], length, map}
+use Rattle.broker_types.specs.Words.{All, Bool, true, Some, None, is_sorted, to_be_bytes, w128, list_all, refl, sym, ap}
+use Rattle.broker_types.specs.Words.{subst, lit<, inl, inr, le_trans, and_parts, or_cases, leb-true, eqb-true}
+use Rattle.broker_types.specs.Words.{false≢true, All-cons, All-nil, IsUtf8-from_ascii, IsAscii-from_all, Text, text_cmp}
+use Rattle.broker_types.specs.Words.{Map, entries, get, len, id, is_name, is_name_byte, Token, Tokens, Lease, Key}
+use Rattle.broker_types.specs.Words.{Version, Role, Waiting, Forms, SoundTokens, IsShortText, IsIdentifier, IsTokenText}
+use Rattle.broker_types.specs.Words.{IsPathText, is_ascending, IsSoundLease, IsSoundKey, IsSoundVersion, IsSoundWaiting}
+use Rattle.broker_types.specs.Words.{IsSoundRole}
 use Rattle.std.specs.FinMap as fin
-use Rattle.std.specs.FinMap.{is_sorted}
-use Rattle.std.specs.Int.{to_be_bytes, w128}
-use Rattle.std.specs.List.{list_all}
-use Rattle.std.proofs.Common.{refl, sym, ap, subst, lit<, inl, inr, lt_of_le_of_lt}
-use Rattle.std.proofs.Math.Nat.{le_trans}
-use Rattle.std.proofs.lemmas.Bool.{and_parts, or_cases, leb-true, eqb-true, false≢true}
-use Rattle.std.proofs.lemmas.List.Elements.{All-cons, All-nil}
-use Rattle.std.proofs.lemmas.Str.{IsUtf8-from_ascii}
-use Rattle.std.proofs.lemmas.Str.Ascii.{IsAscii-from_all}
+use Rattle.std.proofs.Common.{lt_of_le_of_lt}
 use Rattle.uuid.specs.Text.{lower}
 use Rattle.uuid.proofs.TextLemmas.{hyphenated_ascii}
-use Rattle.broker_types.specs.Text.{Text, text_cmp}
-use Rattle.broker_types.specs.Map.{Map, entries, get, len}
-use Rattle.broker_types.specs.Identifier.{id}
 use Rattle.broker_types.specs.IdentifierLaws.{id-length}
-use Rattle.broker_types.specs.Name.{is_name, is_name_byte}
 use Rattle.broker_types.specs.SearchLaws.{each_entry}
-use Rattle.broker_types.specs.Token.{Token, Tokens, Lease}
-use Rattle.broker_types.specs.Secret.{Key, Version}
-use Rattle.broker_types.specs.Broker.{Role, Waiting}
-use Rattle.broker_types.specs.Sound.{Forms, SoundTokens, IsShortText, IsIdentifier, IsTokenText, IsPathText}
-use Rattle.broker_types.specs.Sound.{is_ascending, IsSoundLease, IsSoundKey, IsSoundVersion, IsSoundWaiting}
-use Rattle.broker_types.specs.Sound.{IsSoundRole}
 use Rattle.broker_types.specs.TestLaws.{T_true}
 use Rattle.records.specs.CubbyKeyLaws.{length-token}
 use Rattle.records.specs.KeyEntry.{key_entry}

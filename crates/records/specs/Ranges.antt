@@ -1,12 +1,8 @@
 -- Which records of the broker rows can keep: numbers that no printer must test again, and texts short enough for the
 -- length in their row (this project's row format).
 use Rattle.std.specs.Prelude.{◌≡◌, ◌≢◌, ◌<◌, ◌≤◌, ◌^◌, [], false, Some}
-use Rattle.broker_types.specs.Limits.{longest_ttl, greatest_version}
-use Rattle.broker_types.specs.Duration.{longest_duration}
-use Rattle.broker_types.specs.Sound.{IsMoment, IsEnd, IsShortText}
-use Rattle.broker_types.specs.Secret.{Version}
-use Rattle.broker_types.specs.Token.{Lease}
-use Rattle.broker_types.specs.Broker.{Mount, Role, Waiting}
+use Rattle.broker_types.specs.Words.{longest_ttl, greatest_version, longest_duration, IsMoment, IsEnd, IsShortText}
+use Rattle.broker_types.specs.Words.{Version, Lease, Mount, Role, Waiting}
 use Rattle.records.specs.RowReaders.{IsWide, IsSomeIn}
 use Rattle.records.specs.Fields.{IsLongText}
 use Rattle.records.specs.KeyEntry.{KeyEntry}

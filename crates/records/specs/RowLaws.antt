@@ -1,14 +1,7 @@
 -- Equal rows are of equal records: of cubbyholes, policies, keys, versions, leases, waiting responses and tokens.
-use Rattle.std.specs.Prelude.{◌≡◌, ℕ, List, [], ◌++◌, drop, Option, Some, None}
-use Rattle.std.proofs.Common.{ap, sym, ◌∙◌, arith}
-use Rattle.std.proofs.lemmas.Option.{same_Some}
-use Rattle.broker_types.specs.Text.{Text}
-use Rattle.broker_types.specs.Token.{Lease}
-use Rattle.broker_types.specs.Secret.{Version}
-use Rattle.broker_types.specs.Broker.{Waiting}
-use Rattle.broker_types.specs.Limits.{longest_ttl, greatest_version}
-use Rattle.broker_types.specs.Duration.{longest_duration}
-use Rattle.broker_types.specs.Sound.{IsShortText}
+use Rattle.std.proofs.Common.{◌≡◌, ◌++◌, ℕ, List, [], drop, Option, Some, None, ap, sym, ◌∙◌, arith}
+use Rattle.broker_types.specs.Words.{same_Some, Text, Lease, Version, Waiting, longest_ttl, greatest_version}
+use Rattle.broker_types.specs.Words.{longest_duration, IsShortText}
 use Rattle.records.specs.declared.row.Row.{Row}
 use Rattle.records.specs.ConversionLaws.{rows_apart, key_converts, version_converts, lease_converts, waiting_converts}
 use Rattle.records.specs.KeyEntry.{KeyEntry}

@@ -1,14 +1,7 @@
 -- Names of secrets have no line feed, and names of mounts and roles no slash.
-use Rattle.std.specs.Prelude.{◌≡◌, ℕ, List, [], ◌∷◌, ◌++◌, ◌&&◌, ◌==◌, not, Bool, true}
-use Rattle.std.specs.List.{list_all}
-use Rattle.std.proofs.Common.{refl, ◌∙◌, ap, arith, append_assoc}
-use Rattle.std.proofs.lemmas.Bool.{and_parts}
-use Rattle.std.proofs.lemmas.Bool.Decides.{nat_tests}
-use Rattle.std.proofs.lemmas.List.Folds.{list_all-append}
-use Rattle.broker_types.specs.Text.{Text}
-use Rattle.broker_types.specs.Name.{is_name, is_name_byte, is_mount_name}
-use Rattle.broker_types.specs.Path.{is_path, is_path_byte}
-use Rattle.broker_types.specs.Sound.{IsSecretName}
+use Rattle.std.proofs.Common.{◌≡◌, ◌∷◌, ◌++◌, ◌&&◌, ◌==◌, ℕ, List, [], not, Bool, true, refl, ◌∙◌, ap, arith}
+use Rattle.broker_types.specs.Words.{list_all, append_assoc, and_parts, nat_tests, list_all-append, Text, is_name}
+use Rattle.broker_types.specs.Words.{is_name_byte, is_mount_name, is_path, is_path_byte, IsSecretName}
 use Rattle.records.specs.Splits.{slash, line_feed, lacks}
 
 -- bytes that pass one test pass each that follows from it

@@ -1,14 +1,9 @@
 -- Spellings of fields: none begins another.
-use Rattle.std.specs.Prelude.{◌≡◌, ◌<◌, ◌≤◌, ◌^◌, ℕ, List, [], ◌∷◌, ◌++◌, length, take, drop, get_or, All, Bool, true}
-use Rattle.std.specs.Prelude.{false, Option, Some, None, ⊤}
-use Rattle.std.specs.Int.{w32, w64, from_be_bytes}
-use Rattle.std.proofs.Common.{refl, sym, ◌∙◌, ap, arith, append_assoc}
-use Rattle.std.proofs.Math.Seq.{take-append_seam}
-use Rattle.std.proofs.lemmas.List.{append_cancel_left}
-use Rattle.std.proofs.lemmas.List.Elements.{All-head, All-tail}
-use Rattle.std.proofs.lemmas.Nat.{from_be_bytes-to_be_bytes_4, from_be_bytes-to_be_bytes_8, be_bytes_4, be_bytes_8}
-use Rattle.broker_types.specs.Text.{Text}
-use Rattle.broker_types.specs.Sound.{IsMoment, IsShortText}
+use Rattle.std.specs.Prelude.{◌≡◌, ◌<◌, ◌≤◌, ◌^◌, ◌∷◌, ◌++◌, ℕ, List, [], length, take, drop, get_or, All, Bool, true}
+use Rattle.broker_types.specs.Words.{false, Option, Some, None, ⊤, w32, w64, from_be_bytes, refl, sym, ◌∙◌, ap, arith}
+use Rattle.broker_types.specs.Words.{append_assoc, take-append_seam, append_cancel_left, All-head, All-tail}
+use Rattle.broker_types.specs.Words.{from_be_bytes-to_be_bytes_4, from_be_bytes-to_be_bytes_8, be_bytes_4, be_bytes_8}
+use Rattle.broker_types.specs.Words.{Text, IsMoment, IsShortText}
 use Rattle.records.specs.Fields.{IsLongText}
 use Rattle.records.specs.RowReaders.{IsWide, IsSomeIn, IsListOf}
 use Rattle.records.specs.RowForms.{pair}

@@ -1,10 +1,7 @@
 -- Laws of texts split at a byte.
-use Rattle.std.specs.Prelude.{◌≡◌, ◌==◌, ◌&&◌, ℕ, [], ◌∷◌, ◌++◌, not, true, false, Some, None, option_map}
-use Rattle.std.proofs.Common.{refl, sym, ◌∙◌, ap}
-use Rattle.std.proofs.lemmas.Bool.{and_parts, not-true, eqb-true}
-use Rattle.std.proofs.lemmas.Option.{none-some, same_Some}
-use Rattle.std.proofs.lemmas.Slice.Eq.{bytes_eq-Decides}
-use Rattle.broker_types.specs.Text.{Text}
+use Rattle.std.proofs.Common.{◌≡◌, ◌==◌, ◌&&◌, ◌∷◌, ◌++◌, ℕ, [], not, true, false, Some, None, option_map, refl, sym}
+use Rattle.broker_types.specs.Words.{◌∙◌, ap, and_parts, not-true, eqb-true, none-some, same_Some, bytes_eq-Decides}
+use Rattle.broker_types.specs.Words.{Text}
 use Rattle.records.specs.Splits.{split_once, split_step, lacks}
 
 -- a byte is itself

@@ -1,7 +1,6 @@
 -- Values in options and results: laws that std does not have.
-use Rattle.std.specs.Prelude.{◌≡◌, Bool, true, false, if◌then◌else◌, Option, Some, None, Result, Ok, Err, option_map}
-use Rattle.std.specs.Prelude.{option_and_then}
-use Rattle.std.proofs.Common.{refl, ap}
+use Rattle.std.specs.Prelude.{◌≡◌, if◌then◌else◌, Bool, true, false, Option, Some, None, Result, Ok, Err, option_map}
+use Rattle.broker_types.specs.Words.{option_and_then, refl, ap}
 
 -- an option that has no value
 pub none_of : {X : Type 0} (o : Option X) → ((x : X) → o ≡ Some x → ⊥) → o ≡ None

@@ -1,9 +1,6 @@
 -- Laws of the keys of versions, as statements (this project's).
 use Rattle.std.specs.Prelude.{◌≡◌, ◌<◌, ◌≤◌, ◌^◌, ◌∷◌, ◌++◌, ℕ, Some}
-use Rattle.std.specs.Ordering.{nat_cmp}
-use Rattle.broker_types.specs.Text.{Text, text_cmp}
-use Rattle.broker_types.specs.Limits.{greatest_version}
-use Rattle.broker_types.specs.Sound.{IsSecretName}
+use Rattle.broker_types.specs.Words.{nat_cmp, Text, text_cmp, greatest_version, IsSecretName}
 use Rattle.records.specs.Rows.{padded, version_of_digits}
 use Rattle.records.specs.Splits.{line_feed, split_once}
 

@@ -1,7 +1,6 @@
 -- What a database that was there before has.
 use Rattle.std.proofs.Common.{◌≡◌, inl, inr, None, IsTrue, Ok, Err, Result, List, [], map, refl, sym, ap, subst, ◌∙◌}
-use Rattle.std.specs.FinMap.{empty, from_entries}
-use Rattle.std.specs.Prelude.{IfOk}
+use Rattle.records.specs.Words.{empty, from_entries, IfOk, Rows}
 use Rattle.sqlite.specs.Order.{Row}
 use Rattle.sqlite.specs.Effect.{Database}
 use Rattle.sqlite.specs.Listing.{understood}
@@ -10,12 +9,8 @@ use Rattle.sqlite.specs.Recovery.{Image}
 use Rattle.sqlite.specs.State.{State, IsLive, IsUnchanged, Opens, Shown}
 use Rattle.sqlite.proofs.Callers.{IsPlain, reads_as}
 use Rattle.sqlite_schema.specs.Rules.{Obeys}
-use Rattle.records.specs.Transaction.{Rows}
-use Rattle.records_sql.specs.SqlTable.{IsStore, broker_schema, no_schema, entries_of, kept, rows_of}
-use Rattle.records_sql.specs.Texts.{numbers_text}
-use Rattle.records_sql.specs.Numbered.{AreNumbered}
-use Rattle.records_sql.specs.Adopted.{HasRows, IsSettled, IsAdopted, IsKeptIn}
-use Rattle.records_sql.specs.Made.{IsNewTable}
+use Rattle.records_sql.specs.Words.{IsStore, broker_schema, no_schema, entries_of, kept, rows_of, numbers_text}
+use Rattle.records_sql.specs.Words.{AreNumbered, HasRows, IsSettled, IsAdopted, IsKeptIn, IsNewTable}
 use Rattle.records_sql.proofs.Texts.{numbers_is, numbers_plain, numbers_unlisted, numbers_project, by_number}
 use Rattle.records_sql.proofs.QueryLemmas.{is_found}
 use Rattle.records_sql.proofs.GetLemmas.{shown_same}

@@ -1,28 +1,13 @@
 -- What is remembered is true of rows that changed.
-use Rattle.std.proofs.Common.{◌≡◌, ◌∙◌, ℕ, ◌+◌, ◌<◌, ◌≤◌, ◌==◌, Bool, true, false, not, cond, List, [], ◌∷◌, length}
-use Rattle.std.proofs.Common.{refl, sym, ap, subst, arith}
-use Rattle.std.specs.Prelude.{Option, None, Some, nat_le, All, Contains, IsPermutation}
-use Rattle.std.specs.List.{slice_index_or}
-use Rattle.std.specs.declared.cmp.Ordering.{Ordering}
-use Rattle.std.specs.declared.cmp.Ordering.TheVariants.{Equal}
-use Rattle.std.specs.Ordering.{eq_by_cmp, is_eq, nat_cmp, ordering_then}
-use Rattle.std.specs.Cmp.{nat_cmp_total, tied_itself}
-use Rattle.std.specs.FinMap.{get, insert, remove, get_tied, get-insert, get-remove}
-use Rattle.std.proofs.lemmas.Bool.{eqb-true, false≢true, not-true}
-use Rattle.std.proofs.lemmas.Bool.Decides.{nat_tests}
-use Rattle.std.proofs.lemmas.List.Elements.{All-filter, All-head, filter_passes}
-use Rattle.std.proofs.lemmas.List.Sorted.{IsPermutation-refl, length_permutation}
-use Rattle.std.proofs.lemmas.Option.{none-some, same_Some}
-use Rattle.broker_types.specs.Text.{text_cmp, same}
-use Rattle.broker_types.specs.TextLaws.{same-text_cmp}
-use Rattle.broker_types.specs.TestLaws.{is_equal}
-use Rattle.records.specs.declared.row.Row.{Row}
-use Rattle.records.specs.DueRows.{AreDue, is_due, rows_due}
-use Rattle.records.specs.EntryLaws.{passing_each, passing_whole}
-use Rattle.records.specs.Kind.{RowKey, key_cmp, kind_number}
-use Rattle.records.specs.KeyLaws.{key_cmp_total}
-use Rattle.records.specs.Transaction.{Rows}
-use Rattle.records_sql.specs.Memory.{AreFound, IsDueFrom, IsCalmUntil, others}
+use Rattle.std.proofs.Common.{◌≡◌, ◌+◌, ◌<◌, ◌≤◌, ◌==◌, ◌∷◌, ◌∙◌, ℕ, Bool, true, false, not, cond, List, [], length, ap}
+use Rattle.records.specs.Words.{refl, sym, subst, arith, Option, None, Some, nat_le, All, Contains, IsPermutation}
+use Rattle.records.specs.Words.{slice_index_or, Ordering, Equal, eq_by_cmp, is_eq, nat_cmp, ordering_then}
+use Rattle.records.specs.Words.{nat_cmp_total, tied_itself, get, insert, remove, get_tied, get-insert, get-remove}
+use Rattle.records.specs.Words.{eqb-true, false≢true, not-true, nat_tests, All-filter, All-head, filter_passes}
+use Rattle.records.specs.Words.{IsPermutation-refl, length_permutation, none-some, same_Some, text_cmp, same}
+use Rattle.records.specs.Words.{same-text_cmp, is_equal, AreDue, is_due, rows_due, passing_each, passing_whole, RowKey}
+use Rattle.records.specs.Words.{key_cmp, kind_number, key_cmp_total, Rows}
+use Rattle.records_sql.specs.Words.{Row, AreFound, IsDueFrom, IsCalmUntil, others}
 
 -- ---- keys
 

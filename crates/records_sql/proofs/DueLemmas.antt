@@ -1,15 +1,11 @@
 -- What the statement by due shows.
-use Rattle.std.proofs.Common.{◌≡◌, ℕ, zero, suc, ◌+◌, ◌<◌, pos, Bool, true, false, cond, ◌&&◌, nat_le, List, [], ◌∷◌}
-use Rattle.std.proofs.Common.{map, length, get_or, Option, Some, None, refl, sym, ap, subst, ◌∙◌, arith}
-use Rattle.std.specs.Prelude.{filter, IsPermutation, IsSorted, unwrap_or}
-use Rattle.std.specs.List.{list_all, AllByRecursion}
-use Rattle.std.specs.declared.cmp.Ordering.{Ordering}
-use Rattle.std.specs.declared.cmp.Ordering.TheVariants.{Equal}
-use Rattle.std.specs.Ordering.{is_lt, is_le, is_ge, nat_cmp, int_cmp, ordering_then}
-use Rattle.std.specs.FinMap.{entries}
-use Rattle.std.proofs.lemmas.List.Sorted.{IsPermutation-map, IsPermutation-trans, IsPermutation-sym, All-permutation}
-use Rattle.std.proofs.lemmas.List.Elements.{All-from_recursion, recursion_from_All}
-use Rattle.std.proofs.lemmas.Bool.Decides.{nat_tests}
+use Rattle.std.proofs.Common.{◌≡◌, ◌+◌, ◌<◌, ◌&&◌, ◌∷◌, ℕ, zero, suc, pos, Bool, true, false, cond, nat_le, List, []}
+use Rattle.records.specs.Words.{map, length, get_or, Option, Some, None, refl, sym, ap, subst, ◌∙◌, arith, filter}
+use Rattle.records.specs.Words.{IsPermutation, IsSorted, unwrap_or, list_all, AllByRecursion, Ordering, Equal, is_lt}
+use Rattle.records.specs.Words.{is_le, is_ge, nat_cmp, int_cmp, ordering_then, entries, IsPermutation-map}
+use Rattle.records.specs.Words.{IsPermutation-trans, IsPermutation-sym, All-permutation, All-from_recursion}
+use Rattle.records.specs.Words.{recursion_from_All, nat_tests, text_cmp, RowKey as Key, kind_number, kind_of-number}
+use Rattle.records.specs.Words.{is_due, due_cmp, AreDue}
 use Rattle.sqlite.specs.declared.types.Value.TheVariants.{Int, Text as Words}
 use Rattle.sqlite.specs.Order.{Row}
 use Rattle.sqlite.specs.Term.{holds}
@@ -18,13 +14,8 @@ use Rattle.sqlite.specs.Query.{Output, output_cmp}
 use Rattle.sqlite_value.specs.Order.{value_cmp, column}
 use Rattle.sqlite_value.proofs.OrderLemmas.{value_cmp-Int, value_cmp-Text, then-Equal}
 use Rattle.sqlite_trees.proofs.ListLemmas.{IsPermutation-filter}
-use Rattle.broker_types.specs.Text.{text_cmp}
-use Rattle.records.specs.declared.row.Row.{Row as Fields}
-use Rattle.records.specs.Kind.{RowKey as Key, kind_number}
-use Rattle.records.specs.KeyLaws.{kind_of-number}
-use Rattle.records.specs.DueRows.{is_due, due_cmp, AreDue}
-use Rattle.records_sql.specs.SqlTable.{Kept, stored, entries_of, are_apart, due_value, due_in, whole_entry}
-use Rattle.records_sql.specs.Texts.{due_params}
+use Rattle.records_sql.specs.Words.{Row as Fields, Kept, stored, entries_of, are_apart, due_value, due_in, whole_entry}
+use Rattle.records_sql.specs.Words.{due_params}
 use Rattle.records_sql.proofs.Texts.{due_tests, whole_project, by_due}
 use Rattle.records_sql.proofs.QueryLemmas.{passes, query, IsFound, shown_of, map_map}
 use Rattle.records_sql.proofs.KeptLemmas.{map_of}

@@ -1,8 +1,6 @@
 -- A statement that ends a transaction has ended it, whatever it answers.
-use Rattle.std.proofs.Common.{◌≡◌, ◌⊎◌, inl, inr, ℕ, Bool, true, false, not, ◌&&◌, ◌||◌, IsTrue, List, [], length}
-use Rattle.std.proofs.Common.{Option, None, Ok, Err, sym, ap, ◌∙◌, arith}
-use Rattle.std.specs.Prelude.{is_some}
-use Rattle.std.proofs.lemmas.Bool.{cases_Bool}
+use Rattle.std.proofs.Common.{◌≡◌, ◌⊎◌, ◌&&◌, ◌||◌, inl, inr, ℕ, Bool, true, false, not, IsTrue, List, [], length, None}
+use Rattle.records.specs.Words.{Option, Ok, Err, sym, ap, ◌∙◌, arith, is_some, cases_Bool}
 use Rattle.sqlite.specs.Command.{Command}
 use Rattle.sqlite.specs.Command.TheVariants.{Begin, Commit, Rollback, Release, RollbackTo}
 use Rattle.sqlite.specs.declared.error.Error.{Error}

@@ -1,9 +1,8 @@
 -- What a query in a transaction shows of the rows.
-use Rattle.std.proofs.Common.{◌≡◌, inl, inr, ℕ, true, IsTrue, List, [], ◌∷◌, map, slice_get, take, Option, Some, None}
-use Rattle.std.proofs.Common.{option_map, refl, sym, ap, subst, ◌∙◌, arith}
-use Rattle.std.specs.Prelude.{filter, nat_eq}
-use Rattle.std.specs.List.{starts_with}
-use Rattle.std.specs.FinMap.{get, find, get-from_entries}
+use Rattle.std.specs.Prelude.{◌≡◌, ◌∷◌, ℕ, true, IsTrue, List, [], map, slice_get, take, Option, Some, None, option_map}
+use Rattle.records.specs.Words.{inl, inr, refl, sym, ap, subst, ◌∙◌, arith, filter, nat_eq, starts_with, get, find}
+use Rattle.records.specs.Words.{get-from_entries, RowKey as Key, key_cmp, rows_under, rows_from, rows_upto, rows_owned}
+use Rattle.records.specs.Words.{key_cmp_total, AreDue}
 use Rattle.sqlite.specs.Order.{Row}
 use Rattle.sqlite.specs.Term.{Term, col}
 use Rattle.sqlite.specs.Tree.{Trees}
@@ -13,18 +12,11 @@ use Rattle.sqlite.specs.Listing.{understood}
 use Rattle.sqlite.specs.Clock.{timed}
 use Rattle.sqlite.specs.State.{State, HasCleanDisk, Survives, Shown, ShowsRows, IsUnchanged}
 use Rattle.sqlite.proofs.Callers.{IsPlain, reads_as}
-use Rattle.records.specs.Kind.{RowKey as Key, key_cmp}
-use Rattle.records.specs.Transaction.{rows_under, rows_from, rows_upto, rows_owned}
-use Rattle.records.specs.declared.row.Row.{Row as Fields}
-use Rattle.records.specs.KeyLaws.{key_cmp_total}
-use Rattle.records_sql.specs.Memory.{Agrees}
-use Rattle.records_sql.specs.SqlTable.{Kept, stored, kept, due_value, broker_schema, IsStore, IsSoundAt}
-use Rattle.records_sql.specs.SqlTable.{IsActive, IsUsable, rows_of, entries_of, are_apart, due_in, read_row}
-use Rattle.records_sql.specs.SqlTable.{entry_in, whole_entry, Read, Asked}
-use Rattle.records_sql.specs.Texts.{get_text, under_text, from_text, upto_text, owner_text, due_text, key_params}
-use Rattle.records_sql.specs.Texts.{under_params, from_params, upto_params, due_params}
-use Rattle.records_sql.specs.Bounds.{IsAbove, IsLater}
-use Rattle.records.specs.DueRows.{AreDue}
+use Rattle.records_sql.specs.Words.{Row as Fields, Agrees, Kept, stored, kept, due_value, broker_schema, IsStore}
+use Rattle.records_sql.specs.Words.{IsSoundAt, IsActive, IsUsable, rows_of, entries_of, are_apart, due_in, read_row}
+use Rattle.records_sql.specs.Words.{entry_in, whole_entry, Read, Asked, get_text, under_text, from_text, upto_text}
+use Rattle.records_sql.specs.Words.{owner_text, due_text, key_params, under_params, from_params, upto_params}
+use Rattle.records_sql.specs.Words.{due_params, IsAbove, IsLater}
 use Rattle.records_sql.proofs.PageLemmas.{from_found, upto_found}
 use Rattle.records_sql.proofs.UnderLemmas.{under_found, owner_found}
 use Rattle.records_sql.proofs.DueLemmas.{due_found}

@@ -1,22 +1,15 @@
 -- Lists of entries, in the order of their keys or in any order, and the map that they stand for.
-use Rattle.std.proofs.Common.{◌≡◌, Bool, true, false, cond, ◌&&◌, List, [], ◌∷◌, length, map, Option, Some, None}
-use Rattle.std.proofs.Common.{refl, sym, ap, subst, ◌∙◌, arith}
+use Rattle.std.proofs.Common.{◌≡◌, ◌&&◌, ◌∷◌, Bool, true, false, cond, List, [], length, map, Option, Some, None, refl}
+use Rattle.records.specs.Words.{sym, ap, subst, ◌∙◌, arith, filter, IsPermutation, AllByRecursion, IsDistinct, Ordering}
+use Rattle.records.specs.Words.{Less, Equal, Greater, is_eq, eq_by_cmp, find, entries, is_sorted, entries_sorted}
+use Rattle.records.specs.Words.{get-entries, get-from_entries, from_entries, entries-insert, len-entries, len-empty}
+use Rattle.records.specs.Words.{below_all, same_entries, by_order, IsPermutation-refl, IsPermutation-trans}
+use Rattle.records.specs.Words.{IsPermutation-sym, IsPermutation-cons, IsPermutation-middle, Contains-permutation}
+use Rattle.records.specs.Words.{found_in, in_found, RowKey as Key, key_cmp, key_cmp_total, key_cmp_exact}
 use lib.Dec.{T}
-use Rattle.std.specs.Prelude.{filter, IsPermutation}
-use Rattle.std.specs.List.{AllByRecursion, IsDistinct}
-use Rattle.std.specs.declared.cmp.Ordering.{Ordering}
-use Rattle.std.specs.declared.cmp.Ordering.TheVariants.{Less, Equal, Greater}
-use Rattle.std.specs.Ordering.{is_eq, eq_by_cmp}
-use Rattle.std.specs.FinMap.{find, put, entries, is_sorted, entries_sorted, get-entries, get-from_entries, from_entries}
-use Rattle.std.specs.FinMap.{entries-insert, len-entries, len-empty}
-use Rattle.std.specs.FinMap.Entries.{below_all, same_entries, by_order}
-use Rattle.std.proofs.lemmas.List.Sorted.{IsPermutation-refl, IsPermutation-trans, IsPermutation-sym}
-use Rattle.std.proofs.lemmas.List.Sorted.{IsPermutation-cons, IsPermutation-middle, Contains-permutation}
+use Rattle.std.specs.FinMap.{put}
 use Rattle.sqlite_trees.proofs.ListLemmas.{IsPermutation-filter}
-use Rattle.records.specs.declared.row.Row.{Row as Fields}
-use Rattle.records.specs.EntryLaws.{found_in, in_found}
-use Rattle.records.specs.Kind.{RowKey as Key, key_cmp}
-use Rattle.records.specs.KeyLaws.{key_cmp_total, key_cmp_exact}
+use Rattle.records_sql.specs.Words.{Row as Fields}
 
 pub both_T : (a b : Bool) → T a → T b → T (a && b)
 both_T true b p h = h

@@ -1,17 +1,11 @@
 -- What the rows of a table are that was there before: sqlite's rules for the table, and what the rows show.
-use Rattle.std.proofs.Common.{◌≡◌, ℕ, ◌+◌, ◌<◌, ◌≤◌, ℤ, pos, Bool, true, false, not, ◌&&◌, ◌||◌, List, [], ◌∷◌, map}
-use Rattle.std.proofs.Common.{length, get_or, drop, Option, None, Some, refl, sym, ap, subst, ◌∙◌, arith}
-use Rattle.std.proofs.lemmas.Bool.Decides.{nat_tests}
-use Rattle.std.proofs.lemmas.List.{drop_more}
-use Rattle.std.specs.Prelude.{filter, IsPermutation}
-use Rattle.std.specs.List.{list_all, list_any, AllByRecursion, IsDistinct}
-use Rattle.std.specs.declared.cmp.Ordering.{Ordering}
-use Rattle.std.specs.declared.cmp.Ordering.TheVariants.{Less, Equal, Greater}
-use Rattle.std.specs.Ordering.{is_eq, is_ne, int_cmp, eq_by_cmp}
-use Rattle.std.specs.Cmp.{eq_by_cmp_equiv, int_cmp_total}
-use Rattle.std.proofs.lemmas.List.Sorted.{IsPermutation-map, IsPermutation-sym, All-permutation}
-use Rattle.std.proofs.lemmas.List.Elements.{All-from_recursion, recursion_from_All}
-use Rattle.std.proofs.lemmas.Map.Keys.{IsDistinct-IsPermutation}
+use Rattle.std.proofs.Common.{◌≡◌, ◌+◌, ◌<◌, ◌≤◌, ◌&&◌, ◌||◌, ◌∷◌, ℕ, ℤ, pos, Bool, true, false, not, List, [], map, ap}
+use Rattle.records.specs.Words.{length, get_or, drop, Option, None, Some, refl, sym, subst, ◌∙◌, arith, nat_tests}
+use Rattle.records.specs.Words.{drop_more, filter, IsPermutation, list_all, list_any, AllByRecursion, IsDistinct}
+use Rattle.records.specs.Words.{Ordering, Less, Equal, Greater, is_eq, is_ne, int_cmp, eq_by_cmp, eq_by_cmp_equiv}
+use Rattle.records.specs.Words.{int_cmp_total, IsPermutation-map, IsPermutation-sym, All-permutation}
+use Rattle.records.specs.Words.{All-from_recursion, recursion_from_All, IsDistinct-IsPermutation, key_cmp, kind_number}
+use Rattle.records.specs.Words.{kind_of, key_cmp_total}
 use Rattle.sqlite.specs.declared.types.Value.{Value}
 use Rattle.sqlite.specs.declared.types.Value.TheVariants.{Null, Int, Real, Text as Words, Blob as Bytes}
 use Rattle.sqlite.specs.Order.{Row}
@@ -24,12 +18,8 @@ use Rattle.sqlite_value.proofs.OrderLemmas.{value_cmp-Int}
 use Rattle.sqlite_schema.specs.Rules.{agree, differ, are_typed, are_present, is_of, Obeys, passes as passes_rule}
 use Rattle.sqlite_schema.specs.declared.schema.Constraint.TheVariants.{Datatype, NotNull, Unique}
 use Rattle.sqlite.specs.Tree.{Trees}
-use Rattle.records.specs.declared.kind.Kind.{Kind}
-use Rattle.records.specs.Kind.{key_cmp, kind_number}
-use Rattle.records.specs.KeyLaws.{kind_of, key_cmp_total}
-use Rattle.records_sql.specs.SqlTable.{Kept, stored, kept, table, broker_schema, int_in, size_of, due_in, due_value}
-use Rattle.records_sql.specs.SqlTable.{is_apart, are_apart}
-use Rattle.records_sql.specs.Numbered.{IsListed, IsOver, AreNumbered, number_of}
+use Rattle.records_sql.specs.Words.{Kind, Kept, stored, kept, table, broker_schema, int_in, size_of, due_in, due_value}
+use Rattle.records_sql.specs.Words.{is_apart, are_apart, IsListed, IsOver, AreNumbered, number_of}
 use Rattle.records_sql.proofs.Texts.{numbers_project, by_number}
 use Rattle.records_sql.proofs.QueryLemmas.{IsFound, shown_of, map_map}
 use Rattle.records_sql.proofs.KeptLemmas.{and_left, and_right, and_both}

@@ -1,33 +1,19 @@
 -- What the statements by prefix that have another bound show.
-use Rattle.std.proofs.Common.{◌≡◌, ℕ, Bool, true, false, cond, ◌&&◌, nat_eq, List, [], ◌∷◌, map, take, Option, Some}
-use Rattle.std.proofs.Common.{◌≤◌, zero, suc, refl, sym, ap, ◌∙◌, arith}
+use Rattle.std.proofs.Common.{◌≡◌, ◌&&◌, ◌∷◌, ◌≤◌, ℕ, Bool, true, false, cond, nat_eq, List, [], map, take, Option, suc}
+use Rattle.records.specs.Words.{Some, zero, refl, sym, ap, ◌∙◌, arith, filter, list_all, starts_with, Ordering, Less}
+use Rattle.records.specs.Words.{Equal, Greater, is_lt, is_le, is_ge, nat_cmp, ordering_then, tied_itself, nat_cmp_total}
+use Rattle.records.specs.Words.{slice_cmp, entries, entries_sorted, is_sorted, below_all, and_parts, false≢true}
+use Rattle.records.specs.Words.{nat_tests, take-map, Text, text_cmp, RowKey as Key, key_cmp, kind_number, is_of_kind}
+use Rattle.records.specs.Words.{same_kind, rows_from, rows_upto}
 use lib.Dec.{T}
-use Rattle.std.specs.Prelude.{filter}
-use Rattle.std.specs.List.{list_all, starts_with}
-use Rattle.std.specs.declared.cmp.Ordering.{Ordering}
-use Rattle.std.specs.declared.cmp.Ordering.TheVariants.{Less, Equal, Greater}
-use Rattle.std.specs.Ordering.{is_lt, is_le, is_ge, nat_cmp, ordering_then}
-use Rattle.std.specs.Cmp.{tied_itself, nat_cmp_total}
-use Rattle.std.specs.Cmp.Lexicographic.{slice_cmp}
-use Rattle.std.specs.FinMap.{entries, entries_sorted, is_sorted}
-use Rattle.std.specs.FinMap.Entries.{below_all}
-use Rattle.std.proofs.lemmas.Bool.{and_parts, false≢true}
-use Rattle.std.proofs.lemmas.Bool.Decides.{nat_tests}
-use Rattle.std.proofs.lemmas.List.{take-map}
 use Rattle.sqlite.specs.declared.types.Value.TheVariants.{Text as Words}
 use Rattle.sqlite.specs.Order.{Row}
 use Rattle.sqlite.specs.Term.{holds}
 use Rattle.sqlite.specs.Ops.{binary, is_true, from_truth}
 use Rattle.sqlite_value.specs.Order.{value_cmp}
 use Rattle.sqlite_value.proofs.OrderLemmas.{value_cmp-Text}
-use Rattle.broker_types.specs.Text.{Text, text_cmp}
-use Rattle.records.specs.declared.row.Row.{Row as Fields}
-use Rattle.records.specs.Kind.{RowKey as Key, key_cmp, kind_number, is_of_kind}
-use Rattle.records.specs.KeyLaws.{same_kind}
-use Rattle.records.specs.Transaction.{rows_from, rows_upto}
-use Rattle.records_sql.specs.Bounds.{IsAbove, IsLater}
-use Rattle.records_sql.specs.SqlTable.{Kept, stored, are_apart, entry_in}
-use Rattle.records_sql.specs.Texts.{from_params, upto_params}
+use Rattle.records_sql.specs.Words.{Row as Fields, IsAbove, IsLater, Kept, stored, are_apart, entry_in, from_params}
+use Rattle.records_sql.specs.Words.{upto_params}
 use Rattle.records_sql.proofs.Texts.{under_tests, upto_tests, entry_project, by_key}
 use Rattle.records_sql.proofs.QueryLemmas.{IsFound}
 use Rattle.records_sql.proofs.KeptLemmas.{and_left, map_of}

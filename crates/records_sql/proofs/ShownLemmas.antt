@@ -1,19 +1,12 @@
 -- What a list statement shows, in the order of keys.
-use Rattle.std.proofs.Common.{◌≡◌, suc, ◌+◌, Bool, true, false, not, cond, List, [], ◌∷◌, map, get_or, refl, sym, ap}
-use Rattle.std.proofs.Common.{subst, ◌∙◌, arith}
+use Rattle.std.specs.Prelude.{◌≡◌, ◌+◌, ◌∷◌, suc, Bool, true, false, not, cond, List, [], map, get_or, refl, filter}
+use Rattle.records.specs.Words.{sym, ap, subst, ◌∙◌, arith, IsPermutation, IsSorted, list_all, AllByRecursion}
+use Rattle.records.specs.Words.{IsDistinct, Ordering, Less, Equal, Greater, is_eq, is_lt, nat_cmp, eq_by_cmp}
+use Rattle.records.specs.Words.{ordering_then, ordering_reverse, tied_itself, nat_cmp_total, eq_by_cmp_equiv, slice_cmp}
+use Rattle.records.specs.Words.{entries, is_sorted, from_entries, below_all, IsPermutation-map, All-permutation}
+use Rattle.records.specs.Words.{All-from_recursion, recursion_from_All, IsDistinct-IsPermutation, RowKey as Key}
+use Rattle.records.specs.Words.{key_cmp, kind_number, key_cmp_total}
 use lib.Dec.{T}
-use Rattle.std.specs.Prelude.{filter, IsPermutation, IsSorted}
-use Rattle.std.specs.List.{list_all, AllByRecursion, IsDistinct}
-use Rattle.std.specs.declared.cmp.Ordering.{Ordering}
-use Rattle.std.specs.declared.cmp.Ordering.TheVariants.{Less, Equal, Greater}
-use Rattle.std.specs.Ordering.{is_eq, is_lt, nat_cmp, eq_by_cmp, ordering_then, ordering_reverse}
-use Rattle.std.specs.Cmp.{tied_itself, nat_cmp_total, eq_by_cmp_equiv}
-use Rattle.std.specs.Cmp.Lexicographic.{slice_cmp}
-use Rattle.std.specs.FinMap.{entries, is_sorted, from_entries}
-use Rattle.std.specs.FinMap.Entries.{below_all}
-use Rattle.std.proofs.lemmas.List.Sorted.{IsPermutation-map, All-permutation}
-use Rattle.std.proofs.lemmas.List.Elements.{All-from_recursion, recursion_from_All}
-use Rattle.std.proofs.lemmas.Map.Keys.{IsDistinct-IsPermutation}
 use Rattle.sqlite.specs.declared.types.Value.{Value}
 use Rattle.sqlite.specs.declared.types.Value.TheVariants.{Text as Words}
 use Rattle.sqlite.specs.Order.{Row}
@@ -21,11 +14,8 @@ use Rattle.sqlite.specs.Term.{Term, holds}
 use Rattle.sqlite.specs.Query.{Output, output_cmp}
 use Rattle.sqlite_value.specs.Order.{value_cmp, column}
 use Rattle.sqlite_value.proofs.OrderLemmas.{value_cmp-Text, then-Equal}
-use Rattle.records.specs.declared.kind.Kind.{Kind}
-use Rattle.records.specs.declared.row.Row.{Row as Fields}
-use Rattle.records.specs.Kind.{RowKey as Key, key_cmp, kind_number}
-use Rattle.records.specs.KeyLaws.{key_cmp_total}
-use Rattle.records_sql.specs.SqlTable.{Kept, stored, entries_of, is_apart, are_apart, due_value, due_in, entry_in}
+use Rattle.records_sql.specs.Words.{Kind, Row as Fields, Kept, stored, entries_of, is_apart, are_apart, due_value}
+use Rattle.records_sql.specs.Words.{due_in, entry_in}
 use Rattle.records_sql.proofs.Texts.{entry_project, by_key}
 use Rattle.records_sql.proofs.QueryLemmas.{passes, query, IsFound, shown_of, map_map}
 use Rattle.records_sql.proofs.KeptLemmas.{due_back, and_left, and_right, apart_filter}

@@ -1,14 +1,9 @@
 -- What the statements by prefix and by owner show.
-use Rattle.std.proofs.Common.{◌≡◌, ℕ, pos, Bool, true, false, cond, ◌&&◌, ◌==◌, nat_eq, List, [], ◌∷◌, map, Option}
-use Rattle.std.proofs.Common.{Some, None, refl, sym, ap, subst, ◌∙◌, arith}
-use Rattle.std.specs.Prelude.{filter}
-use Rattle.std.specs.List.{list_all, starts_with}
-use Rattle.std.specs.declared.cmp.Ordering.TheVariants.{Equal}
-use Rattle.std.specs.Ordering.{is_eq, is_lt, is_ge, nat_cmp, ordering_then}
-use Rattle.std.specs.Cmp.{tied_itself, nat_cmp_total}
-use Rattle.std.specs.Cmp.Lexicographic.{slice_cmp}
-use Rattle.std.specs.FinMap.{entries, nat_cmp-IsAntisymmetric}
-use Rattle.std.proofs.lemmas.Bool.Decides.{nat_tests}
+use Rattle.std.proofs.Common.{◌≡◌, ◌&&◌, ◌==◌, ◌∷◌, ℕ, pos, Bool, true, false, cond, nat_eq, List, [], map, Option, sym}
+use Rattle.records.specs.Words.{Some, None, refl, ap, subst, ◌∙◌, arith, filter, list_all, starts_with, Equal, is_eq}
+use Rattle.records.specs.Words.{is_lt, is_ge, nat_cmp, ordering_then, tied_itself, nat_cmp_total, slice_cmp, entries}
+use Rattle.records.specs.Words.{nat_cmp-IsAntisymmetric, nat_tests, Text, text_cmp, same, same-text_cmp, RowKey as Key}
+use Rattle.records.specs.Words.{kind_number, is_of_kind, same_kind, rows_under, rows_owned}
 use Rattle.sqlite.specs.declared.types.Value.TheVariants.{Int, Text as Words, Blob as Bytes}
 use Rattle.sqlite.specs.Order.{Row}
 use Rattle.sqlite.specs.Term.{Term, holds, col, op2}
@@ -18,16 +13,8 @@ use Rattle.sqlite_sql.specs.declared.ops.BinaryOp.TheVariants.{Compare}
 use Rattle.sqlite.specs.Ops.{binary, is_true, from_truth}
 use Rattle.sqlite_value.specs.Order.{value_cmp}
 use Rattle.sqlite_value.proofs.OrderLemmas.{value_cmp-Int, value_cmp-Text, value_cmp-apart}
-use Rattle.broker_types.specs.Text.{Text, text_cmp, same}
-use Rattle.broker_types.specs.TextLaws.{same-text_cmp}
-use Rattle.records.specs.declared.kind.Kind.{Kind}
-use Rattle.records.specs.declared.row.Row.{Row as Fields}
-use Rattle.records.specs.Kind.{RowKey as Key, kind_number, is_of_kind}
-use Rattle.records.specs.KeyLaws.{same_kind}
-use Rattle.records.specs.Transaction.{rows_under, rows_owned}
-use Rattle.records_sql.specs.Bounds.{IsAbove}
-use Rattle.records_sql.specs.SqlTable.{Kept, stored, are_apart, entry_in}
-use Rattle.records_sql.specs.Texts.{key_params, under_params}
+use Rattle.records_sql.specs.Words.{Kind, Row as Fields, IsAbove, Kept, stored, are_apart, entry_in, key_params}
+use Rattle.records_sql.specs.Words.{under_params}
 use Rattle.records_sql.proofs.Texts.{under_tests, owner_tests, entry_project, by_key}
 use Rattle.records_sql.proofs.QueryLemmas.{IsFound}
 use Rattle.records_sql.proofs.KeptLemmas.{and_left, and_right, map_of}

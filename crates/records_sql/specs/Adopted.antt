@@ -6,7 +6,7 @@ use Rattle.sqlite.specs.Recovery.{Image}
 use Rattle.sqlite.specs.Effect.{Database, IsDatabase}
 use Rattle.sqlite.specs.State.{State}
 use Rattle.sqlite.specs.Files.{HoldsDatabase, AreFoundIn}
-use Rattle.records.specs.Transaction.{Rows}
+use Rattle.records.specs.Words.{Rows}
 use Rattle.records_sql.specs.SqlTable.{IsStore, no_schema, rows_of}
 
 -- Those of its table, which has no other row than this crate writes; none where the database has no table at all. Every

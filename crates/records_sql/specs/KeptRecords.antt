@@ -1,7 +1,7 @@
 -- What contracts see of the rows in a database between transactions (this project's definition).
 use Rattle.sqlite_trees.specs.declared.store.Store as store
 use Rattle.sqlite.specs.Held.{state}
-use Rattle.records.specs.Kept.{Kept}
+use Rattle.records.specs.Words.{Kept}
 use Rattle.records_sql.specs.declared.sql_records.SqlRecords.{SqlRecords}
 use Rattle.records_sql.specs.SqlTable.{is_open, mismatches, rows_of}
 

@@ -10,3 +10,4 @@ pub mod Refused
 pub mod SqlTable
 pub mod Texts
 pub mod UsableLaws
+pub mod Words

@@ -1,13 +1,9 @@
 -- What is remembered of rows, and when it is true (this project's definition).
-use Rattle.std.specs.Prelude.{◌≡◌, ℕ, ◌+◌, ◌≤◌, Bool, true, false, is_some, List, [], length, Option, Some, None, All}
-use Rattle.std.specs.Prelude.{filter, not}
-use Rattle.std.specs.Ordering.{eq_by_cmp}
-use Rattle.std.specs.FinMap.{get}
+use Rattle.std.specs.Prelude.{◌≡◌, ◌+◌, ◌≤◌, ℕ, Bool, true, false, is_some, List, [], length, Option, Some, None, All}
+use Rattle.records.specs.Words.{filter, not, eq_by_cmp, get, RowKey, key_cmp, Rows}
 use Rattle.records.specs.declared.kind.Kind.{Kind}
 use Rattle.records.specs.declared.kind.Kind.TheVariants as kind
 use Rattle.records.specs.declared.row.Row.{Row}
-use Rattle.records.specs.Kind.{RowKey, key_cmp}
-use Rattle.records.specs.Transaction.{Rows}
 
 -- Whether what was found at a kind is remembered. Of most kinds it never is: not of those whose rows hold what a client
 -- keeps secret, and of the clock and of tokens only a row that is there.

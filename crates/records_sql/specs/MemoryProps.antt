@@ -1,10 +1,8 @@
 -- That something remembered is true of rows is a fact with one proof at most: for structs that keep it (this
 -- project's).
-use Rattle.std.specs.Prelude.{ℕ, Option}
-use Rattle.std.specs.Coded.{Coded, Coded-set, coded_option, Π_prop, →_prop, le_prop}
+use Rattle.records.specs.Words.{ℕ, Option, Coded, Coded-set, coded_option, Π_prop, →_prop, le_prop, Rows}
 use Rattle.records.specs.contracts.row.Row as row
 use Rattle.records.specs.declared.row.Row.{Row}
-use Rattle.records.specs.Transaction.{Rows}
 use Rattle.records_sql.specs.Memory.{Memory, AreFound, IsCalmUntil, Agrees}
 
 row_coded : Coded (Option Row)

@@ -1,10 +1,9 @@
 -- Rows of a table as they are shown by number, kind and when they are due (this project's definition).
-use Rattle.std.specs.Prelude.{◌≡◌, ◌<◌, ℕ, pos, List, [], ◌∷◌, Option, None, Some}
+use Rattle.std.specs.Prelude.{◌≡◌, ◌<◌, ◌∷◌, ℕ, pos, List, [], Option, None, Some}
 use Rattle.sqlite.specs.declared.types.Value.TheVariants.{Int}
 use Rattle.sqlite.specs.Order.{Row}
 use Rattle.sqlite_value.specs.Order.{column}
-use Rattle.records.specs.Kind.{kind_number}
-use Rattle.records.specs.KeyLaws.{kind_of}
+use Rattle.records.specs.Words.{kind_number, kind_of}
 use Rattle.records_sql.specs.SqlTable.{int_in, size_of, due_in, due_value}
 
 abbrev pub number_of : Row → ℕ

@@ -1,5 +1,6 @@
 -- What the states of a connection are made of (this project's): for facts that a struct keeps of its connection.
-use Rattle.std.specs.Coded.{Coded, codes, →_prop}
+use Rattle.records.specs.Words.{Coded, →_prop}
+use Rattle.std.specs.Coded.{codes}
 use Rattle.sqlite_schema.specs.contracts.schema.Schema as schema
 use Rattle.sqlite_schema.specs.declared.schema.Schema.{Schema}
 use Rattle.sqlite_value.specs.contracts.value.Value as value

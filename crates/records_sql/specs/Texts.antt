@@ -1,10 +1,9 @@
 -- The texts of the statements, and their parameters (this project's).
-use Rattle.std.specs.Prelude.{codes, List, ℕ, [], ◌∷◌, pos, Option}
+use Rattle.std.specs.Prelude.{◌∷◌, codes, List, ℕ, [], pos, Option}
 use Rattle.sqlite.specs.declared.types.Value.TheVariants.{Int, Text, Blob}
 use Rattle.sqlite.specs.Order.{Row}
 use Rattle.records.specs.declared.row.Row.{Row as Fields}
-use Rattle.records.specs.Kind.{RowKey as Key, kind_number}
-use Rattle.broker_types.specs.Text.{Text as Words}
+use Rattle.records.specs.Words.{RowKey as Key, kind_number, Text as Words}
 use Rattle.records_sql.specs.Bounds.{bound_value}
 use Rattle.records_sql.specs.SqlTable.{due_value}
 

@@ -1,9 +1,6 @@
 -- Which faults a replay ends with.
-use Rattle.std.specs.Prelude.{⊤}
 use Rattle.std.proofs.Common.{◌≡◌, ◌⊎◌, inl, inr, ℕ, Bool, refl, arith}
-use Rattle.broker_types.specs.Fault.{IsMemoryOrStorage, fault_number}
-use Rattle.broker_types.specs.declared.fault.Fault.{Fault}
-use Rattle.broker_types.specs.declared.fault.Fault.TheVariants.{Memory, Storage, Damaged, BadStart}
+use Rattle.records.specs.Words.{⊤, IsMemoryOrStorage, fault_number, Fault, Memory, Storage, Damaged, BadStart}
 use Rattle.replay.specs.Exits.{EndsBy}
 use Rattle.replay.specs.declared.replaying.Exit.{Exit}
 use Rattle.replay.specs.declared.replaying.Exit.TheVariants.{Done, Faulted, BadLine}

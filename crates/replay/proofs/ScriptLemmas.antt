@@ -1,11 +1,7 @@
 -- The lines of an input, and what they tell.
-use Rattle.std.proofs.Common.{◌≡◌, ◌∙◌, ℕ, ◌+◌, ◌-◌, ◌<◌, ◌≤◌, Bool, true, false, cond, not, List, [], ◌∷◌, ◌++◌}
-use Rattle.std.proofs.Common.{length, take, drop, Some, None, nat_lt, refl}
-use Rattle.std.proofs.Common.{sym, ap, arith}
-use Rattle.std.specs.List.{onto_first, position, position_or_len, slice_split}
-use Rattle.std.proofs.lemmas.Bool.Decides.{nat_tests}
-use Rattle.std.proofs.lemmas.List.{length-drop, take_all}
-use Rattle.std.proofs.lemmas.List.Splits.{slice_split_first}
+use Rattle.std.proofs.Common.{◌≡◌, ◌+◌, ◌-◌, ◌<◌, ◌≤◌, ◌∷◌, ◌++◌, ◌∙◌, ℕ, Bool, true, false, cond, not, List, [], take}
+use Rattle.records.specs.Words.{length, drop, Some, None, nat_lt, refl, sym, ap, arith, onto_first, position}
+use Rattle.records.specs.Words.{position_or_len, slice_split, nat_tests, length-drop, take_all, slice_split_first}
 use Rattle.hub.specs.declared.event.Event.{Event}
 use Rattle.replay.specs.Lines.{events_in, has_bad}
 

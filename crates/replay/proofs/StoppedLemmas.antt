@@ -1,10 +1,8 @@
 -- What was written before a fault.
 use Rattle.std.proofs.Common.{◌≡◌, ◌≢◌, ◌⊎◌, inl, inr, ℕ, List, [], Option, Some, None, refl, sym, subst, ◌∙◌}
 use Rattle.std.proofs.KnownBytes.{Appends-nil}
-use Rattle.records.specs.Kept.{Kept, IsHonestStore}
-use Rattle.hub.specs.Representing.{HubRepresents, hub_store}
-use Rattle.hub.specs.Runs.{bytes_of}
-use Rattle.hub.specs.World.{World}
+use Rattle.records.specs.Words.{Kept, IsHonestStore}
+use Rattle.hub.specs.Words.{HubRepresents, hub_store, bytes_of, World}
 use Rattle.hub.specs.declared.event.Event.{Event}
 use Rattle.hub.specs.declared.hub.Hub.{Hub}
 use Rattle.replay.specs.Lines.{Told}

@@ -1,11 +1,8 @@
 -- Replies that are written one after another.
-use Rattle.std.proofs.Common.{◌≡◌, ◌∙◌, ℕ, ◌+◌, ◌<◌, List, [], ◌∷◌, ◌++◌, length, take, get_or, Option, Vec}
-use Rattle.std.proofs.Common.{Global, sym, ap, subst, append_assoc}
-use Rattle.std.specs.Io.KnownBytes.{Appends}
-use Rattle.std.specs.List.{concat}
-use Rattle.std.proofs.lemmas.List.{append-nil, take_more, map_push}
+use Rattle.std.proofs.Common.{◌≡◌, ◌+◌, ◌<◌, ◌∷◌, ◌++◌, ◌∙◌, ℕ, List, [], length, take, get_or, Option, Vec, Global, ap}
+use Rattle.records.specs.Words.{sym, subst, append_assoc, Appends, concat, append-nil, take_more, map_push}
 use Rattle.std.proofs.KnownBytes.{Appends-trans}
-use Rattle.hub.specs.Runs.{bytes_of}
+use Rattle.hub.specs.Words.{bytes_of}
 
 concat-push : (xs : List (List ℕ)) (x : List ℕ) → concat (xs ++ x ∷ []) ≡ concat xs ++ x
 concat-push [] x = append-nil x

@@ -1,6 +1,6 @@
 -- How a replay ends (this project's definition).
 use Rattle.std.specs.Prelude.{◌≡◌, ◌⊎◌, Bool, IsTrue, Option, Some, None, ⊤}
-use Rattle.broker_types.specs.Names.{token_word, accessor_word}
+use Rattle.records.specs.Words.{token_word, accessor_word}
 use Rattle.replay.specs.Lines.{Told}
 use Rattle.replay.specs.declared.replaying.Exit.{Exit}
 use Rattle.replay.specs.declared.replaying.Exit.TheVariants.{Done, Faulted, BadLine}

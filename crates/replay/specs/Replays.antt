@@ -1,17 +1,10 @@
 -- What a replay answers (this project's definition).
-use Rattle.std.specs.Prelude.{◌≡◌, ◌≢◌, ◌⊎◌, ◌+◌, ◌<◌, ℕ, List, [], Option, Some, None, Vec, IsTrue, ⊤, length, take}
-use Rattle.std.specs.Prelude.{if◌then◌else◌}
-use Rattle.std.specs.Io.KnownBytes.{Appends}
-use Rattle.std.specs.List.{concat}
+use Rattle.std.specs.Prelude.{◌≡◌, ◌≢◌, ◌⊎◌, ◌+◌, ◌<◌, if◌then◌else◌, ℕ, List, [], Option, Some, None, Vec, IsTrue, ⊤}
+use Rattle.records.specs.Words.{length, take, Appends, concat, fault_number, first_broker, token_word, accessor_word}
+use Rattle.records.specs.Words.{Fault, Kept, IsHonestStore}
 use Rattle.std.specs.declared.alloc.Global.{Global}
-use Rattle.broker_types.specs.Fault.{fault_number}
-use Rattle.broker_types.specs.First.{first_broker}
-use Rattle.broker_types.specs.Names.{token_word, accessor_word}
-use Rattle.broker_types.specs.declared.fault.Fault.{Fault}
-use Rattle.records.specs.Kept.{Kept, IsHonestStore}
-use Rattle.hub.specs.Representing.{ConnectionsRepresent, HubRepresents, hub_store}
-use Rattle.hub.specs.Runs.{bytes_of, HadNoRoom, StopsAt, StopsTurns}
-use Rattle.hub.specs.World.{Connections, World, Run, new_world}
+use Rattle.hub.specs.Words.{ConnectionsRepresent, HubRepresents, hub_store, bytes_of, HadNoRoom, StopsAt, StopsTurns}
+use Rattle.hub.specs.Words.{Connections, World, Run, new_world}
 use Rattle.hub.specs.declared.event.Event.{Event}
 use Rattle.hub.specs.declared.hub.Hub.{Hub}
 use Rattle.replay.specs.Lines.{Told}

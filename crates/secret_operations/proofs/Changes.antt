@@ -1,22 +1,9 @@
 -- How the commands end that change versions of a secret by their numbers, by what the call on the rows says.
-use Rattle.std.specs.Prelude.{◌≡◌, ℕ, List, Option, Ok, ⊤}
-use Rattle.std.proofs.Common.{refl, sym, ap}
-use Rattle.broker_types.specs.Broker.{Broker}
-use Rattle.broker_types.specs.Operation.{nothing, plainly}
-use Rattle.broker_types.specs.Secret.{Version}
-use Rattle.broker_types.specs.Sound.{Sound, IsSecretName}
-use Rattle.broker_types.specs.Text.{Text}
-use Rattle.records.specs.Table.{table}
-use Rattle.records.specs.Transaction.{Seen, IsHonest}
-use Rattle.records.specs.Parts.{of_secrets, KeepsOthers}
-use Rattle.kv2.specs.Changes.{ChangesVersions}
-use Rattle.kv2.specs.Secrets.{secret_name, with_versions}
-use Rattle.kv2.specs.SoundLaws.{delete_versions_sound, destroy_sound, undelete_sound}
-use Rattle.kv2.specs.Versions.{soft_deleted}
-use Rattle.broker_model.specs.Forms.{forms}
-use Rattle.broker_rows.specs.Operating.{ActsAs}
-use Rattle.broker_rows.specs.Representing.{Represents}
-use Rattle.broker_rows.specs.RepresentingLaws.{tells_part}
+use Rattle.std.proofs.Common.{◌≡◌, ℕ, List, Option, Ok, refl, sym, ap}
+use Rattle.broker_model.specs.Words.{⊤, Broker, nothing, plainly, Version, Sound, IsSecretName, Text, table, Seen}
+use Rattle.broker_model.specs.Words.{IsHonest, of_secrets, KeepsOthers, ChangesVersions, secret_name, with_versions}
+use Rattle.broker_model.specs.Words.{delete_versions_sound, destroy_sound, undelete_sound, soft_deleted, forms}
+use Rattle.broker_rows.specs.Words.{ActsAs, Represents, tells_part}
 use Rattle.broker_rows.specs.declared.answered.Answered.TheVariants.{Nothing}
 use Rattle.secret_operations.specs.VersionChanges.{IsTimely, change_of, changed}
 use Rattle.secret_operations.specs.declared.secrets.changes.Change.{Change}

@@ -1,30 +1,13 @@
 -- From the rows that an edit of a cubbyhole left to the broker that they represent, and which these are; and how a list
 -- ends.
-use Rattle.std.specs.Prelude.{◌≡◌, ◌==◌, ℕ, List, [], ◌∷◌, length, not, Bool}
-use Rattle.std.specs.Prelude.{true, false, Option, None, Result, Ok, Err}
-use Rattle.std.proofs.Common.{arith, refl, sym, ap, subst}
-use Rattle.std.proofs.lemmas.Bool.Decides.{nat_tests}
-use Rattle.broker_types.specs.Text.{Text}
-use Rattle.broker_types.specs.Broker.{Broker}
-use Rattle.broker_types.specs.Names.{Names}
-use Rattle.broker_types.specs.Operation.{reply, plainly, Done}
-use Rattle.broker_types.specs.Refuse.{◌>>=◌, unless}
-use Rattle.broker_types.specs.Sound.{IsPathText, IsObjectText}
-use Rattle.broker_types.specs.declared.refusal.Refusal.{Refusal}
+use Rattle.std.proofs.Common.{◌≡◌, ◌==◌, ◌∷◌, ℕ, List, [], length, not, Bool, true, false, Option, None, Result, Ok, ap}
+use Rattle.broker_model.specs.Words.{Err, arith, refl, sym, subst, nat_tests, Text, Broker, Names, reply, plainly, Done}
+use Rattle.broker_model.specs.Words.{◌>>=◌, unless, IsPathText, IsObjectText, Refusal, RequestError, Refused, Tells}
+use Rattle.broker_model.specs.Words.{table_of, Rows, write, delete, write_sound, delete_sound, forms, are_none}
+use Rattle.broker_model.specs.Words.{list_reply, listed}
 use Rattle.broker_types.specs.declared.refusal.Refusal.TheVariants as refusal
-use Rattle.broker_types.specs.declared.request_error.RequestError.{RequestError}
-use Rattle.broker_types.specs.declared.request_error.RequestError.TheVariants.{Refused}
-use Rattle.records.specs.Parts.{Tells}
-use Rattle.records.specs.Table.{table_of}
-use Rattle.records.specs.Transaction.{Rows}
-use Rattle.cubbyhole.specs.Cubbyhole.{write, delete}
-use Rattle.cubbyhole.specs.SoundLaws.{write_sound, delete_sound}
-use Rattle.broker_model.specs.Forms.{forms}
-use Rattle.broker_model.specs.parts.Lists.{are_none, list_reply, listed}
 use Rattle.broker_rows.specs.declared.answered.Answered.{Answered}
-use Rattle.broker_rows.specs.Operating.{ActsAs}
-use Rattle.broker_rows.specs.Representing.{Represents}
-use Rattle.broker_rows.specs.RepresentingLaws.{everything}
+use Rattle.broker_rows.specs.Words.{ActsAs, Represents, everything}
 
 -- ---- an edit
 

@@ -1,13 +1,6 @@
 -- Settings of a secret that a body gives: a row can hold them, and a sound broker can.
-use Rattle.std.specs.Prelude.{List}
-use Rattle.std.proofs.Common.{lit<, lt_of_le_of_lt}
-use Rattle.broker_types.specs.Text.{Text}
-use Rattle.api_json.specs.KeptBodies.{IsKeptCustom, IsKeptSettings}
-use Rattle.api_json.specs.declared.secret_bodies.KeySettings.{KeySettings}
-use Rattle.records.specs.RowReaders.{IsSomeIn, IsWide}
-use Rattle.records.specs.TokenEntry.{IsMeta}
-use Rattle.kv2.specs.InRange.{AreWithinLimits}
-use Rattle.broker_model.specs.parts.Secrets.{given_settings}
+use Rattle.broker_model.specs.Words.{List, lit<, lt_of_le_of_lt, Text, IsKeptCustom, IsKeptSettings, KeySettings}
+use Rattle.broker_model.specs.Words.{IsSomeIn, IsWide, IsMeta, AreWithinLimits, given_settings}
 
 -- custom metadata that can be kept are short enough for the lengths in a row
 short_metadata : (es : List (Text × Text)) → IsKeptCustom es → IsMeta es

@@ -1,42 +1,18 @@
 -- How the commands on roles and credentials end.
-use Rattle.std.specs.Prelude.{◌≡◌, ◌≤◌, ℕ, true, Option, Some, None, Result, Ok, Err, ⊤}
-use Rattle.std.proofs.Common.{refl, sym, ◌∙◌, ap, subst}
-use Rattle.broker_types.specs.Broker.{Broker}
-use Rattle.broker_types.specs.Duration.{longest_duration}
-use Rattle.broker_types.specs.Map.{put}
-use Rattle.broker_types.specs.Name.{is_name, is_mount_name}
-use Rattle.broker_types.specs.Names.{Names}
-use Rattle.broker_types.specs.Operation.{nothing, reply, Done, plainly}
-use Rattle.broker_types.specs.Refuse.{◌>>=◌, unless}
-use Rattle.broker_types.specs.RefuseLaws.{ok_step}
-use Rattle.broker_types.specs.RequestError.{EndsOk, EndsErr}
-use Rattle.broker_types.specs.Sound.{Sound}
-use Rattle.broker_types.specs.Text.{Text}
-use Rattle.broker_types.specs.declared.refusal.Refusal.{Refusal}
+use Rattle.std.proofs.Common.{◌≡◌, ◌≤◌, ℕ, true, Option, Some, None, Result, Ok, Err, refl, sym, ◌∙◌, ap, subst}
+use Rattle.broker_model.specs.Words.{⊤, Broker, longest_duration, put, is_name, is_mount_name, Names, nothing, reply}
+use Rattle.broker_model.specs.Words.{Done, plainly, ◌>>=◌, unless, ok_step, EndsOk, EndsErr, Sound, Text, Refusal}
+use Rattle.broker_model.specs.Words.{RequestError, Refused, credential_object, lease_reply, RoleSettings}
+use Rattle.broker_model.specs.Words.{rows_of-other_roles, Tells, KeepsOthers, of_roles, table_of, Rows, ok_inj}
+use Rattle.broker_model.specs.Words.{set_role_sound, Issued, role_name, creds, forms, set_role, issue, issued_reply}
+use Rattle.broker_model.specs.Words.{Place, at}
 use Rattle.broker_types.specs.declared.refusal.Refusal.TheVariants as refusal
 use Rattle.broker_types.specs.declared.refusal.Reason.TheVariants as reason
-use Rattle.broker_types.specs.declared.request_error.RequestError.{RequestError}
-use Rattle.broker_types.specs.declared.request_error.RequestError.TheVariants.{Refused, Fault}
-use Rattle.api_json.specs.Objects.{credential_object}
-use Rattle.api_json.specs.Reply.{lease_reply}
-use Rattle.api_json.specs.declared.issued_bodies.RoleSettings.{RoleSettings}
-use Rattle.records.specs.PartLaws.{rows_of-other_roles}
-use Rattle.records.specs.Parts.{Tells, KeepsOthers, of_roles}
-use Rattle.records.specs.Table.{table_of}
-use Rattle.records.specs.Transaction.{Rows}
-use Rattle.records.specs.ValueLaws.{ok_inj}
-use Rattle.leases.specs.StaysSoundLaws.{set_role_sound}
+use Rattle.broker_types.specs.declared.request_error.RequestError.TheVariants.{Fault}
 use Rattle.leases.specs.Roles as roles
-use Rattle.leases.specs.Roles.{Issued, role_name, creds}
-use Rattle.broker_model.specs.Forms.{forms}
-use Rattle.broker_model.specs.parts.Issued.{set_role, issue, issued_reply}
-use Rattle.broker_model.specs.parts.Place.{Place, at}
-use Rattle.broker_rows.specs.Representing.{Represents}
-use Rattle.broker_rows.specs.Done.{answered_of}
+use Rattle.broker_rows.specs.Words.{Represents, answered_of, ActsAs, represents_next, still_represented}
 use Rattle.broker_rows.specs.declared.answered.Answered as Code
 use Rattle.broker_rows.specs.declared.answered.Answered.TheVariants.{Nothing}
-use Rattle.broker_rows.specs.Operating.{ActsAs}
-use Rattle.broker_rows.specs.RepresentingLaws.{represents_next, still_represented}
 use Rattle.secret_operations.specs.Issuing.{IsLeased}
 
 -- ---- a role that is set

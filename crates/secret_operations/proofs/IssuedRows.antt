@@ -1,51 +1,20 @@
 -- A credential that was issued: its rows, its identifiers, and the broker that they represent.
-use Rattle.std.specs.Prelude.{◌≡◌, ◌≢◌, ◌==◌, ◌&&◌, ◌||◌, ℕ, [], ◌∷◌, ◌++◌}
-use Rattle.std.specs.Prelude.{not, true, false, if◌then◌else◌, codes}
-use Rattle.std.specs.Prelude.{Option, Some, None, option_map, is_none, Result, Ok, Err}
-use Rattle.std.specs.Option.{option_map_or}
-use Rattle.std.proofs.Common.{refl, sym, ◌∙◌, ap, subst, append_assoc}
-use Rattle.std.proofs.lemmas.Bool.{false≢true, and_parts}
-use Rattle.std.proofs.lemmas.Option.{none-some, same_Some}
-use Rattle.broker_types.specs.Broker.{Broker, Role}
-use Rattle.broker_types.specs.Evolves.{IsNew}
-use Rattle.broker_types.specs.Map.{get, put}
-use Rattle.broker_types.specs.Name.{is_name, is_mount_name}
-use Rattle.broker_types.specs.OptionLaws.{is_nothing}
-use Rattle.broker_types.specs.IdentifierPlaces.{lease_identifier}
-use Rattle.broker_types.specs.Refuse.{some_or, unless}
-use Rattle.broker_types.specs.RefuseLaws.{ok_step, some_ok}
-use Rattle.broker_types.specs.RequestError.{EndsOk}
-use Rattle.broker_types.specs.Sound.{Sound, IsSoundRole, IsIdentifier}
-use Rattle.broker_types.specs.Text.{Text, same}
-use Rattle.broker_types.specs.TextLaws.{same_self}
-use Rattle.broker_types.specs.Token.{Token}
-use Rattle.broker_types.specs.Used.{are_new, use_up}
-use Rattle.broker_types.specs.UsedLaws.{first_new}
-use Rattle.broker_types.specs.declared.refusal.Refusal.{Refusal}
+use Rattle.std.proofs.Common.{◌≡◌, ◌≢◌, ◌==◌, ◌&&◌, ◌||◌, ◌∷◌, ◌++◌, if◌then◌else◌, ℕ, [], not, true, false, codes, Ok}
+use Rattle.broker_model.specs.Words.{Option, Some, None, option_map, is_none, Result, Err, option_map_or, refl, sym}
+use Rattle.broker_model.specs.Words.{◌∙◌, ap, subst, append_assoc, false≢true, and_parts, none-some, same_Some, Broker}
+use Rattle.broker_model.specs.Words.{Role, IsNew, get, put, is_name, is_mount_name, is_nothing, lease_identifier}
+use Rattle.broker_model.specs.Words.{some_or, unless, ok_step, some_ok, EndsOk, Sound, IsSoundRole, IsIdentifier, Text}
+use Rattle.broker_model.specs.Words.{same, same_self, Token, are_new, use_up, first_new, Refusal, joined_rows, Tells}
+use Rattle.broker_model.specs.Words.{KeepsOthers, of_leases, used_row, rows_of, split-lacking, slash, split_once}
+use Rattle.broker_model.specs.Words.{table_of, with_row, TokenEntry, token_entry, Rows, ok_inj, mount_no_slash}
+use Rattle.broker_model.specs.Words.{issue_sound, identifier_of_id, new_lease_sound, MayBeIssued, Issued, IssuedLease}
+use Rattle.broker_model.specs.Words.{role_name, lease_id, new_lease, is_last_use, creds, shows_in_leases, forms}
 use Rattle.broker_types.specs.declared.refusal.Refusal.TheVariants as refusal
 use Rattle.broker_types.specs.declared.refusal.Reason.TheVariants as reason
 use Rattle.records.specs.declared.kind.Kind.TheVariants as kind
-use Rattle.records.specs.PartLaws.{joined_rows}
-use Rattle.records.specs.Parts.{Tells, KeepsOthers, of_leases}
-use Rattle.records.specs.RowForms.{used_row}
-use Rattle.records.specs.Rows.{rows_of}
-use Rattle.records.specs.SplitLaws.{split-lacking}
-use Rattle.records.specs.Splits.{slash, split_once}
-use Rattle.records.specs.Table.{table_of, with_row}
-use Rattle.records.specs.TokenEntry.{TokenEntry, token_entry}
-use Rattle.records.specs.Transaction.{Rows}
-use Rattle.records.specs.ValueLaws.{ok_inj}
-use Rattle.records.specs.SecretNameLaws.{mount_no_slash}
-use Rattle.leases.specs.IssuedLaws.{issue_sound, identifier_of_id, new_lease_sound}
-use Rattle.leases.specs.Laws.{MayBeIssued}
 use Rattle.leases.specs.Leases.{issue}
 use Rattle.leases.specs.Roles as roles
-use Rattle.leases.specs.Roles.{Issued, IssuedLease, role_name, lease_id, new_lease, is_last_use, creds}
-use Rattle.leases.specs.SoundLaws.{shows_in_leases}
-use Rattle.broker_model.specs.Forms.{forms}
-use Rattle.broker_rows.specs.Caller.{Caller, IsCallerOf}
-use Rattle.broker_rows.specs.MarkLaws.{marks_joined}
-use Rattle.broker_rows.specs.Representing.{Represents}
+use Rattle.broker_rows.specs.Words.{Caller, IsCallerOf, marks_joined, Represents}
 use Rattle.secret_operations.specs.Issuing.{IsLeased}
 
 -- ---- the name of a role that is there

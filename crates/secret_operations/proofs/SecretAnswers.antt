@@ -1,39 +1,17 @@
 -- How the commands on secrets end.
-use Rattle.std.specs.Prelude.{◌≡◌, ℕ, Bool, true, false, Option, None, is_some, if◌then◌else◌, Result, Ok, Err, ⊤}
-use Rattle.std.proofs.Common.{refl, sym, ◌∙◌, ap, subst}
-use Rattle.broker_types.specs.Broker.{Broker}
-use Rattle.broker_types.specs.Map.{Map}
-use Rattle.broker_types.specs.Names.{Names}
-use Rattle.broker_types.specs.Operation.{Answered, nothing, reply, missing, Done, plainly}
-use Rattle.broker_types.specs.Refuse.{◌>>=◌}
-use Rattle.broker_types.specs.Secret.{Key}
-use Rattle.broker_types.specs.RequestError.{EndsOk, EndsErr}
-use Rattle.broker_types.specs.Sound.{Sound, IsPathText, IsObjectText}
-use Rattle.broker_types.specs.Text.{Text}
-use Rattle.broker_types.specs.declared.refusal.Refusal.{Refusal}
-use Rattle.broker_types.specs.declared.reply.Reply.{Reply}
-use Rattle.broker_types.specs.declared.request_error.RequestError.{RequestError}
-use Rattle.broker_types.specs.declared.request_error.RequestError.TheVariants.{Refused, Fault}
-use Rattle.api_json.specs.declared.secret_bodies.SecretWrite.{SecretWrite}
-use Rattle.records.specs.Calls.{OnRefused}
-use Rattle.records.specs.Parts.{Tells, KeepsOthers, of_secrets}
-use Rattle.records.specs.Table.{table_of}
-use Rattle.records.specs.Transaction.{Rows}
+use Rattle.std.specs.Prelude.{◌≡◌, if◌then◌else◌, ℕ, Bool, true, false, Option, None, is_some, Result, Ok, Err, ⊤, refl}
+use Rattle.broker_model.specs.Words.{sym, ◌∙◌, ap, subst, Broker, Map, Names, Answered, nothing, reply, missing, Done}
+use Rattle.broker_model.specs.Words.{plainly, ◌>>=◌, Key, EndsOk, EndsErr, Sound, IsPathText, IsObjectText, Text}
+use Rattle.broker_model.specs.Words.{Refusal, Reply, RequestError, Refused, SecretWrite, OnRefused, Tells, KeepsOthers}
+use Rattle.broker_model.specs.Words.{of_secrets, table_of, Rows, KeepsOtherNames, Written, write_is, Found, WriteAnswer}
+use Rattle.broker_model.specs.Words.{forms, Place, object_left, version_reply, version_answered, written_reply}
+use Rattle.broker_types.specs.declared.request_error.RequestError.TheVariants.{Fault}
 use Rattle.kv2.specs.Secrets as secrets
-use Rattle.kv2.specs.SecretRows.{KeepsOtherNames}
-use Rattle.kv2.specs.Secrets.{Written}
-use Rattle.kv2.specs.SoundLaws.{write_is, write_sound}
-use Rattle.kv2.specs.Versions.{Found, WriteAnswer}
-use Rattle.broker_model.specs.Forms.{forms}
-use Rattle.broker_model.specs.parts.Place.{Place}
-use Rattle.broker_model.specs.parts.SecretReplies.{object_left, version_reply, version_answered, written_reply}
+use Rattle.kv2.specs.SoundLaws.{write_sound}
 use Rattle.broker_model.specs.parts.Secrets.{write}
-use Rattle.broker_rows.specs.Representing.{Represents}
-use Rattle.broker_rows.specs.Done.{answered_of}
+use Rattle.broker_rows.specs.Words.{Represents, answered_of, ActsAs, still_represented}
 use Rattle.broker_rows.specs.declared.answered.Answered as Code
 use Rattle.broker_rows.specs.declared.answered.Answered.TheVariants.{Nothing}
-use Rattle.broker_rows.specs.Operating.{ActsAs}
-use Rattle.broker_rows.specs.RepresentingLaws.{still_represented}
 use Rattle.secret_operations.proofs.SecretTables.{keeps_outside, represents-secrets}
 
 -- ---- a change

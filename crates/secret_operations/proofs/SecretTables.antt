@@ -1,22 +1,12 @@
 -- The part of secrets: from rows that a call on secrets left to the broker that they represent.
-use Rattle.std.specs.Prelude.{◌≡◌, ◌==◌, ◌&&◌, ℕ, List, false, Option}
-use Rattle.std.proofs.Common.{refl}
-use Rattle.std.proofs.lemmas.Bool.{true≢false}
-use Rattle.broker_types.specs.Broker.{Broker, Mount}
-use Rattle.broker_types.specs.Map.{Map}
-use Rattle.broker_types.specs.Secret.{Key, Version}
-use Rattle.broker_types.specs.Sound.{Sound}
-use Rattle.broker_types.specs.Text.{Text}
-use Rattle.records.specs.declared.kind.Kind.{Kind}
+use Rattle.std.proofs.Common.{◌≡◌, ◌==◌, ◌&&◌, ℕ, List, false, Option, refl, true≢false}
+use Rattle.broker_model.specs.Words.{Broker, Mount, Map, Key, Version, Sound, Text, Kind, kind_number, joined_rows}
+use Rattle.broker_model.specs.Words.{rows_of-other_secrets, rows_of-other_mounts, Tells, KeepsOthers, of_secrets}
+use Rattle.broker_model.specs.Words.{of_mounts, Table, table_of, has_prefix, Rows, AreChanged, KeepsOtherNames}
+use Rattle.broker_model.specs.Words.{KeepsOtherMounts, is_key_of, versions_prefix, forms}
 use Rattle.records.specs.declared.kind.Kind.TheVariants as kind
-use Rattle.records.specs.Kind.{kind_number}
-use Rattle.records.specs.PartLaws.{joined_rows, rows_of-other_secrets, rows_of-other_mounts}
-use Rattle.records.specs.Parts.{Tells, KeepsOthers, of_secrets, of_mounts}
-use Rattle.records.specs.Table.{Table, table_of, is_at, has_prefix}
-use Rattle.records.specs.Transaction.{Rows}
-use Rattle.kv2.specs.SecretRows.{AreChanged, KeepsOtherNames, KeepsOtherMounts, is_key_of, versions_prefix}
-use Rattle.broker_model.specs.Forms.{forms}
-use Rattle.broker_rows.specs.Representing.{Represents}
+use Rattle.records.specs.Table.{is_at}
+use Rattle.broker_rows.specs.Words.{Represents}
 
 -- ---- rows of other parts
 

@@ -1,9 +1,7 @@
 -- Commands that fit into rows: a text that is kept is a short one, of an object, custom metadata are few and short, and
 -- a time that is kept is no longer than one that can be given (this project's row format).
 use Rattle.std.specs.Prelude.{◌≤◌, Some, ⊤}
-use Rattle.broker_types.specs.Duration.{longest_duration}
-use Rattle.api_json.specs.KeptBodies.{IsKept, IsKeptSettings}
-use Rattle.api_json.specs.declared.issued_bodies.RoleSettings.{RoleSettings}
+use Rattle.broker_model.specs.Words.{longest_duration, IsKept, IsKeptSettings, RoleSettings}
 use Rattle.broker_model.specs.declared.commands.CubbyholeCommand.{CubbyholeCommand}
 use Rattle.broker_model.specs.declared.commands.CubbyholeCommand.TheVariants as cubbyhole
 use Rattle.broker_model.specs.declared.commands.IssuedCommand.{IssuedCommand}

@@ -1,16 +1,8 @@
 -- What the steps of an issue come to (this project's definition).
-use Rattle.std.specs.Prelude.{◌≡◌, ℕ, [], ◌∷◌, true, Some, Result}
-use Rattle.broker_types.specs.Broker.{Broker}
-use Rattle.broker_types.specs.RequestError.{Ends}
-use Rattle.broker_types.specs.Text.{Text}
-use Rattle.broker_types.specs.Used.{are_new, use_up}
-use Rattle.broker_types.specs.declared.request_error.RequestError.{RequestError}
-use Rattle.records.specs.Transaction.{Seen, Rows, IsHonest}
-use Rattle.leases.specs.Roles.{Issued, creds}
-use Rattle.broker_rows.specs.Caller.{Caller}
-use Rattle.broker_rows.specs.Context.{Context}
-use Rattle.broker_rows.specs.Operating.{BeginsBy}
-use Rattle.broker_rows.specs.Representing.{Represents}
+use Rattle.std.specs.Prelude.{◌≡◌, ◌∷◌, ℕ, [], true, Some, Result}
+use Rattle.broker_model.specs.Words.{Broker, Ends, Text, are_new, use_up, RequestError, Seen, Rows, IsHonest, Issued}
+use Rattle.broker_model.specs.Words.{creds}
+use Rattle.broker_rows.specs.Words.{Caller, Context, BeginsBy, Represents}
 
 -- the lease is told by its id and its ttl, and the rows represent the next broker, in which its identifiers are marked
 abbrev pub IsLeased : Text → Rows → Text → Text → Text × ℕ → Issued → Type 0

@@ -1,5 +1,5 @@
 -- Which commands are at the path of a secret or of an object (this project's definition).
-use Rattle.std.specs.Prelude.{Bool, true, false}
+use Rattle.broker_model.specs.Words.{Bool, true, false}
 use Rattle.broker_model.specs.declared.commands.CubbyholeCommand.{CubbyholeCommand}
 use Rattle.broker_model.specs.declared.commands.CubbyholeCommand.TheVariants as cubbyhole
 use Rattle.broker_model.specs.declared.commands.SecretCommand.{SecretCommand}

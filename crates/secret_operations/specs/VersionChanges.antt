@@ -1,10 +1,7 @@
 -- What is done to versions of a secret by their numbers, as the code names it (this project's definition).
 use Rattle.std.specs.Prelude.{◌≡◌, ℕ, List, ⊤}
-use Rattle.broker_types.specs.Broker.{Broker}
-use Rattle.broker_types.specs.Secret.{Version}
-use Rattle.broker_types.specs.Text.{Text}
-use Rattle.kv2.specs.Secrets.{delete_versions, destroy, undelete}
-use Rattle.kv2.specs.Versions.{soft_deleted, restored, destroyed}
+use Rattle.broker_model.specs.Words.{Broker, Version, Text, delete_versions, destroy, undelete, soft_deleted, restored}
+use Rattle.broker_model.specs.Words.{destroyed}
 use Rattle.secret_operations.specs.declared.secrets.changes.Change.{Change}
 use Rattle.secret_operations.specs.declared.secrets.changes.Change.TheVariants as done
 

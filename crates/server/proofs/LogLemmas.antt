@@ -1,7 +1,6 @@
 -- The path in a line of the log, one byte more.
-use Rattle.std.proofs.Common.{◌≡◌, ℕ, ◌+◌, ◌<◌, ◌≤◌, ◌==◌, List, [], ◌∷◌, ◌++◌, map, length, get_or}
-use Rattle.std.proofs.Common.{drop, slice_range, false, refl, sym, ◌∙◌}
-use Rattle.std.proofs.Common.{append_assoc}
+use Rattle.std.proofs.Common.{◌≡◌, ◌+◌, ◌<◌, ◌≤◌, ◌==◌, ◌∷◌, ◌++◌, ℕ, List, [], map, length, get_or, drop, slice_range}
+use Rattle.records.specs.Words.{false, refl, sym, ◌∙◌, append_assoc}
 use Rattle.broker_types.specs.SliceLaws.{slice_grown, slice_none, drop_first}
 use Rattle.server.specs.LogLine.{shown_byte, shown_path, shown_segment}
 

@@ -1,27 +1,17 @@
 -- What one turn or closing leaves, and then others.
-use Rattle.std.proofs.Common.{◌≡◌, ◌≢◌, ◌≤◌, ◌∙◌, inl, inr, ⊎_elim, ℕ, Some, List, [], ◌∷◌, ◌++◌, Result, Ok, Err}
-use Rattle.std.proofs.Common.{IsTrue, IfErr, MatchResult, Bool, true, false, ap, sym, subst, refl, append-nil, arith}
-use Rattle.std.proofs.lemmas.Bool.{cases_lt}
-use Rattle.std.proofs.lemmas.Map.{update_apart}
-use Rattle.broker_types.specs.declared.fault.Fault.{Fault}
-use Rattle.broker_types.specs.declared.fault.Fault.TheVariants.{Memory, Storage, Damaged, BadStart}
-use Rattle.records.specs.Kept.{Kept, IsHonestStore}
-use Rattle.hub.specs.Feeding.{IsLater}
-use Rattle.hub.specs.Links.{number_of, unsent}
-use Rattle.hub.specs.Numbers.{IsNext}
-use Rattle.hub.specs.Representing.{ConnectionsRepresent, HubRepresents, hub_store}
-use Rattle.hub.specs.ServedConnection.{IsAllowed, LeavesClosed, LeavesOthers}
-use Rattle.hub.specs.Steps.{closed}
-use Rattle.hub.specs.StepsLaws.{known_open, steps_close, steps_none, steps_on, steps_turned}
-use Rattle.hub.specs.Turning.{Passes, TurnsLink}
-use Rattle.hub.specs.World.{Connections, World, history_at}
+use Rattle.std.specs.Prelude.{◌≡◌, ◌≢◌, ◌≤◌, ◌∷◌, ◌++◌, ℕ, Some, List, [], Result, Ok, Err, IsTrue, IfErr, MatchResult}
+use Rattle.records.specs.Words.{◌∙◌, inl, inr, ⊎_elim, Bool, true, false, ap, sym, subst, refl, append-nil, arith}
+use Rattle.records.specs.Words.{cases_lt, update_apart, Fault, Memory, Storage, Damaged, BadStart, Kept, IsHonestStore}
+use Rattle.hub.specs.Words.{IsLater, number_of, unsent, IsNext, ConnectionsRepresent, HubRepresents, hub_store}
+use Rattle.hub.specs.Words.{IsAllowed, LeavesClosed, LeavesOthers, closed, known_open, steps_close, steps_none}
+use Rattle.hub.specs.Words.{steps_on, steps_turned, Passes, TurnsLink, Connections, World, history_at}
 use Rattle.hub.specs.declared.event.Event.{Event}
 use Rattle.hub.specs.declared.hub.Hub.{Hub}
 use Rattle.hub.specs.declared.link.Link.{Link}
 use Rattle.hub.specs.declared.serve.ConnectionFault.{ConnectionFault}
 use Rattle.hub.specs.declared.serve.ConnectionFault.TheVariants.{Broker}
 use Rattle.hub.specs.declared.turn.Turn.{Turn}
-use Rattle.histories.specs.KeepsLaws.{AllKeepLaws}
+use Rattle.histories.specs.Words.{AllKeepLaws}
 use Rattle.server.specs.ServedHub.{ClosesSome, LeavesBelow, LeavesSeen, LeavesServed, ServesLawfully, is_skipped}
 
 -- ---- nothing is done

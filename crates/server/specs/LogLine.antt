@@ -1,10 +1,7 @@
 -- Lines of the log (this project's format). The time is that of RFC 3339, section 5.6.
-use Rattle.std.specs.Prelude.{ℕ, ◌&&◌, ◌==◌, nat_lt, bytes_eq, if◌then◌else◌, [], ◌∷◌, ◌++◌, map, take, codes, decimal}
-use Rattle.std.specs.Prelude.{Option, Some, None}
-use Rattle.broker_types.specs.Text.{Text}
-use Rattle.broker_types.specs.Time.{time_text}
-use Rattle.broker_types.specs.declared.ask.Verb.{Verb}
-use Rattle.broker_types.specs.declared.ask.Verb.TheVariants.{Get, List as Listing, Write, Delete}
+use Rattle.std.specs.Prelude.{◌&&◌, ◌==◌, if◌then◌else◌, ◌∷◌, ◌++◌, ℕ, nat_lt, bytes_eq, [], map, take, codes, decimal}
+use Rattle.records.specs.Words.{Option, Some, None, Text, time_text, Verb, Get, Write, Delete}
+use Rattle.broker_types.specs.declared.ask.Verb.TheVariants.{List as Listing}
 use Rattle.server.specs.declared.log_line.Asked.{Asked}
 
 -- a byte of a path: `?` in place of a space, and of all that is no ASCII character

@@ -1,8 +1,6 @@
 -- Which moment the system's clock tells (this project's definition).
-use Rattle.std.specs.Prelude.{ℕ, ◌/◌, min, Result, Ok, Err}
-use Rattle.std.specs.Time.{system_time_nanos}
-use Rattle.std.specs.declared.time.SystemTime.{SystemTime}
-use Rattle.broker_types.specs.Moment.{greatest_moment}
+use Rattle.std.specs.Prelude.{◌/◌, ℕ, min, Result, Ok, Err}
+use Rattle.records.specs.Words.{system_time_nanos, SystemTime, greatest_moment}
 
 -- whole seconds since the beginning of 1970: 0 if the clock cannot be read or tells an earlier time, and at most the
 -- greatest moment

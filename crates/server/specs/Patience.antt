@@ -1,5 +1,5 @@
 -- How long a peer may keep its place, in milliseconds (this project's limits).
-use Rattle.std.specs.Prelude.{ℕ, Bool, ◌||◌, nat_lt, if◌then◌else◌, not}
+use Rattle.std.specs.Prelude.{◌||◌, if◌then◌else◌, ℕ, Bool, nat_lt, not}
 use Rattle.server.specs.declared.waiting.Wait.{Wait}
 use Rattle.server.specs.declared.waiting.Wait.TheVariants.{NextRequest, Progress, Farewell}
 

@@ -1,17 +1,13 @@
 -- What serving connections leaves of the hub, and which faults end it (this project's definition).
 use Rattle.std.specs.Prelude.{◌≡◌, ◌≢◌, ◌<◌, ℕ, Bool, true, false, List, [], Result, Err, IsTrue, IfErr, MatchResult}
-use Rattle.std.specs.Prelude.{None}
-use Rattle.broker_types.specs.declared.fault.Fault.{Fault}
-use Rattle.broker_types.specs.declared.fault.Fault.TheVariants.{Memory, Storage, Damaged, BadStart}
-use Rattle.records.specs.Kept.{Kept, IsHonestStore}
-use Rattle.hub.specs.Representing.{ConnectionsRepresent, HubRepresents, hub_store}
-use Rattle.hub.specs.Steps.{AreKnown, Step, StepsBetween, StepsFrom, StepsTaken, before_fault}
-use Rattle.hub.specs.World.{Connections, World}
+use Rattle.records.specs.Words.{None, Fault, Memory, Storage, Damaged, BadStart, Kept, IsHonestStore}
+use Rattle.hub.specs.Words.{ConnectionsRepresent, HubRepresents, hub_store, AreKnown, Step, StepsBetween, StepsFrom}
+use Rattle.hub.specs.Words.{StepsTaken, before_fault, Connections, World}
 use Rattle.hub.specs.declared.event.Event.{Event}
 use Rattle.hub.specs.declared.hub.Hub.{Hub}
 use Rattle.hub.specs.declared.serve.ConnectionFault.{ConnectionFault}
 use Rattle.hub.specs.declared.serve.ConnectionFault.TheVariants.{Broker, Read, Write}
-use Rattle.histories.specs.KeepsLaws.{KeepsLaws}
+use Rattle.histories.specs.Words.{KeepsLaws}
 
 -- whether the others are served on after this fault of one: running out of memory, reading and writing (1, 5, 6)
 abbrev pub is_skipped : ConnectionFault → Bool

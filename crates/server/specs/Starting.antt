@@ -1,7 +1,5 @@
 -- What serving a broker ends with whose rows are those of a sound one (this project's definition).
-use Rattle.std.specs.Prelude.{⊤}
-use Rattle.broker_types.specs.declared.fault.Fault.TheVariants.{Memory, Storage, Damaged, BadStart}
-use Rattle.records.specs.Kept.{Kept, IsHonestStore}
+use Rattle.records.specs.Words.{⊤, Memory, Storage, Damaged, BadStart, Kept, IsHonestStore}
 use Rattle.hub.specs.declared.serve.ConnectionFault.{ConnectionFault}
 use Rattle.hub.specs.declared.serve.ConnectionFault.TheVariants.{Broker, Read, Write}
 

@@ -1,16 +1,9 @@
 -- Answers of tests.
-use Rattle.std.specs.Prelude.{◌≡◌, ◌≢◌, ◌<◌, ◌≤◌, ◌∷◌, [], ℕ, zero, suc, List, length, All, nat_le, Bool, true, false}
-use Rattle.std.specs.Prelude.{Option, None, is_some}
-use Rattle.std.specs.List.{list_all}
-use Rattle.std.specs.Bool.{OnTrue}
-use Rattle.std.proofs.Common.{refl, sym, ◌∙◌, ap, get_or, arith}
-use Rattle.std.proofs.lemmas.Bool.{false≢true, and_parts, leb-true, ltb-true}
-use Rattle.std.proofs.lemmas.List.Elements.{All-cons, All-nil}
-use Rattle.broker_types.specs.Limits.{most_custom_metadata, longest_custom_name, longest_custom_value}
-use Rattle.broker_types.specs.Sound.{IsCustomPair}
-use Rattle.broker_types.specs.Text.{Text}
-use Rattle.records.specs.TokenEntry.{IsShortPair, IsMeta}
-use Rattle.soundness.specs.Texts.{is_fit, are_fit}
+use Rattle.std.proofs.Common.{◌≡◌, ◌≢◌, ◌<◌, ◌≤◌, ◌∷◌, [], ℕ, zero, suc, List, length, All, nat_le, Bool, true, false}
+use Rattle.broker_model.specs.Words.{Option, None, is_some, list_all, OnTrue, refl, sym, ◌∙◌, ap, get_or, arith}
+use Rattle.broker_model.specs.Words.{false≢true, and_parts, leb-true, ltb-true, All-cons, All-nil, most_custom_metadata}
+use Rattle.broker_model.specs.Words.{longest_custom_name, longest_custom_value, IsCustomPair, Text, IsShortPair, IsMeta}
+use Rattle.soundness.specs.Words.{is_fit, are_fit}
 
 -- what follows from a test that passes
 pub on_true : {P : Type 0} (b : Bool) → (b ≡ true → P) → OnTrue b P

@@ -1,43 +1,21 @@
 -- A row that breaks a rule is none of sound rows: what single rows say.
-use Rattle.std.specs.Prelude.{◌≡◌, ◌≢◌, ◌<◌, ◌≤◌, ◌++◌, ◌∷◌, ◌==◌, [], ℕ, List, length, All, Bool, true}
-use Rattle.std.specs.Prelude.{Some, None, ⊤}
-use Rattle.std.specs.List.{list_all}
-use Rattle.std.proofs.Common.{refl, sym, ◌∙◌, ap, subst, get_or}
-use Rattle.std.proofs.Math.Nat.{le_trans}
-use Rattle.std.proofs.lemmas.Bool.{and_from, le-leb, lt-ltb, false≢true}
-use Rattle.std.proofs.lemmas.List.Elements.{All-head, All-tail}
-use Rattle.std.proofs.lemmas.Option.{same_Some}
-use Rattle.broker_types.specs.Text.{Text, same}
-use Rattle.broker_types.specs.Limits.{most_custom_metadata, longest_custom_name, longest_custom_value}
-use Rattle.broker_types.specs.Name.{is_name}
-use Rattle.broker_types.specs.Broker.{Waiting}
-use Rattle.broker_types.specs.Sound.{IsCustomPair, IsPathText, IsShortText, IsTokenText}
-use Rattle.broker_model.specs.Forms.{forms}
+use Rattle.std.proofs.Common.{◌≡◌, ◌≢◌, ◌<◌, ◌≤◌, ◌++◌, ◌∷◌, ◌==◌, [], ℕ, List, length, All, Bool, true, Some, None, ap}
+use Rattle.broker_model.specs.Words.{⊤, list_all, refl, sym, ◌∙◌, subst, get_or, le_trans, and_from, le-leb, lt-ltb}
+use Rattle.broker_model.specs.Words.{false≢true, All-head, All-tail, same_Some, Text, same, most_custom_metadata}
+use Rattle.broker_model.specs.Words.{longest_custom_name, longest_custom_value, is_name, Waiting, IsCustomPair}
+use Rattle.broker_model.specs.Words.{IsPathText, IsShortText, IsTokenText, forms, Kind, Row, digits_after-padded, wide}
+use Rattle.broker_model.specs.Words.{KeyEntry, TokenEntry, IsTokenInRange, IsLeaseInRange, IsKeyInRange}
+use Rattle.broker_model.specs.Words.{IsVersionInRange, IsWaitingInRange, IsSomeIn, number, entry_row, accessor_row}
+use Rattle.broker_model.specs.Words.{cubby_row, lease_row, credential_row, key_entry_row, old_key_row, version_row}
+use Rattle.broker_model.specs.Words.{waiting_row, policy_row, entry_row-injective, cubby_row-injective}
+use Rattle.broker_model.specs.Words.{lease_row-injective, key_entry_row-injective, version_row-injective}
+use Rattle.broker_model.specs.Words.{waiting_row-injective, policy_row-injective, padded, digits_after, name_lacks}
+use Rattle.broker_model.specs.Words.{slash, line_feed, split_once, split-lacking, Table}
 use Rattle.records.specs.declared.holder.Holder.TheVariants as holder
-use Rattle.records.specs.declared.kind.Kind.{Kind}
 use Rattle.records.specs.declared.kind.Kind.TheVariants as kind
-use Rattle.records.specs.declared.row.Row.{Row}
-use Rattle.records.specs.DigitLaws.{digits_after-padded, wide}
-use Rattle.records.specs.KeyEntry.{KeyEntry}
-use Rattle.records.specs.TokenEntry.{TokenEntry}
-use Rattle.records.specs.Ranges.{IsTokenInRange, IsLeaseInRange, IsKeyInRange, IsVersionInRange, IsWaitingInRange}
-use Rattle.records.specs.RowReaders.{IsSomeIn}
-use Rattle.records.specs.Spelling.{number}
-use Rattle.records.specs.RowForms.{entry_row, accessor_row, cubby_row, lease_row, credential_row, key_entry_row}
-use Rattle.records.specs.RowForms.{old_key_row, version_row, waiting_row, policy_row}
-use Rattle.records.specs.RowLaws.{entry_row-injective, cubby_row-injective, lease_row-injective}
-use Rattle.records.specs.RowLaws.{key_entry_row-injective, version_row-injective, waiting_row-injective}
-use Rattle.records.specs.RowLaws.{policy_row-injective}
-use Rattle.records.specs.Rows.{padded, digits_after}
-use Rattle.records.specs.SecretNameLaws.{name_lacks}
-use Rattle.records.specs.Splits.{slash, line_feed, split_once}
-use Rattle.records.specs.SplitLaws.{split-lacking}
-use Rattle.records.specs.Table.{Table}
-use Rattle.soundness.specs.Broken.{IsInFormat, IsVersionKey, IsKeyOf, BreaksText, IsKeyRow, BreaksNumber, BreaksUses}
-use Rattle.soundness.specs.Broken.{BreaksParent, BreaksOwner, BreaksAccessor, BreaksCredential}
-use Rattle.soundness.specs.RowRules.{IsOf, Named, IsNamedBy, Owned, Held, IsCredentialOf}
-use Rattle.soundness.specs.SoundRows.{AreSound}
-use Rattle.soundness.specs.Texts.{is_fit, are_fit}
+use Rattle.soundness.specs.Words.{IsInFormat, IsVersionKey, IsKeyOf, BreaksText, IsKeyRow, BreaksNumber, BreaksUses}
+use Rattle.soundness.specs.Words.{BreaksParent, BreaksOwner, BreaksAccessor, BreaksCredential, IsOf, Named, IsNamedBy}
+use Rattle.soundness.specs.Words.{Owned, Held, IsCredentialOf, AreSound, is_fit, are_fit}
 use Rattle.soundness.proofs.ReadLemmas.{owner_of}
 use Rattle.soundness.proofs.TokenFacts.{had_identifier}
 

@@ -1,28 +1,11 @@
 -- A row that breaks a rule is none of sound rows: identifiers, origins, chains of parents, and each rule.
-use Rattle.std.specs.Prelude.{◌≡◌, ◌≢◌, [], ℕ, zero, suc, unwrap_or, Some, None}
-use Rattle.std.proofs.Common.{sym, ◌∙◌, ap, subst, inl, inr}
-use Rattle.broker_types.specs.Text.{Text}
-use Rattle.broker_types.specs.TokenText.{token_text}
-use Rattle.broker_types.specs.Identifier.{id}
-use Rattle.broker_types.specs.OptionLaws.{found_or_not}
-use Rattle.broker_types.specs.IdentifierPlaces.{token_identifier}
-use Rattle.broker_types.specs.Broker.{Waiting}
-use Rattle.records.specs.declared.kind.Kind.{Kind}
+use Rattle.std.proofs.Common.{◌≡◌, ◌≢◌, [], ℕ, zero, suc, unwrap_or, Some, None, sym, ◌∙◌, ap, subst, inl, inr}
+use Rattle.broker_model.specs.Words.{Text, token_text, id, found_or_not, token_identifier, Waiting, Kind, Row, RowKey}
+use Rattle.broker_model.specs.Words.{IsWaitingInRange, waiting_row, waiting_row-injective, Table, table_of, Rows}
 use Rattle.records.specs.declared.kind.Kind.TheVariants as kind
-use Rattle.records.specs.declared.row.Row.{Row}
-use Rattle.records.specs.Kind.{RowKey}
-use Rattle.records.specs.Ranges.{IsWaitingInRange}
-use Rattle.records.specs.RowForms.{waiting_row}
-use Rattle.records.specs.RowLaws.{waiting_row-injective}
-use Rattle.records.specs.Table.{Table, table_of}
-use Rattle.records.specs.Transaction.{Rows}
-use Rattle.soundness.specs.Broken.{Breaks, BreaksAt, BreaksChain, BreaksMark, BreaksPlace, BreaksOrigin, HasIdentifier}
-use Rattle.soundness.specs.Broken.{RootedIn}
-use Rattle.soundness.specs.Laws.{AreOfABroker, RowsOfABrokerAreSound}
-use Rattle.soundness.specs.SoundRows.{AreSound, IsHad, EndsIn}
-use Rattle.soundness.specs.declared.trouble.Rule.{Rule}
+use Rattle.soundness.specs.Words.{Breaks, BreaksAt, BreaksChain, BreaksMark, BreaksPlace, BreaksOrigin, HasIdentifier}
+use Rattle.soundness.specs.Words.{RootedIn, AreOfABroker, RowsOfABrokerAreSound, AreSound, IsHad, EndsIn, Rule, Trouble}
 use Rattle.soundness.specs.declared.trouble.Rule.TheVariants as rule
-use Rattle.soundness.specs.declared.trouble.Trouble.{Trouble}
 use Rattle.soundness.proofs.IdentifiersSound.{after_prefix}
 use Rattle.soundness.proofs.OthersSound.{one_row}
 use Rattle.soundness.proofs.TokenFacts.{had_identifier}

@@ -1,22 +1,10 @@
 -- A walk over rows, each of which is visited once, so that none is noted before it is visited.
-use Rattle.std.specs.Prelude.{◌≡◌, ◌≢◌, ◌<◌, ◌≤◌, ◌+◌, ◌&&◌, ◌++◌, ◌∷◌, ◌==◌, [], ℕ, zero, suc, List, All}
-use Rattle.std.specs.Prelude.{Bool, true, length, take, Option, Some, None, IfNone, IfSome}
-use Rattle.std.specs.Ordering.{is_ge}
-use Rattle.std.proofs.Common.{refl, sym, ◌∙◌, ap, subst, get_or, arith}
-use Rattle.std.proofs.lemmas.Bool.{and_parts, eqb-true, false≢true}
-use Rattle.std.proofs.lemmas.List.Elements.{Contains-get_or}
-use Rattle.broker_types.specs.Text.{Text, text_cmp}
-use Rattle.broker_types.specs.OptionLaws.{of_none, of_some}
-use Rattle.records.specs.declared.kind.Kind.{Kind}
-use Rattle.records.specs.declared.row.Row.{Row}
-use Rattle.records.specs.Kind.{RowKey, kind_number}
-use Rattle.records.specs.Table.{Table, table_of}
-use Rattle.records.specs.Transaction.{Rows, rows_from}
-use Rattle.soundness.specs.declared.trouble.Rule.{Rule}
-use Rattle.soundness.specs.declared.trouble.Trouble.{Trouble}
-use Rattle.soundness.specs.declared.visiting.Notes.{Notes}
-use Rattle.soundness.specs.Broken.{Breaks, BreaksAt}
-use Rattle.soundness.specs.Notes.{AreApart, AreTrue, CanBeVisited, IsEntry, IsFresh, IsFreshKind, Spares}
+use Rattle.std.proofs.Common.{◌≡◌, ◌≢◌, ◌<◌, ◌≤◌, ◌+◌, ◌&&◌, ◌++◌, ◌∷◌, ◌==◌, [], ℕ, zero, suc, List, All, Bool, true}
+use Rattle.broker_model.specs.Words.{length, take, Option, Some, None, IfNone, IfSome, is_ge, refl, sym, ◌∙◌, ap, subst}
+use Rattle.broker_model.specs.Words.{get_or, arith, and_parts, eqb-true, false≢true, Contains-get_or, Text, text_cmp}
+use Rattle.broker_model.specs.Words.{of_none, of_some, Kind, Row, RowKey, kind_number, Table, table_of, Rows, rows_from}
+use Rattle.soundness.specs.Words.{Rule, Trouble, Notes, Breaks, BreaksAt, AreApart, AreTrue, CanBeVisited, IsEntry}
+use Rattle.soundness.specs.Words.{IsFresh, IsFreshKind, Spares}
 use Rattle.soundness.proofs.NotingLemmas.{spares_further, trouble_at}
 use Rattle.soundness.proofs.PageOrder.{IsLast, above_from, in_page, page_sorted, page_upto, sorted_apart}
 use Rattle.soundness.proofs.WalkLemmas.{all_kinds}

@@ -1,45 +1,26 @@
 -- The rows of a sound broker keep the rules for single rows.
-use Rattle.std.specs.Prelude.{◌≡◌, ◌≢◌, ◌+◌, ◌++◌, ◌∷◌, ◌⊎◌, ℕ, [], take, drop, Bool, true, false, Option, Some, None}
-use Rattle.std.specs.Prelude.{option_map, option_and_then, if◌then◌else◌, ◌≤◌, ⊤}
+use Rattle.std.proofs.Common.{◌≡◌, ◌≢◌, ◌+◌, ◌++◌, ◌∷◌, ◌⊎◌, if◌then◌else◌, ◌≤◌, ℕ, [], take, drop, Bool, true, false}
+use Rattle.broker_model.specs.Words.{Option, Some, None, option_map, option_and_then, ⊤, refl, sym, ◌∙◌, ap, subst, inl}
+use Rattle.broker_model.specs.Words.{inr, false≢true, none-some, same_Some, Text, same, same_true, same_self}
+use Rattle.broker_model.specs.Words.{most_custom_metadata, get, first_where, found_or_not, mapped, mapped_none}
+use Rattle.broker_model.specs.Words.{identifier_at, place_token, each_entry, first_where_is, first_where_only}
+use Rattle.broker_model.specs.Words.{none_found, OnePasses, Key, Sound, IsIdentifier, IsCustomPair, IsSoundMount}
+use Rattle.broker_model.specs.Words.{IsSoundPolicy, IsSoundRole, Token, Broker, Waiting, forms, Kind, Row, digits_are}
+use Rattle.broker_model.specs.Words.{key_entry, token_entry, token_in_range, lease_in_range, key_in_range}
+use Rattle.broker_model.specs.Words.{version_in_range, waiting_in_range, clock_row, used_row, token_row, entry_row}
+use Rattle.broker_model.specs.Words.{accessor_row, cubby_row, lease_row, credential_row, key_row, key_entry_row}
+use Rattle.broker_model.specs.Words.{version_row, waiting_row, mount_row, policy_row, role_row, rows_of, token_len}
+use Rattle.broker_model.specs.Words.{has_slash, object_row, or_else, waiting_rows, version_at, version_row_of}
+use Rattle.broker_model.specs.Words.{version_of_digits, line_feed, split_once, lacking_split, Table, table_of, Rows}
+use Rattle.broker_model.specs.Words.{key_parts, AreLeases, are_leases, token_of}
 use Rattle.std.specs.FinMap as fin
-use Rattle.std.proofs.Common.{refl, sym, ◌∙◌, ap, subst, inl, inr}
-use Rattle.std.proofs.lemmas.Bool.{false≢true}
-use Rattle.std.proofs.lemmas.Option.{none-some, same_Some}
-use Rattle.broker_types.specs.Text.{Text, same}
-use Rattle.broker_types.specs.TextLaws.{same_true, same_self}
-use Rattle.broker_types.specs.Limits.{most_custom_metadata}
-use Rattle.broker_types.specs.Map.{get, first_where}
-use Rattle.broker_types.specs.OptionLaws.{found_or_not, mapped, mapped_none}
 use Rattle.broker_types.specs.IdentifierPlaces as places
-use Rattle.broker_types.specs.IdentifierPlaces.{Place, identifier_at, place_token}
-use Rattle.broker_types.specs.SearchLaws.{each_entry, first_where_is, first_where_only, none_found, OnePasses}
-use Rattle.broker_types.specs.Secret.{Key}
-use Rattle.broker_types.specs.Sound.{Sound, IsIdentifier, IsCustomPair, IsSoundMount, IsSoundPolicy, IsSoundRole}
-use Rattle.broker_types.specs.Token.{Token}
-use Rattle.broker_types.specs.Broker.{Broker, Waiting}
-use Rattle.broker_model.specs.Forms.{forms}
-use Rattle.broker_rows.specs.Representing.{Represents}
+use Rattle.broker_types.specs.IdentifierPlaces.{Place}
+use Rattle.broker_rows.specs.Words.{Represents}
 use Rattle.records.specs.declared.holder.Holder.TheVariants as holder
-use Rattle.records.specs.declared.kind.Kind.{Kind}
 use Rattle.records.specs.declared.kind.Kind.TheVariants as kind
-use Rattle.records.specs.declared.row.Row.{Row}
-use Rattle.records.specs.DigitLaws.{digits_are}
-use Rattle.records.specs.KeyEntry.{key_entry}
-use Rattle.records.specs.TokenEntry.{token_entry}
-use Rattle.records.specs.RangeLaws.{token_in_range, lease_in_range, key_in_range, version_in_range, waiting_in_range}
-use Rattle.records.specs.RowForms.{clock_row, used_row, token_row, entry_row, accessor_row, cubby_row, lease_row}
-use Rattle.records.specs.RowForms.{credential_row, key_row, key_entry_row, version_row, waiting_row, mount_row}
-use Rattle.records.specs.RowForms.{policy_row, role_row}
-use Rattle.records.specs.Rows.{rows_of, token_len, has_slash, object_row, or_else, waiting_rows}
-use Rattle.records.specs.Rows.{version_at, version_row_of, version_of_digits}
-use Rattle.records.specs.Splits.{line_feed, split_once}
-use Rattle.records.specs.SplitLaws.{lacking_split}
-use Rattle.records.specs.Table.{Table, table_of}
-use Rattle.records.specs.Transaction.{Rows}
-use Rattle.cubbyhole.specs.ObjectLaws.{key_parts}
-use Rattle.leases.specs.TellLaws.{AreLeases, are_leases, token_of}
-use Rattle.soundness.specs.RowRules.{IsOf, IsClock, IsTokenAt, Named, IsNamedBy, Owned, IsObjectAt, Held, IsLeaseAt}
-use Rattle.soundness.specs.RowRules.{IsCredentialOf, IsKeyAt, IsVersionAt, IsWaitingAt, IsSoundAt}
+use Rattle.soundness.specs.Words.{IsOf, IsClock, IsTokenAt, Named, IsNamedBy, Owned, IsObjectAt, Held, IsLeaseAt}
+use Rattle.soundness.specs.Words.{IsCredentialOf, IsKeyAt, IsVersionAt, IsWaitingAt, IsSoundAt}
 
 -- whether it is the place of a wrapping token's accessor
 is_wrapping : Place → Bool

@@ -1,37 +1,17 @@
 -- The rows of a sound broker keep the rules: those for identifiers, origins and chains of parents too.
-use Rattle.std.specs.Prelude.{◌≡◌, ◌∷◌, ℕ, zero, suc, [], List, Bool, true, false, cond, Option, Some, None}
-use Rattle.std.specs.Prelude.{option_map, unwrap_or, Contains}
-use Rattle.std.specs.FinMap.{entries}
-use Rattle.std.specs.List.{find}
-use Rattle.std.specs.Option.{option_map_or}
-use Rattle.std.proofs.Common.{refl, sym, ◌∙◌, ap, subst, inl, inr, arith}
-use Rattle.std.proofs.lemmas.Bool.{false≢true}
-use Rattle.std.proofs.lemmas.List.Elements.{All-contains_itself, Contains-append_left, Contains-append_right}
-use Rattle.std.proofs.lemmas.Option.{none-some, same_Some}
-use Rattle.broker_types.specs.Text.{Text, same}
-use Rattle.broker_types.specs.TextLaws.{same_true, same_self}
-use Rattle.broker_types.specs.Identifier.{id}
-use Rattle.broker_types.specs.Lineage.{ends_within}
-use Rattle.broker_types.specs.Map.{get, len, first_where}
-use Rattle.broker_types.specs.OptionLaws.{found_or_not, is_nothing}
+use Rattle.std.proofs.Common.{◌≡◌, ◌∷◌, ℕ, zero, suc, [], List, Bool, true, false, cond, Option, Some, None, option_map}
+use Rattle.broker_model.specs.Words.{unwrap_or, Contains, entries, find, option_map_or, refl, sym, ◌∙◌, ap, subst, inl}
+use Rattle.broker_model.specs.Words.{inr, arith, false≢true, All-contains_itself, Contains-append_left}
+use Rattle.broker_model.specs.Words.{Contains-append_right, none-some, same_Some, Text, same, same_true, same_self, id}
+use Rattle.broker_model.specs.Words.{ends_within, get, len, first_where, found_or_not, is_nothing, identifier_at}
+use Rattle.broker_model.specs.Words.{token_identifier, lease_identifier, first_where_only, OnePasses, Sound, Token}
+use Rattle.broker_model.specs.Words.{Lease, token_text, Broker, Waiting, forms, Kind, Row, element_cases, entry_at}
+use Rattle.broker_model.specs.Words.{at_entry, RowKey, waiting_in_range, Table, table_of, Rows}
 use Rattle.broker_types.specs.IdentifierPlaces as places
-use Rattle.broker_types.specs.IdentifierPlaces.{Place, identifier_at, token_identifier, lease_identifier}
-use Rattle.broker_types.specs.SearchLaws.{first_where_only, OnePasses}
-use Rattle.broker_types.specs.Sound.{Sound}
-use Rattle.broker_types.specs.Token.{Token, Lease}
-use Rattle.broker_types.specs.TokenText.{token_text}
-use Rattle.broker_types.specs.Broker.{Broker, Waiting}
-use Rattle.broker_model.specs.Forms.{forms}
-use Rattle.broker_rows.specs.Representing.{Represents}
-use Rattle.records.specs.declared.kind.Kind.{Kind}
+use Rattle.broker_types.specs.IdentifierPlaces.{Place}
+use Rattle.broker_rows.specs.Words.{Represents}
 use Rattle.records.specs.declared.kind.Kind.TheVariants as kind
-use Rattle.records.specs.declared.row.Row.{Row}
-use Rattle.records.specs.EntryLaws.{element_cases, entry_at, at_entry}
-use Rattle.records.specs.Kind.{RowKey}
-use Rattle.records.specs.RangeLaws.{waiting_in_range}
-use Rattle.records.specs.Table.{Table, table_of}
-use Rattle.records.specs.Transaction.{Rows}
-use Rattle.soundness.specs.SoundRows.{AreSound, Places, IsHad, HasItsIdentifier, AreOfOneOrigin, EndsIn}
+use Rattle.soundness.specs.Words.{AreSound, Places, IsHad, HasItsIdentifier, AreOfOneOrigin, EndsIn}
 use Rattle.soundness.proofs.BrokerRows as broker
 use Rattle.soundness.proofs.IdentifiersSound.{key_of, after_prefix}
 

@@ -1,27 +1,11 @@
 -- Chains of parents, by the owners of the rows of tokens.
-use Rattle.std.specs.Prelude.{◌≡◌, ◌&&◌, [], ℕ, suc, Bool, true, false, cond, Some, All}
-use Rattle.std.specs.BTreeSet.{BTreeSet, contains}
-use Rattle.std.specs.FinMap.{get, nat_cmp-IsAntisymmetric}
-use Rattle.std.specs.List.{list_any}
-use Rattle.std.specs.Ordering.{nat_cmp, is_eq}
-use Rattle.std.proofs.Common.{refl, sym, ◌∙◌, ap, subst, inl, inr}
-use Rattle.std.proofs.lemmas.Bool.{and_parts, false≢true}
-use Rattle.std.proofs.lemmas.Map.Views.{tells_apart}
-use Rattle.std.proofs.lemmas.Option.{same_Some}
-use Rattle.broker_types.specs.Text.{Text, same}
-use Rattle.broker_types.specs.TextLaws.{same_true}
-use Rattle.broker_types.specs.Identifier.{id}
-use Rattle.broker_types.specs.TokenText.{token_text}
-use Rattle.records.specs.declared.kind.Kind.{Kind}
+use Rattle.std.proofs.Common.{◌≡◌, ◌&&◌, [], ℕ, suc, Bool, true, false, cond, Some, All, refl, sym, ◌∙◌, ap, subst, inl}
+use Rattle.broker_model.specs.Words.{BTreeSet, contains, get, nat_cmp-IsAntisymmetric, list_any, nat_cmp, is_eq, inr}
+use Rattle.broker_model.specs.Words.{and_parts, false≢true, tells_apart, same_Some, Text, same, same_true, id}
+use Rattle.broker_model.specs.Words.{token_text, Kind, Row, passing_each, RowKey, is_of_kind, same_kind, Table}
+use Rattle.broker_model.specs.Words.{table_of, Rows, rows_owned}
 use Rattle.records.specs.declared.kind.Kind.TheVariants as kind
-use Rattle.records.specs.declared.row.Row.{Row}
-use Rattle.records.specs.EntryLaws.{passing_each}
-use Rattle.records.specs.Kind.{RowKey, is_of_kind}
-use Rattle.records.specs.KeyLaws.{same_kind}
-use Rattle.records.specs.Table.{Table, table_of}
-use Rattle.records.specs.Transaction.{Rows, rows_owned}
-use Rattle.soundness.specs.SoundRows.{Ends, EndsIn}
-use Rattle.soundness.specs.Visiting.{EachEnds, IsAbove}
+use Rattle.soundness.specs.Words.{Ends, EndsIn, EachEnds, IsAbove}
 
 module _ (rows : Rows) (t : Text) where
   abbrev at : Table

@@ -1,26 +1,12 @@
 -- Finite maps that are gathered from rows.
-use Rattle.std.specs.Prelude.{◌≡◌, ◌||◌, List, [], ◌∷◌, map, Bool, true, false, cond, Option, Some, None, option_map}
-use Rattle.std.specs.Prelude.{is_some}
-use Rattle.std.specs.declared.cmp.Ordering.{Ordering}
-use Rattle.std.specs.Cmp.{IsTotalOrder, eq_by_cmp_equiv}
-use Rattle.std.specs.Cmp.Lexicographic.{nat_list_cmp_total}
-use Rattle.std.specs.FinMap.{FinMap, IsAntisymmetric, get, insert, empty, entries, get-empty, get-insert}
-use Rattle.std.specs.FinMap.{contains_key-keys}
-use Rattle.std.specs.FinMap.{slice_cmp-IsAntisymmetric, nat_cmp-IsAntisymmetric}
-use Rattle.std.specs.List.{list_any}
-use Rattle.std.specs.Ordering.{eq_by_cmp}
-use Rattle.std.proofs.Common.{refl, sym, ◌∙◌, ap, subst, inl, inr}
-use Rattle.std.proofs.lemmas.Bool.{false≢true, or_cases, or_right}
-use Rattle.std.proofs.lemmas.Option.{none-some, same_Some}
-use Rattle.std.proofs.lemmas.Map.Views.{tells_apart}
-use Rattle.broker_types.specs.Text.{Text, text_cmp}
-use Rattle.broker_types.specs.Map.{Map}
-use Rattle.records.specs.declared.kind.Kind.{Kind}
-use Rattle.records.specs.declared.row.Row.{Row}
-use Rattle.records.specs.Kind.{RowKey, key_cmp}
-use Rattle.records.specs.KeyLaws.{key_cmp_exact}
-use Rattle.records.specs.Transaction.{Rows}
-use Rattle.soundness.specs.RowRules.{IsOf}
+use Rattle.std.proofs.Common.{◌≡◌, ◌||◌, ◌∷◌, List, [], map, Bool, true, false, cond, Option, Some, None, option_map}
+use Rattle.broker_model.specs.Words.{is_some, Ordering, IsTotalOrder, eq_by_cmp_equiv, nat_list_cmp_total, FinMap}
+use Rattle.broker_model.specs.Words.{IsAntisymmetric, get, insert, empty, entries, get-empty, get-insert}
+use Rattle.broker_model.specs.Words.{contains_key-keys, slice_cmp-IsAntisymmetric, nat_cmp-IsAntisymmetric, list_any}
+use Rattle.broker_model.specs.Words.{eq_by_cmp, refl, sym, ◌∙◌, ap, subst, inl, inr, false≢true, or_cases, or_right}
+use Rattle.broker_model.specs.Words.{none-some, same_Some, tells_apart, Text, text_cmp, Map, Kind, Row, RowKey, key_cmp}
+use Rattle.broker_model.specs.Words.{key_cmp_exact, Rows}
+use Rattle.soundness.specs.Words.{IsOf}
 
 -- ---- maps of what a function has at keys
 

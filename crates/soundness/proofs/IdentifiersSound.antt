@@ -1,30 +1,15 @@
 -- The identifiers of the broker that is read off sound rows are each in one place.
-use Rattle.std.specs.Prelude.{◌≡◌, ◌≢◌, codes, unwrap_or, if◌then◌else◌, ⊤, Some, None, option_map}
-use Rattle.std.proofs.Common.{refl, sym, ◌∙◌, ap, subst, inl, inr}
-use Rattle.std.proofs.Math.Seq.{drop-append-add}
-use Rattle.broker_types.specs.Text.{Text, same}
-use Rattle.broker_types.specs.TextLaws.{same_self}
-use Rattle.broker_types.specs.TokenText.{token_text}
-use Rattle.broker_types.specs.Map.{get}
-use Rattle.broker_types.specs.OptionLaws.{found_or_not, mapped}
+use Rattle.std.proofs.Common.{◌≡◌, ◌≢◌, if◌then◌else◌, codes, unwrap_or, Some, None, option_map, refl, sym, ◌∙◌, ap}
+use Rattle.broker_model.specs.Words.{⊤, subst, inl, inr, drop-append-add, Text, same, same_self, token_text, get}
+use Rattle.broker_model.specs.Words.{found_or_not, mapped, identifier_at, token_identifier, lease_identifier, lease_of}
+use Rattle.broker_model.specs.Words.{SoundIdentifiers, Token, Lease, Broker, Waiting, Kind, Row, RowKey, used_row}
+use Rattle.broker_model.specs.Words.{entry_row, accessor_row, lease_row, Table, table_of, Rows, token_of, names_of_row}
+use Rattle.broker_model.specs.Words.{names_token}
 use Rattle.broker_types.specs.IdentifierPlaces as places
-use Rattle.broker_types.specs.IdentifierPlaces.{Place, identifier_at, token_identifier, lease_identifier, lease_of}
-use Rattle.broker_types.specs.Sound.{SoundIdentifiers}
-use Rattle.broker_types.specs.Token.{Token, Lease}
-use Rattle.broker_types.specs.Broker.{Broker, Waiting}
+use Rattle.broker_types.specs.IdentifierPlaces.{Place}
 use Rattle.records.specs.declared.holder.Holder.TheVariants as holder
-use Rattle.records.specs.declared.kind.Kind.{Kind}
 use Rattle.records.specs.declared.kind.Kind.TheVariants as kind
-use Rattle.records.specs.declared.row.Row.{Row}
-use Rattle.records.specs.Kind.{RowKey}
-use Rattle.records.specs.RowForms.{used_row, entry_row, accessor_row, lease_row}
-use Rattle.records.specs.Table.{Table, table_of}
-use Rattle.records.specs.Transaction.{Rows}
-use Rattle.leases.specs.TellLaws.{token_of}
-use Rattle.token_tree.specs.AccessorLaws.{names_of_row}
-use Rattle.token_tree.specs.Accessors.{names_token}
-use Rattle.soundness.specs.RowRules.{Held}
-use Rattle.soundness.specs.SoundRows.{AreSound, IsHad}
+use Rattle.soundness.specs.Words.{Held, AreSound, IsHad}
 use Rattle.soundness.proofs.ReadBack as read
 use Rattle.soundness.proofs.TokenFacts.{token_is, entry_row_at}
 use Rattle.soundness.proofs.TokenTells.{accessor_of_token, accessor_of_waiting, lease_held, credential_of}

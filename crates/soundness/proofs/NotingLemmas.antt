@@ -1,32 +1,12 @@
 -- What notes of rows hold, and what stops the noting of a row.
-use Rattle.std.specs.Prelude.{◌≡◌, ◌≢◌, ◌⊎◌, ℕ, true, false, cond, Option, Some, None, IfNone, IfSome, Result}
-use Rattle.std.specs.FinMap.{nat_cmp-IsAntisymmetric}
-use Rattle.std.specs.Ordering.{nat_cmp, is_eq}
-use Rattle.std.proofs.Common.{refl, sym, ◌∙◌, ap, subst, inl, inr}
-use Rattle.std.proofs.lemmas.Map.Views.{tells_apart}
-use Rattle.std.proofs.lemmas.Option.{same_Some}
-use Rattle.std.proofs.lemmas.Result.{IfOk-weaker}
-use Rattle.broker_types.specs.Text.{Text}
-use Rattle.broker_types.specs.Identifier.{id}
-use Rattle.broker_types.specs.IdentifierPlaces.{lease_identifier}
-use Rattle.broker_types.specs.Sound.{IsIdentifier, IsLeaseId}
-use Rattle.broker_types.specs.declared.fault.Fault.{Fault}
-use Rattle.broker_types.specs.OptionLaws.{if_none_weaker}
-use Rattle.records.specs.declared.kind.Kind.{Kind}
-use Rattle.records.specs.declared.row.Row.{Row}
-use Rattle.records.specs.Kind.{RowKey}
-use Rattle.records.specs.Table.{Table, table_of}
-use Rattle.records.specs.Transaction.{Rows}
-use Rattle.soundness.specs.declared.trouble.Rule.{Rule}
+use Rattle.std.proofs.Common.{◌≡◌, ◌≢◌, ◌⊎◌, ℕ, true, false, cond, Option, Some, None, IfNone, IfSome, Result, refl, ap}
+use Rattle.broker_model.specs.Words.{nat_cmp-IsAntisymmetric, nat_cmp, is_eq, sym, ◌∙◌, subst, inl, inr, tells_apart}
+use Rattle.broker_model.specs.Words.{same_Some, IfOk-weaker, Text, id, lease_identifier, IsIdentifier, IsLeaseId, Fault}
+use Rattle.broker_model.specs.Words.{if_none_weaker, Kind, Row, RowKey, Table, table_of, Rows}
+use Rattle.soundness.specs.Words.{Rule, Trouble, Notes, Breaks, BreaksAt, HasIdentifier, IsKeyOf, Shows, HasEachRooted}
+use Rattle.soundness.specs.Words.{AddsOnly, AreNotedIdentifiers, AreNotedOrigins, AreTrue, HasOrigin, IsEntry, IsFresh}
+use Rattle.soundness.specs.Words.{IsNotNoted, Spares, StopsNoting, Places, Finds, noted}
 use Rattle.soundness.specs.declared.trouble.Rule.TheVariants as rule
-use Rattle.soundness.specs.declared.trouble.Trouble.{Trouble}
-use Rattle.soundness.specs.declared.visiting.Notes.{Notes}
-use Rattle.soundness.specs.Broken.{Breaks, BreaksAt, HasIdentifier, IsKeyOf, Shows}
-use Rattle.soundness.specs.Chains.{HasEachRooted}
-use Rattle.soundness.specs.Notes.{AddsOnly, AreNotedIdentifiers, AreNotedOrigins, AreTrue, HasOrigin, IsEntry, IsFresh}
-use Rattle.soundness.specs.Notes.{IsNotNoted, Spares, StopsNoting}
-use Rattle.soundness.specs.SoundRows.{Places}
-use Rattle.soundness.specs.Visiting.{Finds, noted}
 use Rattle.soundness.proofs.TextLemmas.{lease_id_of}
 use Rattle.soundness.proofs.TextWhole.{lease_parts}
 

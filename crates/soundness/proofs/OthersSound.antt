@@ -1,35 +1,14 @@
 -- The secrets, the responses and the identifiers of the broker that is read off sound rows are sound.
-use Rattle.std.specs.Prelude.{◌≡◌, ◌≤◌, ◌<◌, ℕ, nat_le, true, false, Some, None, option_map}
-use Rattle.std.specs.Prelude.{if◌then◌else◌}
+use Rattle.std.proofs.Common.{◌≡◌, ◌≤◌, ◌<◌, if◌then◌else◌, ℕ, nat_le, true, false, Some, None, option_map, refl, sym}
 use Rattle.std.specs.FinMap as fin
-use Rattle.std.proofs.Common.{refl, sym, ◌∙◌, ap, subst}
-use Rattle.std.proofs.Math.Nat.{le_trans}
-use Rattle.std.proofs.lemmas.Bool.{leb-true}
-use Rattle.std.proofs.lemmas.Option.{none-some, same_Some}
-use Rattle.broker_types.specs.Text.{Text}
-use Rattle.broker_types.specs.IdentifierLaws.{id-same}
-use Rattle.broker_types.specs.Limits.{greatest_version}
-use Rattle.broker_types.specs.Map.{get}
-use Rattle.broker_types.specs.MapLaws.{valued_is}
-use Rattle.broker_types.specs.Secret.{Version}
-use Rattle.broker_types.specs.Sound.{IsSoundKey, IsSoundVersion, IsCustomPair, IsSoundWaiting, SoundSecrets}
-use Rattle.broker_types.specs.Sound.{SoundWaiting}
-use Rattle.broker_types.specs.Broker.{Waiting}
-use Rattle.broker_model.specs.Forms.{forms}
+use Rattle.broker_model.specs.Words.{◌∙◌, ap, subst, le_trans, leb-true, none-some, same_Some, Text, id-same}
+use Rattle.broker_model.specs.Words.{greatest_version, get, valued_is, Version, IsSoundKey, IsSoundVersion}
+use Rattle.broker_model.specs.Words.{IsCustomPair, IsSoundWaiting, SoundSecrets, SoundWaiting, Waiting, forms}
+use Rattle.broker_model.specs.Words.{version_of_digits-padded, few_listed, each_listed, KeyEntry, RowKey, waiting_row}
+use Rattle.broker_model.specs.Words.{waiting_row-injective, version_key, version_of_digits, padded, name_lacks}
+use Rattle.broker_model.specs.Words.{line_feed, split_once, split-lacking, Table, table_of, Rows}
 use Rattle.records.specs.declared.kind.Kind.TheVariants as kind
-use Rattle.records.specs.DigitLaws.{version_of_digits-padded}
-use Rattle.records.specs.EntryMapLaws.{few_listed, each_listed}
-use Rattle.records.specs.KeyEntry.{KeyEntry}
-use Rattle.records.specs.Kind.{RowKey}
-use Rattle.records.specs.RowForms.{waiting_row}
-use Rattle.records.specs.RowLaws.{waiting_row-injective}
-use Rattle.records.specs.Rows.{version_key, version_of_digits, padded}
-use Rattle.records.specs.SecretNameLaws.{name_lacks}
-use Rattle.records.specs.Splits.{line_feed, split_once}
-use Rattle.records.specs.SplitLaws.{split-lacking}
-use Rattle.records.specs.Table.{Table, table_of}
-use Rattle.records.specs.Transaction.{Rows}
-use Rattle.soundness.specs.SoundRows.{AreSound, Places, IsHad}
+use Rattle.soundness.specs.Words.{AreSound, Places, IsHad}
 use Rattle.soundness.proofs.ReadBack as read
 use Rattle.soundness.proofs.TokenFacts.{had_identifier, same_key}
 

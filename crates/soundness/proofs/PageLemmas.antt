@@ -1,29 +1,17 @@
 -- A walk over the rows of a kind by pages.
-use Rattle.std.specs.Prelude.{◌≡◌, ◌<◌, ◌-◌, ◌&&◌, ◌++◌, [], ◌∷◌, ℕ, List, take, drop, length, slice_get, min, nat_eq}
-use Rattle.std.specs.Prelude.{Bool, true, false, cond, T, Some, None, All, Contains}
-use Rattle.std.specs.Cmp.{eq_by_cmp_equiv, nat_cmp_total}
-use Rattle.std.specs.FinMap.{get, entries, find, is_sorted, entries_sorted}
-use Rattle.std.specs.FinMap.Entries.{is_sorted-where_key}
-use Rattle.std.specs.List.{starts_with}
-use Rattle.std.specs.Ordering.{is_ge, is_le, ordering_then}
-use Rattle.std.proofs.Common.{refl, sym, ◌∙◌, ap, subst, arith}
-use Rattle.std.proofs.lemmas.Bool.{and_parts, false≢true, not-false}
-use Rattle.std.proofs.lemmas.List.{take-append-drop, take_all, length-take}
-use Rattle.std.proofs.lemmas.List.Elements.{All-contains, All-contains_itself, Contains-append_left}
-use Rattle.std.proofs.lemmas.List.Elements.{Contains-append_right}
-use Rattle.broker_types.specs.Text.{Text, text_cmp}
-use Rattle.broker_types.specs.TestLaws.{is_equal, T_true}
-use Rattle.records.specs.declared.kind.Kind.{Kind}
-use Rattle.records.specs.declared.row.Row.{Row}
-use Rattle.records.specs.EntryLaws.{Contains-filter, kept_cases, passing_whole, found_in, in_found}
-use Rattle.records.specs.Kind.{RowKey, key_cmp, kind_number, is_of_kind}
-use Rattle.records.specs.KeyLaws.{key_cmp_total, key_cmp_exact, same_kind}
-use Rattle.records.specs.PageLaws.{not_below_none, just_above, last_of, last_got, page_finds}
-use Rattle.records.specs.SplitLaws.{eqb_self}
-use Rattle.records.specs.Table.{table_of}
-use Rattle.records.specs.Transaction.{Rows, rows_under, rows_from}
-use Rattle.soundness.specs.SoundRows.{Places}
-use Rattle.soundness.specs.Visiting.{Grows, IsPassed, ArePassed}
+use Rattle.std.proofs.Common.{◌≡◌, ◌<◌, ◌-◌, ◌&&◌, ◌++◌, ◌∷◌, [], ℕ, List, take, drop, length, slice_get, min, nat_eq}
+use Rattle.broker_model.specs.Words.{Bool, true, false, cond, T, Some, None, Contains, eq_by_cmp_equiv, nat_cmp_total}
+use Rattle.broker_model.specs.Words.{get, entries, is_sorted, entries_sorted, is_sorted-where_key, starts_with, is_ge}
+use Rattle.broker_model.specs.Words.{is_le, ordering_then, refl, sym, ◌∙◌, ap, subst, arith, and_parts, false≢true}
+use Rattle.broker_model.specs.Words.{not-false, take-append-drop, take_all, length-take, All-contains}
+use Rattle.broker_model.specs.Words.{All-contains_itself, Contains-append_left, Contains-append_right, Text, text_cmp}
+use Rattle.broker_model.specs.Words.{is_equal, T_true, Kind, Row, Contains-filter, kept_cases, passing_whole, found_in}
+use Rattle.broker_model.specs.Words.{in_found, RowKey, key_cmp, kind_number, is_of_kind, key_cmp_total, key_cmp_exact}
+use Rattle.broker_model.specs.Words.{same_kind, not_below_none, just_above, last_of, last_got, page_finds, eqb_self}
+use Rattle.broker_model.specs.Words.{table_of, Rows, rows_under, rows_from}
+use Rattle.std.specs.Prelude.{All}
+use Rattle.std.specs.FinMap.{find}
+use Rattle.soundness.specs.Words.{Places, Grows, IsPassed, ArePassed}
 use Rattle.soundness.proofs.VisitLemmas.{still_passed}
 
 -- keys of one kind are in the order of their texts

@@ -1,29 +1,15 @@
 -- The order of the rows on a page: each is there once, and none is above the last.
-use Rattle.std.specs.Prelude.{◌≡◌, ◌≢◌, ◌<◌, ◌-◌, ◌++◌, ◌∷◌, [], ℕ, zero, suc, List, Contains, Bool, true}
-use Rattle.std.specs.Prelude.{false, not, cond, length, take, drop, slice_get, Option, Some, None}
-use Rattle.std.specs.declared.cmp.Ordering.{Ordering}
-use Rattle.std.specs.declared.cmp.Ordering.TheVariants.{Less, Equal, Greater}
-use Rattle.std.specs.Cmp.{tied_itself}
-use Rattle.std.specs.Cmp.Lexicographic.{nat_list_cmp_total}
-use Rattle.std.specs.FinMap.{get, find, is_sorted}
-use Rattle.std.specs.FinMap.Entries.{below_all}
-use Rattle.std.specs.Ordering.{is_ge, is_gt, is_le, is_lt, ordering_reverse}
-use Rattle.std.proofs.Common.{refl, sym, ◌∙◌, ap, subst, get_or, arith}
-use Rattle.std.proofs.lemmas.Bool.{and_parts, false≢true, not-true}
-use Rattle.std.proofs.lemmas.Cmp.{upto}
-use Rattle.std.proofs.lemmas.List.Elements.{All-contains, Contains-append_left}
-use Rattle.std.proofs.lemmas.Option.{get_or_from_slice_get, none-some, same_Some}
-use Rattle.std.proofs.lemmas.Float.{T_from_true}
-use Rattle.broker_types.specs.Text.{Text, text_cmp}
-use Rattle.broker_types.specs.TestLaws.{T_true}
-use Rattle.records.specs.declared.kind.Kind.{Kind}
-use Rattle.records.specs.declared.row.Row.{Row}
-use Rattle.records.specs.EntryLaws.{in_found, kept_cases, passing_each}
-use Rattle.records.specs.Kind.{RowKey, key_cmp}
-use Rattle.records.specs.KeyLaws.{key_cmp_total, same_kind}
-use Rattle.records.specs.PageLaws.{just_above, last_of, last_got, page_finds, first_sorted}
-use Rattle.records.specs.Transaction.{Rows, rows_under, rows_from}
-use Rattle.soundness.specs.Notes.{AreApart}
+use Rattle.std.proofs.Common.{◌≡◌, ◌≢◌, ◌<◌, ◌-◌, ◌++◌, ◌∷◌, [], ℕ, zero, suc, List, Contains, Bool, true, false, not}
+use Rattle.broker_model.specs.Words.{cond, length, take, drop, slice_get, Option, Some, None, Ordering, Less, Equal}
+use Rattle.broker_model.specs.Words.{Greater, tied_itself, nat_list_cmp_total, get, is_sorted, below_all, is_ge, is_gt}
+use Rattle.broker_model.specs.Words.{is_le, is_lt, ordering_reverse, refl, sym, ◌∙◌, ap, subst, get_or, arith}
+use Rattle.broker_model.specs.Words.{and_parts, false≢true, not-true, upto, All-contains, Contains-append_left}
+use Rattle.broker_model.specs.Words.{get_or_from_slice_get, none-some, same_Some, T_from_true, Text, text_cmp, T_true}
+use Rattle.broker_model.specs.Words.{Kind, Row, in_found, kept_cases, passing_each, RowKey, key_cmp, key_cmp_total}
+use Rattle.broker_model.specs.Words.{same_kind, just_above, last_of, last_got, page_finds, first_sorted, Rows}
+use Rattle.broker_model.specs.Words.{rows_under, rows_from}
+use Rattle.std.specs.FinMap.{find}
+use Rattle.soundness.specs.Words.{AreApart}
 use Rattle.soundness.proofs.PageLemmas.{is_from, is_under, listed, listed_sorted, one_kind, split}
 
 -- ---- entries in the order of their keys

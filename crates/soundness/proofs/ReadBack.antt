@@ -1,40 +1,19 @@
 -- The broker that is read off sound rows.
-use Rattle.std.specs.Prelude.{◌≡◌, ◌≤◌, ◌+◌, ◌++◌, ◌∷◌, [], ℕ, length, drop, nat_le, if◌then◌else◌, true, false, ⊤}
-use Rattle.std.specs.Prelude.{Option, Some, None, option_map, option_and_then}
-use Rattle.std.specs.Cmp.{nat_cmp_total}
-use Rattle.std.specs.Cmp.Lexicographic.{nat_list_cmp_total}
+use Rattle.std.proofs.Common.{◌≡◌, ◌≤◌, ◌+◌, ◌++◌, ◌∷◌, if◌then◌else◌, [], ℕ, length, drop, nat_le, true, false, Option}
+use Rattle.broker_model.specs.Words.{⊤, Some, None, option_map, option_and_then, nat_cmp_total, nat_list_cmp_total}
+use Rattle.broker_model.specs.Words.{FinMap, from_entries, nat_cmp-IsAntisymmetric, nat_cmp, refl, sym, ◌∙◌, ap, inl}
+use Rattle.broker_model.specs.Words.{inr, drop-append-add, leb-true, none-some, Text, same, greatest_version, Map, get}
+use Rattle.broker_model.specs.Words.{map_values, found_or_not, mapped, Key, Version, Token, Tokens, Lease, Broker}
+use Rattle.broker_model.specs.Words.{Waiting, Mount, Role, IsIdentifier, IsSoundMount, IsSoundPolicy, IsSoundRole}
+use Rattle.broker_model.specs.Words.{forms, Row, key_path, digits_after-padded, wide, KeyEntry, TokenEntry, RowKey}
+use Rattle.broker_model.specs.Words.{used_row, entry_row, accessor_row, cubby_row, lease_row, credential_row}
+use Rattle.broker_model.specs.Words.{key_entry_row, version_row, waiting_row, mount_row, policy_row, role_row}
+use Rattle.broker_model.specs.Words.{token_len, version_key, padded, digits_after, slash, line_feed, Table, table_of}
+use Rattle.broker_model.specs.Words.{Rows}
 use Rattle.std.specs.FinMap as fin
-use Rattle.std.specs.FinMap.{FinMap, from_entries, nat_cmp-IsAntisymmetric}
-use Rattle.std.specs.Ordering.{nat_cmp}
-use Rattle.std.proofs.Common.{refl, sym, ◌∙◌, ap, inl, inr}
-use Rattle.std.proofs.Math.Seq.{drop-append-add}
-use Rattle.std.proofs.lemmas.Bool.{leb-true}
-use Rattle.std.proofs.lemmas.Option.{none-some}
-use Rattle.broker_types.specs.Text.{Text, same}
-use Rattle.broker_types.specs.Limits.{greatest_version}
-use Rattle.broker_types.specs.Map.{Map, get, map_values}
-use Rattle.broker_types.specs.OptionLaws.{found_or_not, mapped}
-use Rattle.broker_types.specs.Secret.{Key, Version}
-use Rattle.broker_types.specs.Token.{Token, Tokens, Lease}
-use Rattle.broker_types.specs.Broker.{Broker, Waiting, Mount, Role}
-use Rattle.broker_types.specs.Sound.{IsIdentifier, IsSoundMount, IsSoundPolicy, IsSoundRole}
-use Rattle.broker_model.specs.Forms.{forms}
 use Rattle.records.specs.declared.kind.Kind.TheVariants as kind
-use Rattle.records.specs.declared.row.Row.{Row}
-use Rattle.records.specs.CubbyKeyLaws.{key_path}
-use Rattle.records.specs.DigitLaws.{digits_after-padded, wide}
-use Rattle.records.specs.KeyEntry.{KeyEntry}
-use Rattle.records.specs.TokenEntry.{TokenEntry}
-use Rattle.records.specs.Kind.{RowKey}
-use Rattle.records.specs.RowForms.{used_row, entry_row, accessor_row, cubby_row, lease_row, credential_row}
-use Rattle.records.specs.RowForms.{key_entry_row, version_row, waiting_row, mount_row, policy_row, role_row}
-use Rattle.records.specs.Rows.{token_len, version_key, padded, digits_after}
-use Rattle.records.specs.Splits.{slash, line_feed}
-use Rattle.records.specs.Table.{Table, table_of}
-use Rattle.records.specs.Transaction.{Rows}
-use Rattle.soundness.specs.RowRules.{IsTokenAt, Named, IsNamedBy, Owned, IsObjectAt, Held, IsLeaseAt, IsCredentialOf}
-use Rattle.soundness.specs.RowRules.{IsKeyAt, IsVersionAt, IsWaitingAt}
-use Rattle.soundness.specs.SoundRows.{AreSound}
+use Rattle.soundness.specs.Words.{IsTokenAt, Named, IsNamedBy, Owned, IsObjectAt, Held, IsLeaseAt, IsCredentialOf}
+use Rattle.soundness.specs.Words.{IsKeyAt, IsVersionAt, IsWaitingAt, AreSound}
 use Rattle.soundness.proofs.Gather.{gather, get-gather, records, told, holds, text_exact}
 
 module _ (rows : Rows) (s : AreSound (table_of rows)) where

@@ -1,20 +1,9 @@
 -- Rows that a reader does not read are in no format of their kind, and what tests answer.
-use Rattle.std.specs.Prelude.{◌≡◌, Bool, true, false, Option, Some, None, is_some, Result, Ok, Err, MatchResult, ⊤}
-use Rattle.std.specs.Prelude.{ℕ, ◌<◌, ◌≤◌, is_err}
-use Rattle.std.proofs.Common.{refl, sym, ◌∙◌, ap, subst, arith}
-use Rattle.std.proofs.lemmas.Bool.{false≢true}
-use Rattle.broker_types.specs.Text.{Text, same}
-use Rattle.broker_types.specs.TextLaws.{same_self}
-use Rattle.broker_types.specs.Token.{Lease}
-use Rattle.broker_types.specs.Sound.{IsShortText}
-use Rattle.broker_types.specs.declared.fault.Fault.{Fault}
-use Rattle.broker_types.specs.declared.fault.Fault.TheVariants.{Memory, Damaged}
-use Rattle.records.specs.declared.holder.Holder.{Holder}
-use Rattle.records.specs.declared.row.Row.{Row}
-use Rattle.records.specs.Ranges.{IsLeaseInRange}
-use Rattle.records.specs.RowReaders.{Reads, ReadsWithMemory}
-use Rattle.records.specs.RowForms.{accessor_row, cubby_row, lease_row, credential_row}
-use Rattle.soundness.specs.RowRules.{IsOf, Named, Owned, Held}
+use Rattle.std.proofs.Common.{◌≡◌, ◌<◌, ◌≤◌, Bool, true, false, Option, Some, None, is_some, Result, Ok, Err, ℕ, is_err}
+use Rattle.broker_model.specs.Words.{MatchResult, ⊤, refl, sym, ◌∙◌, ap, subst, arith, false≢true, Text, same}
+use Rattle.broker_model.specs.Words.{same_self, Lease, IsShortText, Fault, Memory, Damaged, Holder, Row, IsLeaseInRange}
+use Rattle.broker_model.specs.Words.{Reads, ReadsWithMemory, accessor_row, cubby_row, lease_row, credential_row}
+use Rattle.soundness.specs.Words.{IsOf, Named, Owned, Held}
 
 is_ok : {X E : Type 0} → Result X E → Bool
 is_ok (Ok x) = true

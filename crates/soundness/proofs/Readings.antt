@@ -1,10 +1,6 @@
 -- Readings of a transaction, one after another.
-use Rattle.std.specs.Prelude.{◌≡◌, false, Ok, Err}
-use Rattle.std.proofs.Common.{◌∙◌}
-use Rattle.broker_types.specs.declared.fault.Fault.{Fault}
-use Rattle.records.specs.Calls.{IsReading}
-use Rattle.records.specs.CallLaws.{goes_further, honest_before}
-use Rattle.records.specs.Transaction.{Seen, IsHonest, GoesOn}
+use Rattle.std.proofs.Common.{◌≡◌, false, Ok, Err, ◌∙◌}
+use Rattle.broker_model.specs.Words.{Fault, IsReading, goes_further, honest_before, Seen, IsHonest, GoesOn}
 
 -- two that answered
 pub read_both : {A B C : Type 0} {a b c : Seen} {F : Fault → Type 0} {x : A} {y : B} {z : C} → IsReading a b (Ok x) F

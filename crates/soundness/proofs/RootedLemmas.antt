@@ -1,31 +1,14 @@
 -- Each token whose chain of parents ends is found from those without an owner.
-use Rattle.std.specs.Prelude.{◌≡◌, ◌<◌, ◌≤◌, ◌+◌, ◌^◌, ◌&&◌, ◌⊎◌, ◌++◌, ◌∷◌, [], ℕ, zero, suc, List, length, drop, Bool}
-use Rattle.std.specs.Prelude.{true, false, cond, Some, All, Contains}
-use Rattle.std.specs.BTreeSet.{BTreeSet, contains}
-use Rattle.std.specs.Cmp.{eq_by_cmp_equiv, nat_cmp_total}
-use Rattle.std.specs.FinMap.{nat_cmp-IsAntisymmetric}
-use Rattle.std.specs.List.{list_any}
-use Rattle.std.specs.Ordering.{nat_cmp, is_eq}
-use Rattle.std.proofs.Common.{refl, sym, ◌∙◌, ap, subst, inl, inr, get_or, arith, append_assoc, below_more}
-use Rattle.std.proofs.Math.ListN.{get_or-append}
-use Rattle.std.proofs.lemmas.Bool.{false≢true}
-use Rattle.std.proofs.lemmas.List.{append-nil, get_or_default}
-use Rattle.std.proofs.lemmas.List.Elements.{All-contains, Contains-append_left, Contains-push}
-use Rattle.std.proofs.lemmas.Map.Views.{tells_apart}
-use Rattle.broker_types.specs.Text.{Text}
-use Rattle.broker_types.specs.Identifier.{id}
-use Rattle.broker_types.specs.IdentifierLaws.{id-same}
-use Rattle.broker_types.specs.Sound.{IsTokenText}
-use Rattle.broker_types.specs.TokenText.{token_text}
+use Rattle.std.proofs.Common.{◌≡◌, ◌<◌, ◌≤◌, ◌+◌, ◌^◌, ◌&&◌, ◌⊎◌, ◌++◌, ◌∷◌, [], ℕ, zero, suc, List, length, drop, Bool}
+use Rattle.broker_model.specs.Words.{true, false, cond, Some, Contains, BTreeSet, contains, eq_by_cmp_equiv}
+use Rattle.broker_model.specs.Words.{nat_cmp_total, nat_cmp-IsAntisymmetric, list_any, nat_cmp, is_eq, refl, sym, ◌∙◌}
+use Rattle.broker_model.specs.Words.{ap, subst, inl, inr, get_or, arith, append_assoc, below_more, get_or-append}
+use Rattle.broker_model.specs.Words.{false≢true, append-nil, get_or_default, All-contains, Contains-append_left}
+use Rattle.broker_model.specs.Words.{Contains-push, tells_apart, Text, id, id-same, IsTokenText, token_text, Row}
+use Rattle.broker_model.specs.Words.{passing_whole, RowKey, kind_number, eqb_self, Table, table_of, Rows, rows_owned}
+use Rattle.std.specs.Prelude.{All}
 use Rattle.records.specs.declared.kind.Kind.TheVariants as kind
-use Rattle.records.specs.declared.row.Row.{Row}
-use Rattle.records.specs.EntryLaws.{passing_whole}
-use Rattle.records.specs.Kind.{RowKey, kind_number}
-use Rattle.records.specs.SplitLaws.{eqb_self}
-use Rattle.records.specs.Table.{Table, table_of}
-use Rattle.records.specs.Transaction.{Rows, rows_owned}
-use Rattle.soundness.specs.Broken.{RootedIn}
-use Rattle.soundness.specs.Chains.{HasWordOf, HasEachRooted, AreQueued, OnlyAdds}
+use Rattle.soundness.specs.Words.{RootedIn, HasWordOf, HasEachRooted, AreQueued, OnlyAdds}
 use Rattle.soundness.proofs.ChainLemmas.{is_owned}
 use Rattle.soundness.proofs.ReadLemmas.{same_of}
 

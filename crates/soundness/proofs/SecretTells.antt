@@ -1,31 +1,14 @@
 -- The rows of secrets and of their versions are those of the broker that is read off them.
-use Rattle.std.specs.Prelude.{◌≡◌, ◌≤◌, ◌++◌, ◌∷◌, ℕ, Some, None, option_map, option_and_then}
-use Rattle.std.specs.Prelude.{if◌then◌else◌}
+use Rattle.std.proofs.Common.{◌≡◌, ◌≤◌, ◌++◌, ◌∷◌, if◌then◌else◌, ℕ, Some, None, option_map, option_and_then, sym, ◌∙◌}
 use Rattle.std.specs.FinMap as fin
-use Rattle.std.proofs.Common.{sym, ◌∙◌, ap, inl, inr}
-use Rattle.std.proofs.Math.Nat.{le_trans}
-use Rattle.std.proofs.lemmas.Bool.{le-leb}
-use Rattle.std.proofs.lemmas.Option.{none-some}
-use Rattle.broker_types.specs.Text.{Text}
-use Rattle.broker_types.specs.Limits.{greatest_version}
-use Rattle.broker_types.specs.Map.{Map, get}
-use Rattle.broker_types.specs.MapLaws.{get-map_values, valued_is}
-use Rattle.broker_types.specs.OptionLaws.{found_or_not, mapped}
-use Rattle.broker_types.specs.Secret.{Key, Version}
+use Rattle.broker_model.specs.Words.{ap, inl, inr, le_trans, le-leb, none-some, Text, greatest_version, Map, get}
+use Rattle.broker_model.specs.Words.{get-map_values, valued_is, found_or_not, mapped, Key, Version, Row}
+use Rattle.broker_model.specs.Words.{version_of_digits-padded, digits_are, listed_entries, KeyEntry, key_entry}
+use Rattle.broker_model.specs.Words.{key_entry_row, key_row, version_row, secret_rows, version_at, version_row_of}
+use Rattle.broker_model.specs.Words.{version_of_digits, version_key, padded, name_lacks, line_feed, split_once}
+use Rattle.broker_model.specs.Words.{split-lacking, lacking_split, Table, table_of, Rows}
 use Rattle.records.specs.declared.kind.Kind.TheVariants as kind
-use Rattle.records.specs.declared.row.Row.{Row}
-use Rattle.records.specs.DigitLaws.{version_of_digits-padded, digits_are}
-use Rattle.records.specs.EntryMapLaws.{listed_entries}
-use Rattle.records.specs.KeyEntry.{KeyEntry, key_entry}
-use Rattle.records.specs.RowForms.{key_entry_row, key_row, version_row}
-use Rattle.records.specs.Rows.{secret_rows, version_at, version_row_of, version_of_digits, version_key, padded}
-use Rattle.records.specs.SecretNameLaws.{name_lacks}
-use Rattle.records.specs.Splits.{line_feed, split_once}
-use Rattle.records.specs.SplitLaws.{split-lacking, lacking_split}
-use Rattle.records.specs.Table.{Table, table_of}
-use Rattle.records.specs.Transaction.{Rows}
-use Rattle.soundness.specs.RowRules.{IsKeyAt}
-use Rattle.soundness.specs.SoundRows.{AreSound}
+use Rattle.soundness.specs.Words.{IsKeyAt, AreSound}
 use Rattle.soundness.proofs.ReadBack as read
 use Rattle.soundness.proofs.TokenFacts.{mapped_alike, both_ways, same_key}
 

@@ -1,29 +1,15 @@
 -- Texts that are split, and texts without what they begin with.
-use Rattle.std.specs.Prelude.{◌≡◌, ◌<◌, ◌^◌, ◌+◌, ◌-◌, ◌++◌, ◌∷◌, ℕ, length, drop, codes, true, false, is_some, IfSome}
-use Rattle.std.specs.Prelude.{Option, Some, None, option_map, option_and_then, if◌then◌else◌}
-use Rattle.std.specs.Option.{option_map_or}
-use Rattle.std.specs.Str.{is_utf8}
-use Rattle.std.proofs.Common.{Bor, refl, sym, ◌∙◌, ap, subst, arith, append_assoc}
-use Rattle.std.proofs.Math.Seq.{drop-append-add}
-use Rattle.std.proofs.lemmas.Bool.{false≢true}
-use Rattle.std.proofs.lemmas.List.{length-append}
-use Rattle.std.proofs.lemmas.Option.{none-some}
-use Rattle.std.proofs.lemmas.Str.Pattern.{IsSplitOnceResult}
+use Rattle.std.proofs.Common.{◌≡◌, ◌<◌, ◌^◌, ◌+◌, ◌-◌, ◌++◌, ◌∷◌, if◌then◌else◌, ℕ, length, drop, codes, true, false}
+use Rattle.broker_model.specs.Words.{is_some, IfSome, Option, Some, None, option_map, option_and_then, option_map_or}
+use Rattle.broker_model.specs.Words.{is_utf8, Bor, refl, sym, ◌∙◌, ap, subst, arith, append_assoc, drop-append-add}
+use Rattle.broker_model.specs.Words.{false≢true, length-append, none-some, IsSplitOnceResult, id, id-length, is_name}
+use Rattle.broker_model.specs.Words.{is_mount_name, lease_identifier, IsIdentifier, IsLeaseId, Text, same, tree}
+use Rattle.broker_model.specs.Words.{without_floats, members_in, is_object, slash, split_once, lacking_split, cut_some}
+use Rattle.broker_model.specs.Words.{cut_none}
 use Rattle.serde_json.specs.Data.{Data, null, boolean, number, string, array, object, Members}
 use Rattle.serde_json.specs.Find.{as_object}
 use Rattle.serde_json.specs.Read.{read}
 use Rattle.serde_json.specs.Written.{compact_text}
-use Rattle.broker_types.specs.Identifier.{id}
-use Rattle.broker_types.specs.IdentifierLaws.{id-length}
-use Rattle.broker_types.specs.Name.{is_name, is_mount_name}
-use Rattle.broker_types.specs.IdentifierPlaces.{lease_identifier}
-use Rattle.broker_types.specs.Sound.{IsIdentifier, IsLeaseId}
-use Rattle.broker_types.specs.Text.{Text, same}
-use Rattle.api_json.specs.Json.{tree, without_floats, members_in}
-use Rattle.api_json.specs.KeptBodies.{is_object}
-use Rattle.records.specs.Splits.{slash, split_once}
-use Rattle.records.specs.SplitLaws.{lacking_split}
-use Rattle.mounts.specs.CutLaws.{cut_some, cut_none}
 
 -- a text is what is before the byte, the byte and what is after it
 pub cut_at : (c : ℕ) → c < 128 → (text : Text) (r : Option (Bor Text × Bor Text)) → IsSplitOnceResult c text r

@@ -1,16 +1,13 @@
 -- Texts that pass each test of names, paths and identifiers.
+use Rattle.std.proofs.Common.{◌≡◌, ◌<◌, ◌^◌, ◌-◌, ◌++◌, ◌∷◌, ◌+◌, if◌then◌else◌, [], ℕ, List, length, take, cond, Bool}
 use lib.Utf8.{encode}
-use Rattle.std.specs.Prelude.{◌≡◌, ◌<◌, ◌^◌, ◌-◌, ◌++◌, ◌∷◌, [], ℕ, List, length, take}
-use Rattle.std.specs.Prelude.{cond, Bool, true, false, codes, Option, Some, None, option_map, nat_lt}
-use Rattle.std.specs.Prelude.{nat_le, drop, ◌+◌, option_and_then, is_some, is_none, if◌then◌else◌}
-use Rattle.std.specs.Int.{from_be_bytes, w128}
-use Rattle.std.specs.List.{list_all}
-use Rattle.std.specs.Option.{option_map_or}
-use Rattle.std.specs.Str.{is_utf8, chars}
-use Rattle.std.proofs.Common.{Bor, refl, sym, ◌∙◌, ap, inl, inr, append_assoc}
-use Rattle.std.proofs.Math.Seq.{drop-append-add}
-use Rattle.std.proofs.lemmas.Bool.{and_parts, false≢true, ltb-true}
-use Rattle.std.proofs.lemmas.Option.{none-some, same_Some}
+use Rattle.broker_model.specs.Words.{true, false, codes, Option, Some, None, option_map, nat_lt, nat_le, drop}
+use Rattle.broker_model.specs.Words.{option_and_then, is_some, is_none, from_be_bytes, w128, list_all, option_map_or}
+use Rattle.broker_model.specs.Words.{is_utf8, chars, Bor, refl, sym, ◌∙◌, ap, inl, inr, append_assoc, drop-append-add}
+use Rattle.broker_model.specs.Words.{and_parts, false≢true, ltb-true, none-some, same_Some, id, is_path, is_path_byte}
+use Rattle.broker_model.specs.Words.{is_segment, without_slash, IsLeaseId, IsSecretName, found_or_not, Text, same}
+use Rattle.broker_model.specs.Words.{same_true, slash_not_last, reads_back, tree, without_floats, members_in, is_object}
+use Rattle.broker_model.specs.Words.{slash, split_once, lacks, split-lacking}
 use Rattle.uuid.specs.Text.{parsed}
 use Rattle.uuid.proofs.OrderLemmas.{from_be_bytes-to_be_bytes_16}
 use Rattle.json.specs.Json.{value}
@@ -20,19 +17,8 @@ use Rattle.serde_json.specs.Data.{Data, null, boolean, number, string, array, ob
 use Rattle.serde_json.specs.Find.{as_object}
 use Rattle.serde_json.specs.Read.{read}
 use Rattle.serde_json.specs.Written.{compact_text}
-use Rattle.broker_types.specs.Identifier.{id}
-use Rattle.broker_types.specs.Path.{is_path, is_path_byte, is_segment, segments, without_slash}
-use Rattle.broker_types.specs.Sound.{IsLeaseId, IsSecretName}
-use Rattle.broker_types.specs.OptionLaws.{found_or_not}
-use Rattle.broker_types.specs.Text.{Text, same}
-use Rattle.broker_types.specs.TextLaws.{same_true}
-use Rattle.broker_types.specs.PathLaws.{slash_not_last}
-use Rattle.broker_types.specs.IdentifierLaws.{reads_back}
-use Rattle.api_json.specs.Json.{tree, without_floats, members_in}
-use Rattle.api_json.specs.KeptBodies.{is_object}
-use Rattle.records.specs.Splits.{slash, split_once, lacks}
-use Rattle.records.specs.SplitLaws.{split-lacking}
-use Rattle.soundness.specs.Texts.{IsRoleName}
+use Rattle.broker_types.specs.Path.{segments}
+use Rattle.soundness.specs.Words.{IsRoleName}
 
 -- ---- identifiers
 

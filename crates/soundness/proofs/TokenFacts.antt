@@ -1,32 +1,14 @@
 -- What the broker that is read off sound rows knows of its tokens, leases and responses.
-use Rattle.std.specs.Prelude.{◌≡◌, ◌≢◌, length, true, false, Option, Some, None, option_map, option_and_then}
-use Rattle.std.specs.Prelude.{if◌then◌else◌}
-use Rattle.std.proofs.Common.{refl, sym, ◌∙◌, ap, inl, inr}
-use Rattle.std.proofs.lemmas.Option.{none-some, same_Some}
-use Rattle.broker_types.specs.Text.{Text, same}
-use Rattle.broker_types.specs.TextLaws.{same_true, same_self}
-use Rattle.broker_types.specs.Map.{get}
-use Rattle.broker_types.specs.MapLaws.{get-map_values, valued_is}
-use Rattle.broker_types.specs.OptionLaws.{found_or_not, mapped}
-use Rattle.broker_types.specs.Token.{Token, Lease}
-use Rattle.broker_types.specs.Broker.{Waiting}
-use Rattle.broker_types.specs.Sound.{IsIdentifier, IsTokenText}
+use Rattle.std.proofs.Common.{◌≡◌, ◌≢◌, if◌then◌else◌, length, true, false, Option, Some, None, option_map, refl, sym}
+use Rattle.broker_model.specs.Words.{option_and_then, ◌∙◌, ap, inl, inr, none-some, same_Some, Text, same, same_true}
+use Rattle.broker_model.specs.Words.{same_self, get, get-map_values, valued_is, found_or_not, mapped, Token, Lease}
+use Rattle.broker_model.specs.Words.{Waiting, IsIdentifier, IsTokenText, Row, length-token, listed_entries, RowKey}
+use Rattle.broker_model.specs.Words.{KeyEntry, IsTokenInRange, IsLeaseInRange, IsWaitingInRange, IsKeyInRange}
+use Rattle.broker_model.specs.Words.{entry_row, token_row, lease_row, waiting_row, key_entry_row, entry_row-injective}
+use Rattle.broker_model.specs.Words.{lease_row-injective, waiting_row-injective, key_entry_row-injective, token_len}
+use Rattle.broker_model.specs.Words.{Table, table_of, TokenEntry, token_entry, Rows}
 use Rattle.records.specs.declared.kind.Kind.TheVariants as kind
-use Rattle.records.specs.declared.row.Row.{Row}
-use Rattle.records.specs.CubbyKeyLaws.{length-token}
-use Rattle.records.specs.EntryMapLaws.{listed_entries}
-use Rattle.records.specs.Kind.{RowKey}
-use Rattle.records.specs.KeyEntry.{KeyEntry}
-use Rattle.records.specs.Ranges.{IsTokenInRange, IsLeaseInRange, IsWaitingInRange, IsKeyInRange}
-use Rattle.records.specs.RowForms.{entry_row, token_row, lease_row, waiting_row, key_entry_row}
-use Rattle.records.specs.RowLaws.{entry_row-injective, lease_row-injective, waiting_row-injective}
-use Rattle.records.specs.RowLaws.{key_entry_row-injective}
-use Rattle.records.specs.Rows.{token_len}
-use Rattle.records.specs.Table.{Table, table_of}
-use Rattle.records.specs.TokenEntry.{TokenEntry, token_entry}
-use Rattle.records.specs.Transaction.{Rows}
-use Rattle.soundness.specs.RowRules.{Held}
-use Rattle.soundness.specs.SoundRows.{AreSound, Places, IsHad}
+use Rattle.soundness.specs.Words.{Held, AreSound, Places, IsHad}
 use Rattle.soundness.proofs.ReadBack as read
 
 -- rows of one record where there is one, and of another

@@ -1,34 +1,18 @@
 -- The rows of tokens, and of what goes with them, are those of the broker that is read off them.
-use Rattle.std.specs.Prelude.{◌≡◌, ◌+◌, ◌++◌, ◌∷◌, length, take, drop, true, false, Option, Some, None, option_map}
-use Rattle.std.specs.Prelude.{option_and_then, if◌then◌else◌, not, is_none}
-use Rattle.std.proofs.Common.{refl, sym, ◌∙◌, ap, inl, inr}
-use Rattle.std.proofs.lemmas.Bool.{false≢true}
-use Rattle.std.proofs.lemmas.Option.{none-some, same_Some}
-use Rattle.broker_types.specs.Text.{Text, same}
-use Rattle.broker_types.specs.TextLaws.{same_true, same_self}
-use Rattle.broker_types.specs.Map.{Map, get}
-use Rattle.broker_types.specs.OptionLaws.{found_or_not, mapped}
-use Rattle.broker_types.specs.SearchLaws.{first_where_only, first_where_is, none_found, OnePasses}
-use Rattle.broker_types.specs.Token.{Token, Lease}
-use Rattle.broker_types.specs.Broker.{Waiting}
+use Rattle.std.proofs.Common.{◌≡◌, ◌+◌, ◌++◌, ◌∷◌, if◌then◌else◌, length, take, drop, true, false, Option, Some, None}
+use Rattle.broker_model.specs.Words.{option_map, option_and_then, not, is_none, refl, sym, ◌∙◌, ap, inl, inr}
+use Rattle.broker_model.specs.Words.{false≢true, none-some, same_Some, Text, same, same_true, same_self, Map, get}
+use Rattle.broker_model.specs.Words.{found_or_not, mapped, first_where_only, first_where_is, none_found, OnePasses}
+use Rattle.broker_model.specs.Words.{Token, Lease, Waiting, Row, key_has_slash, key_token, key_path, accessor_row}
+use Rattle.broker_model.specs.Words.{cubby_row, lease_row, credential_row, token_len, has_slash, object_row, has_lease}
+use Rattle.broker_model.specs.Words.{credential_is, lease_of_credential, token_rows, waiting_rows, or_else, slash}
+use Rattle.broker_model.specs.Words.{Table, table_of, Rows, key_parts, token_whole}
 use Rattle.records.specs.declared.holder.Holder.TheVariants as holder
 use Rattle.records.specs.declared.kind.Kind.TheVariants as kind
-use Rattle.records.specs.declared.row.Row.{Row}
-use Rattle.records.specs.CubbyKeyLaws.{key_has_slash, key_token, key_path}
-use Rattle.records.specs.RowForms.{accessor_row, cubby_row, lease_row, credential_row}
-use Rattle.records.specs.Rows.{token_len, has_slash, object_row, has_lease, credential_is, lease_of_credential}
-use Rattle.records.specs.Rows.{token_rows}
-use Rattle.records.specs.Rows.{waiting_rows, or_else}
-use Rattle.records.specs.Splits.{slash}
-use Rattle.records.specs.Table.{Table, table_of}
-use Rattle.records.specs.Transaction.{Rows}
-use Rattle.cubbyhole.specs.ObjectLaws.{key_parts, token_whole}
-use Rattle.soundness.specs.RowRules.{Named, Owned, Held}
-use Rattle.soundness.specs.SoundRows.{AreSound}
+use Rattle.soundness.specs.Words.{Named, Owned, Held, AreSound}
 use Rattle.soundness.proofs.ReadBack as read
 use Rattle.soundness.proofs.TokenFacts.{both_ways, token_is, token_here, token_long, same_entry, same_waiting}
-use Rattle.soundness.proofs.TokenFacts.{same_held}
-use Rattle.soundness.proofs.TokenFacts.{held_by, holder_has, entry_row_at}
+use Rattle.soundness.proofs.TokenFacts.{same_held, held_by, holder_has, entry_row_at}
 use Rattle.soundness.proofs.BrokenLemmas.{not_both}
 
 module _ (rows : Rows) (s : AreSound (table_of rows)) where

@@ -1,30 +1,13 @@
 -- The tokens of the broker that is read off sound rows are sound.
-use Rattle.std.specs.Prelude.{◌≡◌, ◌≢◌, ◌+◌, ◌++◌, ◌∷◌, ◌⊎◌, ℕ, zero, suc, [], length, drop, true, is_none, unwrap_or}
-use Rattle.std.specs.Prelude.{Option, Some, None}
-use Rattle.std.specs.Option.{option_map_or}
-use Rattle.std.proofs.Common.{refl, sym, ◌∙◌, ap, subst, inl, inr, lt_of_le_of_lt}
-use Rattle.std.proofs.lemmas.Option.{none-some}
-use Rattle.broker_types.specs.Text.{Text}
-use Rattle.broker_types.specs.Lineage.{ends_within, ParentsExist, ChainsEnd}
-use Rattle.broker_types.specs.LineageLaws.{ends_in_time}
-use Rattle.broker_types.specs.Map.{Map, get}
-use Rattle.broker_types.specs.OptionLaws.{found_or_not, mapped}
-use Rattle.broker_types.specs.Sound.{IsIdentifier, IsShortText, IsPathText, IsObjectText, IsSoundToken, IsSoundLease}
-use Rattle.broker_types.specs.Sound.{SoundTokens, Unspent}
-use Rattle.broker_types.specs.Token.{Token, Lease}
-use Rattle.broker_model.specs.Forms.{forms}
+use Rattle.std.proofs.Common.{◌≡◌, ◌≢◌, ◌+◌, ◌++◌, ◌∷◌, ◌⊎◌, ℕ, zero, suc, [], length, drop, true, is_none, unwrap_or}
+use Rattle.broker_model.specs.Words.{Option, Some, None, option_map_or, refl, sym, ◌∙◌, ap, subst, inl, inr}
+use Rattle.broker_model.specs.Words.{lt_of_le_of_lt, none-some, Text, ends_within, ParentsExist, ChainsEnd}
+use Rattle.broker_model.specs.Words.{ends_in_time, Map, get, found_or_not, mapped, IsIdentifier, IsShortText}
+use Rattle.broker_model.specs.Words.{IsPathText, IsObjectText, IsSoundToken, IsSoundLease, SoundTokens, Unspent, Token}
+use Rattle.broker_model.specs.Words.{Lease, forms, Row, key_path, few_listed, each_listed, entry_row, token_len, slash}
+use Rattle.broker_model.specs.Words.{Table, table_of, TokenEntry, Rows}
 use Rattle.records.specs.declared.kind.Kind.TheVariants as kind
-use Rattle.records.specs.declared.row.Row.{Row}
-use Rattle.records.specs.CubbyKeyLaws.{key_path}
-use Rattle.records.specs.EntryMapLaws.{few_listed, each_listed}
-use Rattle.records.specs.RowForms.{entry_row}
-use Rattle.records.specs.Rows.{token_len}
-use Rattle.records.specs.Splits.{slash}
-use Rattle.records.specs.Table.{Table, table_of}
-use Rattle.records.specs.TokenEntry.{TokenEntry}
-use Rattle.records.specs.Transaction.{Rows}
-use Rattle.soundness.specs.RowRules.{Owned}
-use Rattle.soundness.specs.SoundRows.{AreSound, EndsIn}
+use Rattle.soundness.specs.Words.{Owned, AreSound, EndsIn}
 use Rattle.soundness.proofs.ReadBack as read
 use Rattle.soundness.proofs.TokenFacts.{had_identifier, token_name, token_long, token_is, token_here, entry_row_at}
 use Rattle.soundness.proofs.TokenFacts.{held_by}

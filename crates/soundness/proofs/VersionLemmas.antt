@@ -1,14 +1,8 @@
 -- Keys of versions, as code cuts them.
-use Rattle.std.specs.Prelude.{◌≡◌, ℕ, Option, Some, None, option_map, true}
-use Rattle.std.proofs.Common.{Bor, sym, ◌∙◌, ap, arith}
-use Rattle.std.proofs.lemmas.Option.{none-some, same_Some}
-use Rattle.std.proofs.lemmas.Str.Pattern.{IsSplitOnceResult}
-use Rattle.broker_types.specs.Text.{Text}
-use Rattle.records.specs.Rows.{padded}
-use Rattle.records.specs.Splits.{line_feed, split_once, lacks}
-use Rattle.records.specs.SplitLaws.{split-lacking, lacking_split}
-use Rattle.mounts.specs.CutLaws.{cut_some}
-use Rattle.soundness.specs.Broken.{IsVersionKey}
+use Rattle.std.proofs.Common.{◌≡◌, ℕ, Option, Some, None, option_map, true, Bor, sym, ◌∙◌, ap, arith}
+use Rattle.broker_model.specs.Words.{none-some, same_Some, IsSplitOnceResult, Text, padded, line_feed, split_once}
+use Rattle.broker_model.specs.Words.{lacks, split-lacking, lacking_split, cut_some}
+use Rattle.soundness.specs.Words.{IsVersionKey}
 use Rattle.soundness.proofs.TextLemmas.{cut_exact}
 
 abbrev halves : Bor Text × Bor Text → Text × Text

@@ -1,14 +1,8 @@
 -- What a walk over rows knows of the rows that it has passed.
-use Rattle.std.specs.Prelude.{◌≢◌, [], List, None, All}
-use Rattle.std.proofs.lemmas.List.Elements.{All-weaker}
-use Rattle.broker_types.specs.Text.{Text}
-use Rattle.records.specs.declared.kind.Kind.{Kind}
+use Rattle.std.proofs.Common.{◌≢◌, [], List, None, All}
+use Rattle.broker_model.specs.Words.{All-weaker, Text, Kind, Row, RowKey, Table}
 use Rattle.records.specs.declared.kind.Kind.TheVariants as kind
-use Rattle.records.specs.declared.row.Row.{Row}
-use Rattle.records.specs.Kind.{RowKey}
-use Rattle.records.specs.Table.{Table}
-use Rattle.soundness.specs.SoundRows.{Places, IsHad, HasItsIdentifier, AreSound}
-use Rattle.soundness.specs.Visiting.{Grows, HasItsOrigin, IsPassed, ArePassed}
+use Rattle.soundness.specs.Words.{Places, IsHad, HasItsIdentifier, AreSound, Grows, HasItsOrigin, IsPassed, ArePassed}
 
 -- ---- more rows that are noted
 

@@ -1,22 +1,10 @@
 -- Steps of a walk over rows, and of its notes.
-use Rattle.std.specs.Prelude.{◌≡◌, ◌≢◌, ◌<◌, ◌+◌, ◌∷◌, [], ℕ, List, All, take, length, Option, None, IfNone}
-use Rattle.std.specs.BTreeSet.{BTreeSet}
-use Rattle.std.proofs.Common.{refl, sym, ◌∙◌, subst, get_or, lit<}
-use Rattle.std.proofs.lemmas.List.Elements.{All-more, All-weaker}
-use Rattle.broker_types.specs.Text.{Text}
-use Rattle.broker_types.specs.OptionLaws.{of_none, if_none_weaker}
-use Rattle.records.specs.declared.kind.Kind.{Kind}
+use Rattle.std.proofs.Common.{◌≡◌, ◌≢◌, ◌<◌, ◌+◌, ◌∷◌, [], ℕ, List, All, take, length, Option, None, IfNone, refl, sym}
+use Rattle.broker_model.specs.Words.{BTreeSet, ◌∙◌, subst, get_or, lit<, All-more, All-weaker, Text, of_none}
+use Rattle.broker_model.specs.Words.{if_none_weaker, Kind, Row, RowKey, Table, table_of, Rows}
 use Rattle.records.specs.declared.kind.Kind.TheVariants as kind
-use Rattle.records.specs.declared.row.Row.{Row}
-use Rattle.records.specs.Kind.{RowKey}
-use Rattle.records.specs.Table.{Table, table_of}
-use Rattle.records.specs.Transaction.{Rows}
-use Rattle.soundness.specs.declared.visiting.Notes.{Notes}
-use Rattle.soundness.specs.Laws.{AreOfABroker, SoundRowsAreOfABroker}
-use Rattle.soundness.specs.Notes.{GoesOnFrom}
-use Rattle.soundness.specs.RowRules.{IsSoundAt}
-use Rattle.soundness.specs.SoundRows.{HasItsIdentifier}
-use Rattle.soundness.specs.Visiting.{EachEnds, Grows, HasItsEnd, HasItsOrigin, IsPassed, ArePassed, noted}
+use Rattle.soundness.specs.Words.{Notes, AreOfABroker, SoundRowsAreOfABroker, GoesOnFrom, IsSoundAt, HasItsIdentifier}
+use Rattle.soundness.specs.Words.{EachEnds, Grows, HasItsEnd, HasItsOrigin, IsPassed, ArePassed, noted}
 use Rattle.soundness.proofs.PageLemmas.{ArePassedBelow, below_still}
 use Rattle.soundness.proofs.VisitLemmas.{grows_further, all_still_passed, kind_still_passed, passed_sound}
 

@@ -1,21 +1,10 @@
 -- Sound rows are those of the broker that is read off them, and it is sound.
-use Rattle.std.specs.Prelude.{◌≡◌, [], true, false, if◌then◌else◌, Some, None}
-use Rattle.std.proofs.Common.{refl, sym, ◌∙◌, ap, inl, inr}
-use Rattle.std.proofs.lemmas.Bool.{true≢false}
-use Rattle.broker_types.specs.Text.{Text, same}
-use Rattle.broker_types.specs.TextLaws.{same_true, same_self}
-use Rattle.broker_types.specs.OptionLaws.{found_or_not}
-use Rattle.broker_types.specs.Sound.{Sound}
-use Rattle.broker_types.specs.Broker.{Broker}
-use Rattle.broker_model.specs.Forms.{forms}
-use Rattle.broker_rows.specs.Representing.{Represents}
-use Rattle.records.specs.declared.kind.Kind.{Kind}
+use Rattle.std.proofs.Common.{◌≡◌, if◌then◌else◌, [], true, false, Some, None, refl, sym, ◌∙◌, ap, inl, inr, true≢false}
+use Rattle.broker_model.specs.Words.{Text, same, same_true, same_self, found_or_not, Sound, Broker, forms, Kind}
+use Rattle.broker_model.specs.Words.{clock_row, rows_of, Table, table_of, Rows}
+use Rattle.broker_rows.specs.Words.{Represents}
 use Rattle.records.specs.declared.kind.Kind.TheVariants as kind
-use Rattle.records.specs.RowForms.{clock_row}
-use Rattle.records.specs.Rows.{rows_of}
-use Rattle.records.specs.Table.{Table, table_of}
-use Rattle.records.specs.Transaction.{Rows}
-use Rattle.soundness.specs.SoundRows.{AreSound}
+use Rattle.soundness.specs.Words.{AreSound}
 use Rattle.soundness.proofs.ReadBack as read
 use Rattle.soundness.proofs.TokenFacts.{token_told}
 use Rattle.soundness.proofs.TokenTells.{accessor_told, object_told, lease_told, credential_told}

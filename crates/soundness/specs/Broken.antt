@@ -1,32 +1,15 @@
 -- Which row breaks which rule: no row of a sound broker does (this project's definition).
-use Rattle.std.specs.Prelude.{◌≡◌, ◌≢◌, ◌<◌, ◌≤◌, ◌⊎◌, ◌++◌, ◌∷◌, [], ℕ, All, true, Some, None, codes, ⊤}
-use Rattle.std.specs.Prelude.{zero, suc}
-use Rattle.std.specs.Prelude.{Option, Result, IfOk, IfSome}
-use Rattle.broker_types.specs.Text.{Text}
-use Rattle.broker_types.specs.TokenText.{token_text}
-use Rattle.broker_types.specs.Identifier.{id}
-use Rattle.broker_types.specs.Name.{is_name, is_mount_name}
-use Rattle.broker_types.specs.IdentifierPlaces.{lease_identifier}
-use Rattle.broker_types.specs.Broker.{Waiting}
-use Rattle.broker_types.specs.Sound.{IsMoment, IsIdentifier, IsTokenText, IsShortText, IsPathText, IsLeaseId}
-use Rattle.broker_types.specs.Sound.{IsSecretName}
-use Rattle.broker_types.specs.declared.fault.Fault.{Fault}
-use Rattle.broker_model.specs.Forms.{forms}
+use Rattle.std.specs.Prelude.{◌≡◌, ◌≢◌, ◌<◌, ◌≤◌, ◌⊎◌, ◌++◌, ◌∷◌, [], ℕ, All, true, Some, None, codes, ⊤, zero, suc}
+use Rattle.broker_model.specs.Words.{Option, Result, IfOk, IfSome, Text, token_text, id, is_name, is_mount_name}
+use Rattle.broker_model.specs.Words.{lease_identifier, Waiting, IsMoment, IsIdentifier, IsTokenText, IsShortText}
+use Rattle.broker_model.specs.Words.{IsPathText, IsLeaseId, IsSecretName, Fault, forms, Kind, Row, RowKey, KeyEntry}
+use Rattle.broker_model.specs.Words.{IsTokenInRange, IsLeaseInRange, IsKeyInRange, IsOldKey, IsVersionInRange}
+use Rattle.broker_model.specs.Words.{IsWaitingInRange, IsMountInRange, IsRoleInRange, IsWide, IsSomeIn, clock_row}
+use Rattle.broker_model.specs.Words.{used_row, entry_row, accessor_row, cubby_row, lease_row, credential_row}
+use Rattle.broker_model.specs.Words.{key_entry_row, old_key_row, version_row, waiting_row, mount_row, policy_row}
+use Rattle.broker_model.specs.Words.{role_row, version_key, slash, line_feed, lacks, Table}
 use Rattle.records.specs.declared.holder.Holder.TheVariants as holder
-use Rattle.records.specs.declared.kind.Kind.{Kind}
 use Rattle.records.specs.declared.kind.Kind.TheVariants as kind
-use Rattle.records.specs.declared.row.Row.{Row}
-use Rattle.records.specs.Kind.{RowKey}
-use Rattle.records.specs.KeyEntry.{KeyEntry}
-use Rattle.records.specs.Ranges.{IsTokenInRange, IsLeaseInRange, IsKeyInRange, IsOldKey, IsVersionInRange}
-use Rattle.records.specs.Ranges.{IsWaitingInRange, IsMountInRange, IsRoleInRange}
-use Rattle.records.specs.RowReaders.{IsWide, IsSomeIn}
-use Rattle.records.specs.RowForms.{clock_row, used_row, entry_row, accessor_row, cubby_row, lease_row, credential_row}
-use Rattle.records.specs.RowForms.{key_entry_row, old_key_row, version_row, waiting_row, mount_row, policy_row}
-use Rattle.records.specs.RowForms.{role_row}
-use Rattle.records.specs.Rows.{version_key}
-use Rattle.records.specs.Splits.{slash, line_feed, lacks}
-use Rattle.records.specs.Table.{Table}
 use Rattle.soundness.specs.declared.trouble.Rule.{Rule}
 use Rattle.soundness.specs.declared.trouble.Rule.TheVariants as rule
 use Rattle.soundness.specs.declared.trouble.Trouble.{Trouble}

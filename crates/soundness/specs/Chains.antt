@@ -1,12 +1,7 @@
 -- Tokens whose chains of parents end, as a walk from those without an owner finds them (this project's definition).
 use Rattle.std.specs.Prelude.{◌≡◌, ◌<◌, ◌^◌, ◌++◌, ℕ, List, Contains, true}
 use Rattle.std.specs.BTreeSet as set
-use Rattle.std.specs.BTreeSet.{BTreeSet}
-use Rattle.std.specs.Ordering.{nat_cmp}
-use Rattle.broker_types.specs.Text.{Text}
-use Rattle.broker_types.specs.TokenText.{token_text}
-use Rattle.broker_types.specs.Identifier.{id}
-use Rattle.records.specs.Table.{Table}
+use Rattle.broker_model.specs.Words.{BTreeSet, nat_cmp, Text, token_text, id, Table}
 use Rattle.soundness.specs.Broken.{IsRooted}
 
 -- the word of the token is in the set

@@ -1,9 +1,6 @@
 -- Laws of sound rows, as statements (this project's definition).
-use Rattle.std.specs.Prelude.{None}
-use Rattle.broker_types.specs.Broker.{Broker}
-use Rattle.broker_rows.specs.Representing.{Represents}
-use Rattle.records.specs.Table.{table_of}
-use Rattle.records.specs.Transaction.{Rows}
+use Rattle.broker_model.specs.Words.{None, Broker, table_of, Rows}
+use Rattle.broker_rows.specs.Words.{Represents}
 use Rattle.soundness.specs.declared.trouble.Trouble.{Trouble}
 use Rattle.soundness.specs.Broken.{Breaks}
 use Rattle.soundness.specs.SoundRows.{AreSound}

@@ -6,4 +6,5 @@ pub mod RowRules
 pub mod SoundRows
 pub mod Texts
 pub mod Visiting
+pub mod Words
 pub use Rattle.records.specs.Transaction

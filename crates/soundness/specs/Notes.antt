@@ -1,15 +1,7 @@
 -- How the notes of a walk go on, and what they hold (this project's definition).
 use Rattle.std.specs.Prelude.{◌≡◌, ◌≢◌, ◌<◌, ◌⊎◌, ℕ, List, All, length, slice_index_or, Some, None}
-use Rattle.broker_types.specs.Text.{Text}
-use Rattle.broker_types.specs.Identifier.{id}
-use Rattle.broker_types.specs.Broker.{Waiting}
-use Rattle.records.specs.declared.kind.Kind.{Kind}
+use Rattle.broker_model.specs.Words.{Text, id, Waiting, Kind, Row, RowKey, IsWaitingInRange, waiting_row, Table}
 use Rattle.records.specs.declared.kind.Kind.TheVariants as kind
-use Rattle.records.specs.declared.row.Row.{Row}
-use Rattle.records.specs.Kind.{RowKey}
-use Rattle.records.specs.Ranges.{IsWaitingInRange}
-use Rattle.records.specs.RowForms.{waiting_row}
-use Rattle.records.specs.Table.{Table}
 use Rattle.soundness.specs.declared.trouble.Rule.{Rule}
 use Rattle.soundness.specs.declared.trouble.Rule.TheVariants as rule
 use Rattle.soundness.specs.declared.visiting.Notes.{Notes}

@@ -1,29 +1,15 @@
 -- What the row at a kind and key has to be, and which other rows have to be there, so that the rows are those of a
 -- sound broker (this project's definition).
 use Rattle.std.specs.Prelude.{◌≡◌, ◌≢◌, ◌<◌, ◌≤◌, ◌++◌, ◌∷◌, [], ℕ, length, All, true, Some, None, ⊤}
-use Rattle.broker_types.specs.Text.{Text}
-use Rattle.broker_types.specs.Limits.{most_custom_metadata}
-use Rattle.broker_types.specs.Name.{is_name}
-use Rattle.broker_types.specs.Secret.{Version}
-use Rattle.broker_types.specs.Token.{Lease}
-use Rattle.broker_types.specs.Broker.{Waiting}
-use Rattle.broker_types.specs.Sound.{IsMoment, IsIdentifier, IsLeaseId, IsSecretName, IsPathText, IsObjectText}
-use Rattle.broker_types.specs.Sound.{IsCustomPair, IsSoundMount, IsSoundPolicy, IsSoundRole}
-use Rattle.broker_model.specs.Forms.{forms}
-use Rattle.records.specs.declared.holder.Holder.{Holder}
+use Rattle.broker_model.specs.Words.{Text, most_custom_metadata, is_name, Version, Lease, Waiting, IsMoment}
+use Rattle.broker_model.specs.Words.{IsIdentifier, IsLeaseId, IsSecretName, IsPathText, IsObjectText, IsCustomPair}
+use Rattle.broker_model.specs.Words.{IsSoundMount, IsSoundPolicy, IsSoundRole, forms, Holder, Kind, Row, KeyEntry}
+use Rattle.broker_model.specs.Words.{TokenEntry, IsTokenInRange, IsLeaseInRange, IsKeyInRange, IsVersionInRange}
+use Rattle.broker_model.specs.Words.{IsWaitingInRange, IsSomeIn, clock_row, used_row, entry_row, accessor_row}
+use Rattle.broker_model.specs.Words.{cubby_row, lease_row, credential_row, key_entry_row, version_row, waiting_row}
+use Rattle.broker_model.specs.Words.{mount_row, policy_row, role_row, version_key, slash, Table}
 use Rattle.records.specs.declared.holder.Holder.TheVariants as holder
-use Rattle.records.specs.declared.kind.Kind.{Kind}
 use Rattle.records.specs.declared.kind.Kind.TheVariants as kind
-use Rattle.records.specs.declared.row.Row.{Row}
-use Rattle.records.specs.KeyEntry.{KeyEntry}
-use Rattle.records.specs.TokenEntry.{TokenEntry}
-use Rattle.records.specs.Ranges.{IsTokenInRange, IsLeaseInRange, IsKeyInRange, IsVersionInRange, IsWaitingInRange}
-use Rattle.records.specs.RowReaders.{IsSomeIn}
-use Rattle.records.specs.RowForms.{clock_row, used_row, entry_row, accessor_row, cubby_row, lease_row, credential_row}
-use Rattle.records.specs.RowForms.{key_entry_row, version_row, waiting_row, mount_row, policy_row, role_row}
-use Rattle.records.specs.Rows.{version_key}
-use Rattle.records.specs.Splits.{slash}
-use Rattle.records.specs.Table.{Table}
 
 -- the row is that of a record of which P holds
 abbrev pub IsOf : {X : Type 0} → (X → Row) → (X → Type 0) → Row → Type 0

@@ -1,17 +1,9 @@
 -- Rows that are those of a sound broker, by rules for single rows, and for rows that share an identifier or a chain of
 -- parents (this project's definition).
 use Rattle.std.specs.Prelude.{◌≡◌, ◌≢◌, ◌<◌, ◌^◌, ◌⊎◌, ℕ, zero, suc, [], Option, Some, None, ⊤}
-use Rattle.broker_types.specs.Text.{Text}
-use Rattle.broker_types.specs.TokenText.{token_text}
-use Rattle.broker_types.specs.Identifier.{id}
-use Rattle.broker_types.specs.IdentifierPlaces.{lease_identifier}
-use Rattle.records.specs.declared.kind.Kind.{Kind}
+use Rattle.broker_model.specs.Words.{Text, token_text, id, lease_identifier, Kind, Row, RowKey, IsWaitingInRange}
+use Rattle.broker_model.specs.Words.{waiting_row, Table}
 use Rattle.records.specs.declared.kind.Kind.TheVariants as kind
-use Rattle.records.specs.declared.row.Row.{Row}
-use Rattle.records.specs.Kind.{RowKey}
-use Rattle.records.specs.Ranges.{IsWaitingInRange}
-use Rattle.records.specs.RowForms.{waiting_row}
-use Rattle.records.specs.Table.{Table}
 use Rattle.soundness.specs.RowRules.{IsOf, IsSoundAt}
 
 -- ---- identifiers

@@ -1,9 +1,7 @@
 -- Names in keys of rows, and custom metadata, as code tests them (this project's definition).
 use Rattle.std.specs.Prelude.{◌≡◌, ◌++◌, ◌&&◌, nat_le, nat_lt, codes, length, List, Bool, true}
-use Rattle.std.specs.List.{list_all}
-use Rattle.broker_types.specs.Limits.{most_custom_metadata, longest_custom_name, longest_custom_value}
-use Rattle.broker_types.specs.Name.{is_name, is_mount_name}
-use Rattle.broker_types.specs.Text.{Text}
+use Rattle.broker_model.specs.Words.{list_all, most_custom_metadata, longest_custom_name, longest_custom_value, is_name}
+use Rattle.broker_model.specs.Words.{is_mount_name, Text}
 
 -- a mount, a slash and the name of a role
 pub record IsRoleName (q : Text) : Type 0 where

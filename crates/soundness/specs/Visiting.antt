@@ -1,22 +1,10 @@
 -- What a walk over rows knows of those that it has passed (this project's definition).
 use Rattle.std.specs.Prelude.{◌≡◌, ◌⊎◌, ℕ, [], true, ⊤, Option, Some, Result, IfOk, IfNone}
 use Rattle.std.specs.BTreeMap as tree
-use Rattle.std.specs.BTreeMap.{BTreeMap}
+use Rattle.broker_model.specs.Words.{BTreeMap, BTreeSet, nat_cmp, Text, token_text, id, Waiting, Fault, Kind, Row}
+use Rattle.broker_model.specs.Words.{RowKey, IsWaitingInRange, waiting_row, Table}
 use Rattle.std.specs.BTreeSet as set
-use Rattle.std.specs.BTreeSet.{BTreeSet}
-use Rattle.std.specs.Ordering.{nat_cmp}
-use Rattle.broker_types.specs.Text.{Text}
-use Rattle.broker_types.specs.TokenText.{token_text}
-use Rattle.broker_types.specs.Identifier.{id}
-use Rattle.broker_types.specs.Broker.{Waiting}
-use Rattle.broker_types.specs.declared.fault.Fault.{Fault}
-use Rattle.records.specs.declared.kind.Kind.{Kind}
 use Rattle.records.specs.declared.kind.Kind.TheVariants as kind
-use Rattle.records.specs.declared.row.Row.{Row}
-use Rattle.records.specs.Kind.{RowKey}
-use Rattle.records.specs.Ranges.{IsWaitingInRange}
-use Rattle.records.specs.RowForms.{waiting_row}
-use Rattle.records.specs.Table.{Table}
 use Rattle.soundness.specs.RowRules.{IsOf, IsSoundAt}
 use Rattle.soundness.specs.SoundRows.{Places, IsHad, HasItsIdentifier, Ends}
 

@@ -1,27 +1,11 @@
 -- From rows that a change of policies left to the broker that they represent.
-use Rattle.std.specs.Prelude.{◌≡◌, Option, Result, Ok, Err}
-use Rattle.std.proofs.Common.{refl}
-use Rattle.broker_types.specs.Broker.{Broker}
-use Rattle.broker_types.specs.Map.{Map}
-use Rattle.broker_types.specs.Operation.{nothing, Done, plainly}
-use Rattle.broker_types.specs.Refuse.{◌>>=◌}
-use Rattle.broker_types.specs.RequestError.{EndsOk, EndsErr}
-use Rattle.broker_types.specs.Sound.{Sound}
-use Rattle.broker_types.specs.Text.{Text}
-use Rattle.broker_types.specs.declared.refusal.Refusal.{Refusal}
-use Rattle.broker_types.specs.declared.request_error.RequestError.{RequestError}
-use Rattle.broker_types.specs.declared.request_error.RequestError.TheVariants.{Refused, Fault}
-use Rattle.records.specs.PartLaws.{joined_rows, rows_of-other_policies}
-use Rattle.records.specs.Parts.{KeepsOthers, of_policies}
-use Rattle.records.specs.Table.{table_of}
-use Rattle.records.specs.Transaction.{Rows}
-use Rattle.policies.specs.PolicyRows.{ArePolicies}
-use Rattle.policies.specs.TellLaws.{told_policies}
-use Rattle.broker_model.specs.Forms.{forms}
-use Rattle.broker_rows.specs.Representing.{Represents}
+use Rattle.std.proofs.Common.{◌≡◌, Option, Result, Ok, Err, refl}
+use Rattle.broker_model.specs.Words.{Broker, Map, nothing, Done, plainly, ◌>>=◌, EndsOk, EndsErr, Sound, Text, Refusal}
+use Rattle.broker_model.specs.Words.{RequestError, Refused, joined_rows, rows_of-other_policies, KeepsOthers}
+use Rattle.broker_model.specs.Words.{of_policies, table_of, Rows, ArePolicies, told_policies, forms}
+use Rattle.broker_types.specs.declared.request_error.RequestError.TheVariants.{Fault}
+use Rattle.broker_rows.specs.Words.{Represents, ActsAs, still_represented}
 use Rattle.broker_rows.specs.declared.answered.Answered.TheVariants.{Nothing}
-use Rattle.broker_rows.specs.Operating.{ActsAs}
-use Rattle.broker_rows.specs.RepresentingLaws.{still_represented}
 
 module _ (b : Broker) (who : Option Text) (old new : Rows) (st : Represents who old b) where
   represents-policies : (next : Map Text) → Sound forms who (record b { policies = next })

@@ -1,38 +1,14 @@
 -- Leases: from what the rows tell to what the commands answer, and to the brokers that are left.
-use Rattle.std.specs.Prelude.{◌≡◌, ◌-◌, ℕ, false, Option, None, Result, Ok, Err, ⊤}
-use Rattle.std.proofs.Common.{refl, sym, ◌∙◌, ap, subst}
-use Rattle.std.proofs.lemmas.Bool.{true≢false}
-use Rattle.broker_types.specs.Broker.{Broker}
-use Rattle.broker_types.specs.Map.{change}
-use Rattle.broker_types.specs.Names.{Names}
-use Rattle.broker_types.specs.Operation.{nothing, reply, plainly, Done}
-use Rattle.broker_types.specs.Refuse.{◌>>=◌}
-use Rattle.broker_types.specs.RequestError.{EndsOk, EndsErr}
-use Rattle.broker_types.specs.Sound.{Sound}
-use Rattle.broker_types.specs.Text.{Text}
-use Rattle.broker_types.specs.Token.{Lease}
-use Rattle.broker_types.specs.declared.refusal.Refusal.{Refusal}
-use Rattle.broker_types.specs.declared.reply.Reply.{Reply}
-use Rattle.broker_types.specs.declared.request_error.RequestError.{RequestError}
-use Rattle.broker_types.specs.declared.request_error.RequestError.TheVariants.{Refused, Fault}
-use Rattle.records.specs.Calls.{OnAnswer}
-use Rattle.records.specs.PartLaws.{AgreeOutside}
-use Rattle.records.specs.Parts.{Tells, KeepsOthers, of_leases}
-use Rattle.records.specs.Table.{Table, table_of}
-use Rattle.records.specs.Transaction.{Rows}
-use Rattle.leases.specs.StaysSoundLaws.{renew_sound}
-use Rattle.leases.specs.LeaseRows.{KeepsOtherLeases}
+use Rattle.std.proofs.Common.{◌≡◌, ◌-◌, ℕ, false, Option, None, Result, Ok, Err, refl, sym, ◌∙◌, ap, subst, true≢false}
+use Rattle.broker_model.specs.Words.{⊤, Broker, change, Names, nothing, reply, plainly, Done, ◌>>=◌, EndsOk, EndsErr}
+use Rattle.broker_model.specs.Words.{Sound, Text, Lease, Refusal, Reply, RequestError, Refused, OnAnswer, AgreeOutside}
+use Rattle.broker_model.specs.Words.{Tells, KeepsOthers, of_leases, Table, table_of, Rows, renew_sound}
+use Rattle.broker_model.specs.Words.{KeepsOtherLeases, Times, times_of, Renewed, renewed, renewed_end, with_renewed}
+use Rattle.broker_model.specs.Words.{shows_in_leases, lease_object, plain_reply, lease_reply, forms}
+use Rattle.broker_types.specs.declared.request_error.RequestError.TheVariants.{Fault}
 use Rattle.leases.specs.Leases as leases
-use Rattle.leases.specs.Leases.{Times, times_of, Renewed, renewed, renewed_end, with_renewed}
-use Rattle.leases.specs.SoundLaws.{shows_in_leases}
-use Rattle.api_json.specs.Objects.{lease_object}
-use Rattle.api_json.specs.Reply.{plain_reply, lease_reply}
-use Rattle.broker_model.specs.Forms.{forms}
 use Rattle.broker_model.specs.parts.Leases as part
-use Rattle.broker_rows.specs.Done.{answered_of}
-use Rattle.broker_rows.specs.Operating.{ActsAs}
-use Rattle.broker_rows.specs.Representing.{Represents}
-use Rattle.broker_rows.specs.RepresentingLaws.{represents_next, still_represented}
+use Rattle.broker_rows.specs.Words.{answered_of, ActsAs, Represents, represents_next, still_represented}
 use Rattle.broker_rows.specs.declared.answered.Answered as Code
 use Rattle.broker_rows.specs.declared.answered.Answered.TheVariants.{Nothing, Given}
 

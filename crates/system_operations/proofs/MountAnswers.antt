@@ -1,41 +1,16 @@
 -- From rows that changes of mounts left to the brokers that they represent.
-use Rattle.std.specs.Prelude.{◌≡◌, Bool, true, false, cond, if◌then◌else◌, Option, Some, None, is_some}
-use Rattle.std.specs.Prelude.{Result, Ok, Err, ⊤}
-use Rattle.std.proofs.Common.{refl, sym, ◌∙◌, ap, subst}
-use Rattle.std.proofs.lemmas.Bool.{false≢true, true≢false}
-use Rattle.broker_types.specs.Broker.{Broker, Mount}
-use Rattle.broker_types.specs.Map.{Map, get, without}
-use Rattle.broker_types.specs.MapLaws.{get-without}
-use Rattle.broker_types.specs.Name.{is_mount_name}
-use Rattle.broker_types.specs.Operation.{nothing, Done, plainly}
-use Rattle.broker_types.specs.Refuse.{◌>>=◌}
-use Rattle.broker_types.specs.RequestError.{EndsOk, EndsErr}
-use Rattle.broker_types.specs.Sound.{Sound}
-use Rattle.broker_types.specs.Text.{Text, same}
-use Rattle.broker_types.specs.TextLaws.{same_true}
-use Rattle.broker_types.specs.declared.refusal.Refusal.{Refusal}
-use Rattle.broker_types.specs.declared.request_error.RequestError.{RequestError}
-use Rattle.broker_types.specs.declared.request_error.RequestError.TheVariants.{Refused, Fault}
-use Rattle.records.specs.PartLaws.{rows_of-other_mounts, rows_of-other_secrets, rows_of-other_roles}
-use Rattle.records.specs.Parts.{Tells, KeepsOthers, of_mounts, of_secrets, of_roles, of_leases}
-use Rattle.records.specs.Table.{table_of}
-use Rattle.records.specs.Transaction.{Rows}
-use Rattle.kv2.specs.Secrets.{drop_mount}
-use Rattle.kv2.specs.SoundLaws.{drop_mount_sound}
-use Rattle.leases.specs.StaysSoundLaws.{drop_roles_sound, revoke_under_sound}
-use Rattle.leases.specs.LeaseRows.{RepresentsLeases}
-use Rattle.leases.specs.Leases.{revoke_under}
-use Rattle.leases.specs.Roles.{drop_roles}
-use Rattle.leases.specs.SoundLaws.{shows_in_leases}
-use Rattle.mounts.specs.MountRows.{AreMounts, IsMountAt}
+use Rattle.std.proofs.Common.{◌≡◌, if◌then◌else◌, Bool, true, false, cond, Option, Some, None, is_some, Result, Ok, Err}
+use Rattle.broker_model.specs.Words.{⊤, refl, sym, ◌∙◌, ap, subst, false≢true, true≢false, Broker, Mount, Map, get}
+use Rattle.broker_model.specs.Words.{without, get-without, is_mount_name, nothing, Done, plainly, ◌>>=◌, EndsOk}
+use Rattle.broker_model.specs.Words.{EndsErr, Sound, Text, same, same_true, Refusal, RequestError, Refused}
+use Rattle.broker_model.specs.Words.{rows_of-other_mounts, rows_of-other_secrets, rows_of-other_roles, Tells}
+use Rattle.broker_model.specs.Words.{KeepsOthers, of_mounts, of_secrets, of_roles, of_leases, table_of, Rows}
+use Rattle.broker_model.specs.Words.{drop_mount, drop_mount_sound, drop_roles_sound, revoke_under_sound}
+use Rattle.broker_model.specs.Words.{RepresentsLeases, revoke_under, drop_roles, shows_in_leases, AreMounts, IsMountAt}
+use Rattle.broker_model.specs.Words.{disabled_sound, told_mounts, forms, without_kept, disable}
+use Rattle.broker_types.specs.declared.request_error.RequestError.TheVariants.{Fault}
 use Rattle.mounts.specs.Mounts as mounts
-use Rattle.mounts.specs.SoundLaws.{disabled_sound}
-use Rattle.mounts.specs.TellLaws.{told_mounts}
-use Rattle.broker_model.specs.Forms.{forms}
-use Rattle.broker_model.specs.parts.Mounts.{without_kept, disable}
-use Rattle.broker_rows.specs.Operating.{ActsAs}
-use Rattle.broker_rows.specs.Representing.{Represents}
-use Rattle.broker_rows.specs.RepresentingLaws.{represents_next, represents_leases, still_represented}
+use Rattle.broker_rows.specs.Words.{ActsAs, Represents, represents_next, represents_leases, still_represented}
 use Rattle.broker_rows.specs.declared.answered.Answered.TheVariants.{Nothing}
 
 -- ---- a mount that comes

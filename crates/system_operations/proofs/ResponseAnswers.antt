@@ -1,20 +1,10 @@
 -- Responses that wait: from what is found to what the commands answer.
-use Rattle.std.specs.Prelude.{◌≡◌, Option, Some, None, Ok, Err, option_map}
-use Rattle.std.proofs.Common.{refl, sym, subst}
-use Rattle.broker_types.specs.Broker.{Broker, Waiting}
-use Rattle.broker_types.specs.Map.{get}
-use Rattle.broker_types.specs.Operation.{Done}
-use Rattle.broker_types.specs.Refuse.{◌>>=◌, some_or}
-use Rattle.broker_types.specs.Text.{Text}
-use Rattle.broker_types.specs.declared.refusal.Refusal.{Refusal}
+use Rattle.std.proofs.Common.{◌≡◌, Option, Some, None, Ok, Err, option_map, refl, sym, subst}
+use Rattle.broker_model.specs.Words.{Broker, Waiting, get, Done, ◌>>=◌, some_or, Text, Refusal, Refused, Rows}
+use Rattle.broker_model.specs.Words.{FoundResponse, found, found_under}
 use Rattle.broker_types.specs.declared.refusal.Refusal.TheVariants as refusal
 use Rattle.broker_types.specs.declared.refusal.Reason.TheVariants as reason
-use Rattle.broker_types.specs.declared.request_error.RequestError.TheVariants.{Refused}
-use Rattle.records.specs.Transaction.{Rows}
-use Rattle.broker_model.specs.parts.Wrappings.{FoundResponse, found, found_under}
-use Rattle.broker_rows.specs.Done.{IsDone}
-use Rattle.broker_rows.specs.Operating.{ActsAs}
-use Rattle.broker_rows.specs.Representing.{Represents}
+use Rattle.broker_rows.specs.Words.{IsDone, ActsAs, Represents}
 use Rattle.broker_rows.specs.declared.answered.Answered as Code
 
 -- 400 `wrapping token is not valid or does not exist`

@@ -1,35 +1,14 @@
 -- Responses that wait: the rows that are left, and the brokers that they represent.
-use Rattle.std.specs.Prelude.{◌≡◌, List, [], ◌∷◌, All, true, ⊤, Option, Some, None, Ok, option_map, is_none}
-use Rattle.std.proofs.Common.{sym, ap, subst}
-use Rattle.std.proofs.lemmas.Bool.{and_parts}
-use Rattle.std.proofs.lemmas.List.Elements.{All-head, All-tail}
-use Rattle.broker_types.specs.Broker.{Broker, Waiting}
-use Rattle.broker_types.specs.Map.{Map, get}
-use Rattle.broker_types.specs.Names.{Names}
-use Rattle.broker_types.specs.OptionLaws.{is_nothing}
-use Rattle.broker_types.specs.Refuse.{◌>>=◌, some_or}
-use Rattle.broker_types.specs.Sound.{IsIdentifier}
-use Rattle.broker_types.specs.Spending.{drop_waiting}
-use Rattle.broker_types.specs.Text.{Text}
-use Rattle.broker_types.specs.TokenText.{token_text}
-use Rattle.broker_types.specs.Used.{are_new}
-use Rattle.records.specs.PartLaws.{AgreeOutside, joined_rows, rows_of-other_waiting}
-use Rattle.records.specs.Parts.{Tells, KeepsOthers, of_waiting}
-use Rattle.records.specs.RowForms.{used_row}
-use Rattle.records.specs.Table.{table_of, with_row}
-use Rattle.records.specs.Transaction.{Rows}
+use Rattle.std.proofs.Common.{◌≡◌, ◌∷◌, List, [], All, true, Option, Some, None, Ok, option_map, is_none, sym, ap}
+use Rattle.broker_model.specs.Words.{⊤, subst, and_parts, All-head, All-tail, Broker, Waiting, Map, get, Names}
+use Rattle.broker_model.specs.Words.{is_nothing, ◌>>=◌, some_or, IsIdentifier, drop_waiting, Text, token_text, are_new}
+use Rattle.broker_model.specs.Words.{AgreeOutside, joined_rows, rows_of-other_waiting, Tells, KeepsOthers, of_waiting}
+use Rattle.broker_model.specs.Words.{used_row, table_of, with_row, Rows, rewrap_is, moved, rewrap, with_waiting, forms}
+use Rattle.broker_model.specs.Words.{AreWrappingNames, WrappingCommandsKeepSoundness, counted, wrapping_names}
+use Rattle.broker_model.specs.Words.{found_under, rewrapped}
 use Rattle.records.specs.declared.kind.Kind.TheVariants as kind
-use Rattle.wrapping.specs.ResponseLaws.{rewrap_is}
-use Rattle.wrapping.specs.Wrapping.{moved, rewrap, with_waiting}
-use Rattle.broker_model.specs.Forms.{forms}
-use Rattle.broker_model.specs.Laws.{AreWrappingNames, WrappingCommandsKeepSoundness}
-use Rattle.broker_model.specs.Order.{counted}
-use Rattle.broker_model.specs.Traits.{wrapping_names}
 use Rattle.broker_model.specs.declared.commands.WrappingCommand.TheVariants as command
-use Rattle.broker_model.specs.parts.Wrappings.{found_under, rewrapped}
-use Rattle.broker_rows.specs.MarkLaws.{marks_joined}
-use Rattle.broker_rows.specs.Operating.{ArePrinted}
-use Rattle.broker_rows.specs.Representing.{Represents}
+use Rattle.broker_rows.specs.Words.{marks_joined, ArePrinted, Represents}
 use Rattle.system_operations.proofs.ResponseAnswers.{not_waiting}
 
 -- the identifiers that were printed are those of a wrapping token and of its accessor

@@ -1,19 +1,8 @@
 -- What the steps of a rewrap come to (this project's definition).
 use Rattle.std.specs.Prelude.{◌≡◌, true, Option, Some, None, Result, IfOk}
-use Rattle.broker_types.specs.Broker.{Broker, Waiting}
-use Rattle.broker_types.specs.Map.{get}
-use Rattle.broker_types.specs.Names.{Names, names_of}
-use Rattle.broker_types.specs.Text.{Text}
-use Rattle.broker_types.specs.Used.{are_new}
-use Rattle.broker_types.specs.declared.fault.Fault.{Fault}
-use Rattle.records.specs.Transaction.{Seen, Rows, IsHonest}
-use Rattle.wrapping.specs.Wrapping.{moved}
-use Rattle.broker_model.specs.Order.{counted}
-use Rattle.broker_model.specs.Traits.{wrapping_names}
-use Rattle.broker_model.specs.parts.Wrappings.{found_under, rewrapped}
-use Rattle.broker_rows.specs.Context.{Context}
-use Rattle.broker_rows.specs.Operating.{Begins}
-use Rattle.broker_rows.specs.Representing.{Represents}
+use Rattle.broker_model.specs.Words.{Broker, Waiting, get, Names, names_of, Text, are_new, Fault, Seen, Rows, IsHonest}
+use Rattle.broker_model.specs.Words.{moved, counted, wrapping_names, found_under, rewrapped}
+use Rattle.broker_rows.specs.Words.{Context, Begins, Represents}
 
 -- No response waited under t, and nothing has changed; or one did, it is told as it waits now, and the rows represent
 -- the next broker, in which the identifiers of its new wrapping token are marked.

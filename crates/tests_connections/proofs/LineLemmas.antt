@@ -1,8 +1,7 @@
 -- Three lines whose numbers differ.
-use Rattle.std.proofs.Common.{◌≡◌, ◌≢◌, ◌∙◌, ◌<◌, ℕ, zero, suc, List, [], ◌∷◌, ◌++◌, Result, Ok, is_ok, length}
-use Rattle.std.proofs.Common.{if◌then◌else◌, refl, sym, ap, arith}
-use Rattle.hub.specs.Links.{number_of}
-use Rattle.hub.specs.Ordering.{HaveNumbers, number_at}
+use Rattle.std.specs.Prelude.{◌≡◌, ◌≢◌, ◌<◌, ◌∷◌, ◌++◌, if◌then◌else◌, ℕ, zero, suc, List, [], Result, Ok, is_ok, refl}
+use Rattle.broker_model.specs.Words.{◌∙◌, length, sym, ap, arith}
+use Rattle.hub.specs.Words.{number_of, HaveNumbers, number_at}
 use Rattle.hub.specs.declared.order.Line.{Line}
 
 -- a push that succeeded

@@ -1,31 +1,14 @@
 -- What is revoked by an accessor: the token that has it, or the wrapping token.
-use Rattle.std.specs.Prelude.{◌≡◌, ◌≢◌, true, false, is_some, Option, Some, None, Result, Ok, Err}
-use Rattle.std.specs.Option.{option_map_or}
-use Rattle.std.proofs.Common.{refl, sym, ◌∙◌, ap, subst, inl, inr}
-use Rattle.std.proofs.lemmas.Bool.{false≢true}
-use Rattle.std.proofs.lemmas.Option.{none-some}
-use Rattle.broker_types.specs.Broker.{Broker}
-use Rattle.broker_types.specs.LineageLaws.{revoke_unknown}
-use Rattle.broker_types.specs.Map.{get}
-use Rattle.broker_types.specs.OptionLaws.{found_or_not}
-use Rattle.broker_types.specs.IdentifierPlaces.{OnePlaceEach}
-use Rattle.broker_types.specs.Refuse.{◌>>=◌, some_or}
-use Rattle.broker_types.specs.Spending.{drop_waiting}
-use Rattle.broker_types.specs.Text.{Text}
+use Rattle.std.proofs.Common.{◌≡◌, ◌≢◌, true, false, is_some, Option, Some, None, Result, Ok, Err, refl, sym, ◌∙◌, ap}
+use Rattle.broker_model.specs.Words.{option_map_or, subst, inl, inr, false≢true, none-some, Broker, revoke_unknown, get}
+use Rattle.broker_model.specs.Words.{found_or_not, OnePlaceEach, ◌>>=◌, some_or, drop_waiting, Text, RequestError}
+use Rattle.broker_model.specs.Words.{Refused, Tells, KeepsOthers, of_waiting, table_of, Rows, NamedHaveTheirAccessors}
+use Rattle.broker_model.specs.Words.{revoke_token, revoke_named}
 use Rattle.broker_types.specs.declared.refusal.Refusal.TheVariants as refusal
 use Rattle.broker_types.specs.declared.refusal.Reason.TheVariants as reason
-use Rattle.broker_types.specs.declared.request_error.RequestError.{RequestError}
-use Rattle.broker_types.specs.declared.request_error.RequestError.TheVariants.{Refused}
-use Rattle.records.specs.Parts.{Tells, KeepsOthers, of_waiting}
-use Rattle.records.specs.Table.{table_of}
-use Rattle.records.specs.Transaction.{Rows}
 use Rattle.token_tree.specs.Tokens as tree
-use Rattle.wrapping.specs.Laws.{NamedHaveTheirAccessors}
 use Rattle.wrapping.specs.Wrapping as wrapping
-use Rattle.broker_model.specs.parts.Tokens.{revoke_token, revoke_named}
-use Rattle.broker_rows.specs.Operating.{ActsAs}
-use Rattle.broker_rows.specs.Representing.{Represents}
-use Rattle.broker_rows.specs.RepresentingLaws.{one_kind, represents_dropped}
+use Rattle.broker_rows.specs.Words.{ActsAs, Represents, one_kind, represents_dropped}
 use Rattle.broker_rows.specs.declared.answered.Answered.{Answered}
 use Rattle.broker_rows.specs.declared.answered.Answered.TheVariants.{Nothing}
 

@@ -1,20 +1,10 @@
 -- What is done with the token of an accessor.
-use Rattle.std.specs.Prelude.{◌≡◌, Option, Some, None, Result, Err}
-use Rattle.std.proofs.Common.{refl, sym, subst}
-use Rattle.broker_types.specs.Broker.{Broker}
-use Rattle.broker_types.specs.Operation.{Done}
-use Rattle.broker_types.specs.Refuse.{◌>>=◌, some_or}
-use Rattle.broker_types.specs.Text.{Text}
-use Rattle.broker_types.specs.declared.refusal.Refusal.{Refusal}
+use Rattle.std.proofs.Common.{◌≡◌, Option, Some, None, Result, Err, refl, sym, subst}
+use Rattle.broker_model.specs.Words.{Broker, Done, ◌>>=◌, some_or, Text, Refusal, RequestError, Refused, Rows}
+use Rattle.broker_model.specs.Words.{find_accessor, named}
 use Rattle.broker_types.specs.declared.refusal.Refusal.TheVariants as refusal
 use Rattle.broker_types.specs.declared.refusal.Reason.TheVariants as reason
-use Rattle.broker_types.specs.declared.request_error.RequestError.{RequestError}
-use Rattle.broker_types.specs.declared.request_error.RequestError.TheVariants.{Refused}
-use Rattle.records.specs.Transaction.{Rows}
-use Rattle.token_tree.specs.Tokens.{find_accessor}
-use Rattle.broker_model.specs.parts.Tokens.{named}
-use Rattle.broker_rows.specs.Operating.{ActsAs}
-use Rattle.broker_rows.specs.Representing.{Represents}
+use Rattle.broker_rows.specs.Words.{ActsAs, Represents}
 use Rattle.broker_rows.specs.declared.answered.Answered.{Answered}
 
 module _ (who : Option Text) (b : Broker) (rows : Rows) (accessor : Text) (does : Text → Result Done Refusal) where

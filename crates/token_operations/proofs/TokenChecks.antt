@@ -1,8 +1,6 @@
 -- Tests of a creation, one after another.
-use Rattle.std.specs.Prelude.{◌≡◌, Result, Ok, ⊤}
-use Rattle.std.proofs.Common.{sym}
-use Rattle.broker_types.specs.Refuse.{◌>>=◌}
-use Rattle.broker_types.specs.declared.refusal.Refusal.{Refusal}
+use Rattle.std.proofs.Common.{◌≡◌, Result, Ok, sym}
+use Rattle.broker_model.specs.Words.{⊤, ◌>>=◌, Refusal}
 
 -- what six tests passed is up to the seventh
 pub seventh : (a b c d e f g r : Result ⊤ Refusal) (p q s t u v : ⊤) → a ≡ Ok p → b ≡ Ok q → c ≡ Ok s → d ≡ Ok t

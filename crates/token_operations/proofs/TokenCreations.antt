@@ -1,36 +1,15 @@
 -- A creation beside its definition: what is refused, and what is made.
-use Rattle.std.specs.Prelude.{◌≡◌, ◌≢◌, ◌||◌, All, List, [], ◌∷◌, Bool, true}
-use Rattle.std.specs.Prelude.{false, if◌then◌else◌, Option, Some, None, Result, Ok, Err, ⊤}
-use Rattle.std.specs.List.{AllByRecursion}
-use Rattle.std.proofs.Common.{sym, ◌∙◌, ap}
-use Rattle.std.proofs.lemmas.List.Elements.{All-nil, All-cons}
-use Rattle.std.proofs.lemmas.Option.{none-some, same_Some}
-use Rattle.broker_types.specs.Broker.{Broker}
-use Rattle.broker_types.specs.Map.{Map, get}
-use Rattle.broker_types.specs.Names.{Names}
-use Rattle.broker_types.specs.Operation.{Done}
-use Rattle.broker_types.specs.Refuse.{◌>>=◌, some_or}
-use Rattle.broker_types.specs.Text.{Text}
-use Rattle.broker_types.specs.Token.{Token}
-use Rattle.broker_types.specs.declared.refusal.Refusal.{Refusal}
-use Rattle.broker_types.specs.declared.ask.Verb.{Verb}
+use Rattle.std.proofs.Common.{◌≡◌, ◌≢◌, ◌||◌, ◌∷◌, if◌then◌else◌, All, List, [], Bool, true, false, Option, Some, None}
+use Rattle.broker_model.specs.Words.{Result, Ok, Err, ⊤, AllByRecursion, sym, ◌∙◌, ap, All-nil, All-cons, none-some}
+use Rattle.broker_model.specs.Words.{same_Some, Broker, Map, get, Names, Done, ◌>>=◌, some_or, Text, Token, Refusal}
+use Rattle.broker_model.specs.Words.{Verb, table_of, TokenEntry, token_entry, Rows, TokenCreation, allows, grants}
+use Rattle.broker_model.specs.Words.{rules_of, ArePoliciesAt, Rules, Sudo, makes_orphans, making_path, is_privileged}
+use Rattle.broker_model.specs.Words.{new_policies, may_make, new_parent, new_token, create, create_with, made}
 use Rattle.broker_types.specs.declared.ask.Verb.TheVariants as verb
 use Rattle.broker_types.specs.declared.refusal.Denial.TheVariants as denial
 use Rattle.broker_types.specs.declared.refusal.Refusal.TheVariants as refusal
-use Rattle.records.specs.Table.{table_of}
-use Rattle.records.specs.TokenEntry.{TokenEntry, token_entry}
-use Rattle.records.specs.Transaction.{Rows}
-use Rattle.api_json.specs.declared.token_bodies.TokenCreation.{TokenCreation}
-use Rattle.policies.specs.Allows.{allows}
-use Rattle.policies.specs.Grants.{grants, rules_of}
-use Rattle.policies.specs.PolicyRows.{ArePoliciesAt}
-use Rattle.policies.specs.Rules.{Rules}
-use Rattle.policies.specs.declared.capability.Capability.TheVariants.{Sudo}
 use Rattle.broker_model.specs.declared.making.Making.{Making}
-use Rattle.broker_model.specs.parts.TokenCreation.{makes_orphans, making_path, is_privileged, new_policies, may_make}
-use Rattle.broker_model.specs.parts.TokenCreation.{new_parent, new_token}
-use Rattle.broker_model.specs.parts.Tokens.{create, create_with, made}
-use Rattle.broker_rows.specs.Caller.{AreRulesAt}
+use Rattle.broker_rows.specs.Words.{AreRulesAt}
 use Rattle.token_operations.specs.TokenEntries.{token_told}
 use Rattle.token_operations.specs.TokenRanges.{IsTextPair}
 

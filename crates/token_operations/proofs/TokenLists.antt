@@ -1,14 +1,7 @@
 -- Sets of texts, as code has them: lists that ascend.
-use Rattle.std.specs.Prelude.{◌≡◌, List, [], ◌∷◌, map, true, cond, Some, None}
-use Rattle.std.specs.Cmp.Lexicographic.{nat_list_cmp_total}
-use Rattle.std.specs.FinMap.{get-from_entries}
-use Rattle.std.proofs.Common.{refl, sym, ◌∙◌, ap}
-use Rattle.broker_types.specs.Text.{Text}
-use Rattle.broker_types.specs.Map.{keys}
-use Rattle.broker_types.specs.Sound.{is_ascending}
-use Rattle.records.specs.Children.{has, member, set_of}
-use Rattle.records.specs.EntryMapLaws.{ascending_entries}
-use Rattle.broker_model.specs.CreationLaws.{set_has}
+use Rattle.std.proofs.Common.{◌≡◌, ◌∷◌, List, [], map, true, cond, Some, None, refl, sym, ◌∙◌, ap}
+use Rattle.broker_model.specs.Words.{nat_list_cmp_total, get-from_entries, Text, keys, is_ascending, has, member}
+use Rattle.broker_model.specs.Words.{set_of, ascending_entries, set_has}
 
 first_member : (ts : List Text) → map (λ e. e.0) (map member ts) ≡ ts
 first_member [] = refl

@@ -1,26 +1,11 @@
 -- Look-ups of tokens: from what the rows tell to what the commands answer.
-use Rattle.std.specs.Prelude.{◌≡◌, ℕ, Option, Some, None, option_map, Result, Ok, Err}
-use Rattle.std.proofs.Common.{refl, sym, ◌∙◌}
-use Rattle.std.proofs.lemmas.Option.{none-some, same_Some}
-use Rattle.broker_types.specs.Text.{Text}
-use Rattle.broker_types.specs.Map.{get}
-use Rattle.broker_types.specs.Token.{Token}
-use Rattle.broker_types.specs.Broker.{Broker}
-use Rattle.broker_types.specs.Names.{Names}
-use Rattle.broker_types.specs.Operation.{reply, Done, plainly}
-use Rattle.broker_types.specs.Refuse.{◌>>=◌, some_or}
-use Rattle.broker_types.specs.declared.refusal.Refusal.{Refusal}
+use Rattle.std.proofs.Common.{◌≡◌, ℕ, Option, Some, None, option_map, Result, Ok, Err, refl, sym, ◌∙◌}
+use Rattle.broker_model.specs.Words.{none-some, same_Some, Text, get, Token, Broker, Names, reply, Done, plainly, ◌>>=◌}
+use Rattle.broker_model.specs.Words.{some_or, Refusal, Refused, TokenEntry, token_entry, Rows, token_reply, look_up}
 use Rattle.broker_types.specs.declared.refusal.Refusal.TheVariants as refusal
 use Rattle.broker_types.specs.declared.refusal.Denial.TheVariants as denial
-use Rattle.broker_types.specs.declared.request_error.RequestError.TheVariants.{Refused}
-use Rattle.records.specs.TokenEntry.{TokenEntry, token_entry}
-use Rattle.records.specs.Transaction.{Rows}
-use Rattle.broker_model.specs.parts.TokenReplies.{token_reply}
-use Rattle.broker_model.specs.parts.Tokens.{look_up}
-use Rattle.broker_rows.specs.Representing.{Represents}
-use Rattle.broker_rows.specs.Done.{answered_of}
+use Rattle.broker_rows.specs.Words.{Represents, answered_of, ActsAs}
 use Rattle.broker_rows.specs.declared.answered.Answered as Code
-use Rattle.broker_rows.specs.Operating.{ActsAs}
 
 -- what a look-up answers of a token that may be there
 abbrev shown_as : Broker → Names → Text → Option Token → Result Done Refusal

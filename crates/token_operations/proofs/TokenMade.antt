@@ -1,25 +1,10 @@
 -- A token that was made: its rows, its identifiers, and the answer.
-use Rattle.std.specs.Prelude.{◌≡◌, ◌==◌, length, [], ◌∷◌, true, Option, Some, None, option_map}
-use Rattle.std.proofs.Common.{refl, ◌∙◌, ap, subst}
-use Rattle.std.proofs.lemmas.Bool.{true≢false}
-use Rattle.broker_types.specs.Broker.{Broker}
-use Rattle.broker_types.specs.Map.{get}
-use Rattle.broker_types.specs.Names.{Names}
+use Rattle.std.proofs.Common.{◌≡◌, ◌==◌, ◌∷◌, length, [], true, Option, Some, None, option_map, refl, ◌∙◌, ap, subst}
+use Rattle.broker_model.specs.Words.{true≢false, Broker, get, Names, Text, Token, token_text, use_up, Reply}
+use Rattle.broker_model.specs.Words.{token_entry, Rows, created, with_token, auth_reply, made}
 use Rattle.broker_types.specs.Operation as operation
-use Rattle.broker_types.specs.Text.{Text}
-use Rattle.broker_types.specs.Token.{Token}
-use Rattle.broker_types.specs.TokenText.{token_text}
-use Rattle.broker_types.specs.Used.{use_up}
-use Rattle.broker_types.specs.declared.reply.Reply.{Reply}
-use Rattle.records.specs.TokenEntry.{token_entry}
-use Rattle.records.specs.Transaction.{Rows}
-use Rattle.token_tree.specs.Tokens.{created, with_token}
-use Rattle.broker_model.specs.parts.TokenReplies.{auth_reply}
-use Rattle.broker_model.specs.parts.Tokens.{made}
-use Rattle.broker_rows.specs.Representing.{Represents}
-use Rattle.broker_rows.specs.Done.{IsDone}
+use Rattle.broker_rows.specs.Words.{Represents, IsDone, tokens_long}
 use Rattle.broker_rows.specs.declared.answered.Answered.TheVariants.{Made}
-use Rattle.broker_rows.specs.RepresentingLaws.{tokens_long}
 
 -- ---- what is made
 

@@ -1,26 +1,12 @@
 -- The policies of a new token are names, in order, and few.
-use Rattle.std.specs.Prelude.{◌≡◌, ◌≤◌, ◌<◌, ◌^◌, ◌+◌, ◌&&◌, ℕ, suc, List, [], ◌∷◌}
-use Rattle.std.specs.Prelude.{length, map, Bool, true, false, not, ◌||◌, codes}
-use Rattle.std.specs.Prelude.{All, if◌then◌else◌}
-use Rattle.std.specs.FinMap.{len-entries, entries_sorted, is_sorted}
-use Rattle.std.specs.List.{list_all}
-use Rattle.std.proofs.Common.{refl, sym, ◌∙◌, subst, lit<, lt_of_le_of_lt, arith}
-use Rattle.std.proofs.lemmas.Bool.{and_parts}
-use Rattle.std.proofs.lemmas.List.{length-map}
-use Rattle.std.proofs.lemmas.List.Sums.{length-filter, count_by-le-length}
-use Rattle.std.proofs.lemmas.List.Elements.{All-nil, All-cons, All-map, All-filter}
-use Rattle.broker_types.specs.Text.{Text, text_cmp, same}
-use Rattle.broker_types.specs.Map.{Map, len, entries, keys}
-use Rattle.broker_types.specs.Name.{is_name}
-use Rattle.broker_types.specs.SearchLaws.{each_entry}
-use Rattle.broker_types.specs.Sound.{is_ascending}
-use Rattle.broker_types.specs.Token.{Token}
-use Rattle.broker_types.specs.TestLaws.{T_true}
-use Rattle.api_json.specs.declared.token_bodies.TokenCreation.{TokenCreation}
-use Rattle.records.specs.Children.{has, set_of, member}
-use Rattle.records.specs.EntryMapLaws.{each_listed, few_listed}
-use Rattle.broker_model.specs.parts.TokenCreation.{default_name, have_root, policies_given, without_default}
-use Rattle.broker_model.specs.parts.TokenCreation.{new_policies}
+use Rattle.std.proofs.Common.{◌≡◌, ◌≤◌, ◌<◌, ◌^◌, ◌+◌, ◌&&◌, ◌∷◌, ◌||◌, if◌then◌else◌, ℕ, suc, List, [], length, map}
+use Rattle.broker_model.specs.Words.{Bool, true, false, not, codes, len-entries, entries_sorted, is_sorted, list_all}
+use Rattle.broker_model.specs.Words.{refl, sym, ◌∙◌, subst, lit<, lt_of_le_of_lt, arith, and_parts, length-map}
+use Rattle.broker_model.specs.Words.{length-filter, count_by-le-length, All-nil, All-cons, All-map, All-filter, Text}
+use Rattle.broker_model.specs.Words.{text_cmp, same, Map, len, entries, keys, is_name, each_entry, is_ascending, Token}
+use Rattle.broker_model.specs.Words.{T_true, TokenCreation, has, set_of, member, each_listed, few_listed, default_name}
+use Rattle.broker_model.specs.Words.{have_root, policies_given, without_default, new_policies}
+use Rattle.std.specs.Prelude.{All}
 
 -- ---- keys of maps
 

@@ -1,24 +1,10 @@
 -- The part of tokens, on what rows tell: it is what the definitions say of the tokens.
-use Rattle.std.specs.Prelude.{◌≡◌, ◌≢◌, ◌≤◌, ◌+◌, ◌==◌, ℕ, List, [], Bool}
-use Rattle.std.specs.Prelude.{true, false, if◌then◌else◌, Option, Some, None}
-use Rattle.std.specs.List.{list_all}
-use Rattle.std.proofs.Common.{refl, ap, subst, arith}
-use Rattle.std.proofs.Math.Nat.{min-le_right}
-use Rattle.std.proofs.lemmas.List.Elements.{All-weaker}
-use Rattle.std.proofs.lemmas.Option.{none-some, same_Some}
-use Rattle.broker_types.specs.Text.{Text}
-use Rattle.broker_types.specs.Limits.{longest_ttl}
-use Rattle.broker_types.specs.Moment.{greatest_moment}
-use Rattle.broker_types.specs.Name.{is_name}
-use Rattle.broker_types.specs.Sound.{IsShortText, IsIdentifier, IsEnd}
-use Rattle.broker_types.specs.Token.{Token}
-use Rattle.api_json.specs.declared.token_bodies.TokenCreation.{TokenCreation}
-use Rattle.records.specs.EntryMapLaws.{listed_entries}
-use Rattle.records.specs.RangeLaws.{identifier_short, name_short}
-use Rattle.records.specs.Ranges.{IsTokenInRange}
-use Rattle.records.specs.RowReaders.{IsSomeIn, IsWide}
-use Rattle.records.specs.TokenEntry.{TokenEntry, token_entry}
-use Rattle.broker_model.specs.parts.TokenCreation.{new_token, new_policies, has_no_end, asked_ttl}
+use Rattle.std.proofs.Common.{◌≡◌, ◌≢◌, ◌≤◌, ◌+◌, ◌==◌, if◌then◌else◌, ℕ, List, [], Bool, true, false, Option, Some, ap}
+use Rattle.broker_model.specs.Words.{None, list_all, refl, subst, arith, min-le_right, All-weaker, none-some, same_Some}
+use Rattle.broker_model.specs.Words.{Text, longest_ttl, greatest_moment, is_name, IsShortText, IsIdentifier, IsEnd}
+use Rattle.broker_model.specs.Words.{Token, TokenCreation, listed_entries, identifier_short, name_short, IsTokenInRange}
+use Rattle.broker_model.specs.Words.{IsSomeIn, IsWide, TokenEntry, token_entry, new_token, new_policies, has_no_end}
+use Rattle.broker_model.specs.Words.{asked_ttl}
 use Rattle.token_operations.specs.TokenEntries.{token_told, new_entry}
 use Rattle.token_operations.specs.TokenRanges.{IsInRange}
 use Rattle.token_operations.proofs.TokenPolicies.{ArePolicies, IsPolicyName, each_passes, new_policies_are}

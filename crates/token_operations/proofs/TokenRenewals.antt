@@ -1,36 +1,17 @@
 -- Renewals of tokens: from what the rows tell to what the commands answer.
-use Rattle.std.specs.Prelude.{◌≡◌, ◌+◌, ◌==◌, min, if◌then◌else◌, ℕ, Bool, true, false}
-use Rattle.std.specs.Prelude.{Option, Some, None, is_some, option_map, Result, Ok, Err}
-use Rattle.std.proofs.Common.{refl, sym, ◌∙◌, ap, subst}
-use Rattle.std.proofs.Math.Nat.{le_trans, min-le_left, min-le_right}
+use Rattle.std.proofs.Common.{◌≡◌, ◌+◌, ◌==◌, if◌then◌else◌, min, ℕ, Bool, true, false, Option, Some, None, is_some, Ok}
+use Rattle.broker_model.specs.Words.{option_map, Result, Err, refl, sym, ◌∙◌, ap, subst, le_trans, min-le_left}
+use Rattle.broker_model.specs.Words.{min-le_right, Text, longest_ttl, get, Token, Broker, Names, reply, Done, plainly}
+use Rattle.broker_model.specs.Words.{mapped, mapped_none, ◌>>=◌, some_or, unless, IsEnd, Refusal, Reply, Refused}
+use Rattle.broker_model.specs.Words.{IsTokenInRange, TokenEntry, token_entry, Rows, with_end, or_longest, auth_reply}
+use Rattle.broker_model.specs.Words.{renew_token, new_end, prolonged_end}
 use Rattle.token_operations.proofs.TokenSound.{end_near}
-use Rattle.broker_types.specs.Text.{Text}
-use Rattle.broker_types.specs.Limits.{longest_ttl}
-use Rattle.broker_types.specs.Map.{get}
-use Rattle.broker_types.specs.Token.{Token}
-use Rattle.broker_types.specs.Broker.{Broker}
-use Rattle.broker_types.specs.Names.{Names}
-use Rattle.broker_types.specs.Operation.{reply, Done, plainly}
-use Rattle.broker_types.specs.OptionLaws.{mapped, mapped_none}
-use Rattle.broker_types.specs.Refuse.{◌>>=◌, some_or, unless}
-use Rattle.broker_types.specs.Sound.{IsEnd}
-use Rattle.broker_types.specs.declared.refusal.Refusal.{Refusal}
 use Rattle.broker_types.specs.declared.refusal.Refusal.TheVariants as refusal
 use Rattle.broker_types.specs.declared.refusal.Denial.TheVariants as denial
 use Rattle.broker_types.specs.declared.refusal.Reason.TheVariants as reason
-use Rattle.broker_types.specs.declared.reply.Reply.{Reply}
-use Rattle.broker_types.specs.declared.request_error.RequestError.TheVariants.{Refused}
-use Rattle.records.specs.Ranges.{IsTokenInRange}
-use Rattle.records.specs.TokenEntry.{TokenEntry, token_entry}
-use Rattle.records.specs.Transaction.{Rows}
-use Rattle.token_tree.specs.Tokens.{with_end}
 use Rattle.token_tree.specs.Tokens as tree
-use Rattle.broker_model.specs.parts.TokenCreation.{or_longest}
-use Rattle.broker_model.specs.parts.TokenReplies.{auth_reply}
-use Rattle.broker_model.specs.parts.Tokens.{renew_token, new_end, prolonged_end}
-use Rattle.broker_rows.specs.Representing.{Represents}
+use Rattle.broker_rows.specs.Words.{Represents, ActsAs}
 use Rattle.broker_rows.specs.declared.answered.Answered.TheVariants.{Given}
-use Rattle.broker_rows.specs.Operating.{ActsAs}
 
 -- ---- the new end
 

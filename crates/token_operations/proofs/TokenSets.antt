@@ -1,18 +1,9 @@
 -- Sets of texts that are made one by one.
-use Rattle.std.specs.Prelude.{◌≡◌, ◌||◌, ◌&&◌, List, [], ◌∷◌, map, Bool, true, false, string_bytes}
-use Rattle.std.specs.BTreeSet.{insert_key}
-use Rattle.std.specs.Cmp.Lexicographic.{nat_list_cmp_total}
-use Rattle.std.specs.Ordering.{is_lt, is_eq, match_ordering, ordering_reverse}
-use Rattle.std.specs.String.{string_cmp}
-use Rattle.std.specs.declared.cmp.Ordering.{Ordering}
-use Rattle.std.specs.declared.cmp.Ordering.TheVariants.{Less, Equal, Greater}
-use Rattle.std.proofs.Common.{refl, sym, ◌∙◌, ap, String, Global}
-use Rattle.std.proofs.lemmas.Bool.{and_parts}
-use Rattle.broker_types.specs.Map.{keys}
-use Rattle.broker_types.specs.Sound.{is_ascending}
-use Rattle.broker_types.specs.Text.{Text, text_cmp, same}
-use Rattle.broker_types.specs.TextLaws.{same_true, same-text_cmp}
-use Rattle.records.specs.Children.{has, set_of}
+use Rattle.std.proofs.Common.{◌≡◌, ◌||◌, ◌&&◌, ◌∷◌, List, [], map, Bool, true, false, string_bytes, refl, sym, ◌∙◌, ap}
+use Rattle.std.proofs.Common.{Global}
+use Rattle.broker_model.specs.Words.{insert_key, nat_list_cmp_total, is_lt, is_eq, match_ordering, ordering_reverse}
+use Rattle.broker_model.specs.Words.{string_cmp, Ordering, Less, Equal, Greater, String, and_parts, keys, is_ascending}
+use Rattle.broker_model.specs.Words.{Text, text_cmp, same, same_true, same-text_cmp, has, set_of}
 use Rattle.token_operations.specs.TokenSets.{put_each}
 use Rattle.token_operations.proofs.TokenLists.{set_is}
 

@@ -1,33 +1,13 @@
 -- What commands on tokens leave: a sound broker.
-use Rattle.std.specs.Prelude.{◌≡◌, ◌≢◌, ◌≤◌, ◌<◌, ◌^◌, ◌+◌, ◌==◌, ◌||◌, ◌&&◌, ℕ, min}
-use Rattle.std.specs.Prelude.{List, Bool, All, true, false, not, if◌then◌else◌}
-use Rattle.std.specs.Prelude.{Option, Some, None, is_none}
-use Rattle.std.proofs.Common.{refl, sym, ◌∙◌, ap, subst, arith, lt_of_le_of_lt}
-use Rattle.std.proofs.Math.Nat.{le_trans, min-le_left, min-le_right}
-use Rattle.std.proofs.lemmas.Bool.{false≢true, and_parts}
-use Rattle.std.proofs.lemmas.Option.{none-some, same_Some}
-use Rattle.broker_types.specs.Text.{Text, same}
-use Rattle.broker_types.specs.Map.{get}
-use Rattle.broker_types.specs.MapLaws.{no_entry}
-use Rattle.broker_types.specs.Moment.{greatest_moment}
-use Rattle.broker_types.specs.Limits.{longest_ttl}
-use Rattle.broker_types.specs.Names.{Names}
-use Rattle.broker_types.specs.OptionLaws.{is_nothing}
-use Rattle.broker_types.specs.Token.{Token}
-use Rattle.broker_types.specs.TokenText.{token_text}
-use Rattle.broker_types.specs.Broker.{Broker}
-use Rattle.broker_types.specs.Sound.{Forms, Sound, IsSoundToken, IsEnd, IsShortText}
-use Rattle.broker_types.specs.Used.{are_new}
-use Rattle.broker_types.specs.TextLaws.{same_self}
-use Rattle.broker_types.specs.UsedLaws.{first_new}
-use Rattle.api_json.specs.declared.token_bodies.TokenCreation.{TokenCreation}
-use Rattle.records.specs.EntryMapLaws.{each_listed, few_listed}
-use Rattle.token_tree.specs.Tokens.{MayBeMade}
-use Rattle.broker_model.specs.Traits.{token_names}
+use Rattle.std.proofs.Common.{◌≡◌, ◌≢◌, ◌≤◌, ◌<◌, ◌^◌, ◌+◌, ◌==◌, ◌||◌, ◌&&◌, if◌then◌else◌, ℕ, min, List, Bool, All}
+use Rattle.broker_model.specs.Words.{true, false, not, Option, Some, None, is_none, refl, sym, ◌∙◌, ap, subst, arith}
+use Rattle.broker_model.specs.Words.{lt_of_le_of_lt, le_trans, min-le_left, min-le_right, false≢true, and_parts}
+use Rattle.broker_model.specs.Words.{none-some, same_Some, Text, same, get, no_entry, greatest_moment, longest_ttl}
+use Rattle.broker_model.specs.Words.{Names, is_nothing, Token, token_text, Broker, Forms, Sound, IsSoundToken, IsEnd}
+use Rattle.broker_model.specs.Words.{IsShortText, are_new, same_self, first_new, TokenCreation, each_listed, few_listed}
+use Rattle.broker_model.specs.Words.{MayBeMade, token_names, makes_orphans, new_token, new_parent, or_longest}
+use Rattle.broker_model.specs.Words.{asked_time, asked_ttl, has_no_end, use_limit}
 use Rattle.broker_model.specs.declared.making.Making.{Making}
-use Rattle.broker_model.specs.parts.TokenCreation.{makes_orphans}
-use Rattle.broker_model.specs.parts.TokenCreation.{new_token, new_parent, or_longest, asked_time}
-use Rattle.broker_model.specs.parts.TokenCreation.{asked_ttl, has_no_end, use_limit}
 use Rattle.token_operations.specs.TokenRanges.{IsInRange, AreTokenNames}
 use Rattle.token_operations.proofs.TokenPolicies.{ArePolicies, IsPolicyName}
 

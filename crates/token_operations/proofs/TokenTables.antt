@@ -1,37 +1,18 @@
 -- The part of tokens: from rows that a call on tokens left to the broker that they represent.
-use Rattle.std.specs.Prelude.{◌≡◌, ◌+◌, ℕ, List, Bool, true, false, cond, if◌then◌else◌}
-use Rattle.std.specs.Prelude.{Option, Some, None, option_map, option_and_then, take, drop}
-use Rattle.std.specs.FinMap.{get-empty}
-use Rattle.std.proofs.Common.{refl, sym, ◌∙◌, ap}
-use Rattle.std.proofs.lemmas.Bool.{false≢true}
-use Rattle.broker_types.specs.Text.{Text, text_cmp, same}
-use Rattle.broker_types.specs.Map.{get, put, empty, change}
-use Rattle.broker_types.specs.MapLaws.{get-put, get-change}
-use Rattle.broker_types.specs.TextLaws.{same_true}
-use Rattle.broker_types.specs.TreeLaws.{orphaned_is}
-use Rattle.broker_types.specs.Lineage.{without_descendants, without_parent}
-use Rattle.broker_types.specs.IdentifierPlaces.{token, token_identifier, lease_of}
-use Rattle.broker_types.specs.Token.{Token, Tokens}
-use Rattle.broker_types.specs.Broker.{Broker, revoke, revoke_orphan}
-use Rattle.broker_types.specs.RemovalLaws.{revoke_sound, revoke_orphan_sound}
-use Rattle.broker_types.specs.Sound.{IsEnd, Sound}
-use Rattle.records.specs.declared.kind.Kind.{Kind}
+use Rattle.std.proofs.Common.{◌≡◌, ◌+◌, if◌then◌else◌, ℕ, List, Bool, true, false, cond, Option, Some, None, option_map}
+use Rattle.broker_model.specs.Words.{option_and_then, take, drop, get-empty, refl, sym, ◌∙◌, ap, false≢true, Text}
+use Rattle.broker_model.specs.Words.{text_cmp, same, get, put, empty, change, get-put, get-change, same_true}
+use Rattle.broker_model.specs.Words.{orphaned_is, without_descendants, without_parent, token, token_identifier}
+use Rattle.broker_model.specs.Words.{lease_of, Token, Tokens, Broker, revoke, revoke_orphan, revoke_sound}
+use Rattle.broker_model.specs.Words.{revoke_orphan_sound, IsEnd, Sound, Kind, Tells, KeepsOthers, of_tokens}
+use Rattle.broker_model.specs.Words.{of_cubbyholes, cubby_row, used_row, rows_of, token_len, has_slash, object_row}
+use Rattle.broker_model.specs.Words.{Table, table_of, with_row, Rows, AreEnded, MayBeMade, created, with_token}
+use Rattle.broker_model.specs.Words.{with_end, forms, go_with_tokens, nothing_ends}
 use Rattle.records.specs.declared.kind.Kind.TheVariants as kind
-use Rattle.records.specs.Parts.{Tells, KeepsOthers, of_tokens, of_cubbyholes}
-use Rattle.records.specs.RowForms.{cubby_row, used_row}
-use Rattle.records.specs.Rows.{rows_of, token_len, has_slash, object_row}
-use Rattle.records.specs.Table.{Table, table_of, with_row}
-use Rattle.records.specs.Transaction.{Rows}
 use Rattle.token_tree.specs.SoundLaws.{renew_sound}
-use Rattle.token_tree.specs.Tokens.{AreEnded, MayBeMade, created, with_token, with_end, renew}
-use Rattle.broker_model.specs.Forms.{forms}
-use Rattle.leases.specs.LeftLaws.{go_with_tokens, nothing_ends}
-use Rattle.broker_rows.specs.Left.{HaveEnded}
-use Rattle.broker_rows.specs.LeftLaws.{revoked_left}
-use Rattle.broker_rows.specs.MarkLaws.{marks_joined}
-use Rattle.broker_rows.specs.Representing.{Represents}
-use Rattle.broker_rows.specs.EndingLaws.{no_token, is_object, is_elsewhere, other_tokens}
-use Rattle.broker_rows.specs.RepresentingLaws.{leases_still, changed_leases}
+use Rattle.token_tree.specs.Tokens.{renew}
+use Rattle.broker_rows.specs.Words.{HaveEnded, revoked_left, marks_joined, Represents, no_token, is_object}
+use Rattle.broker_rows.specs.Words.{is_elsewhere, other_tokens, leases_still, changed_leases}
 
 -- ---- tokens that end
 

@@ -1,10 +1,6 @@
 -- What a revocation does: of a token with all below it, or of one alone (this project's definition).
-use Rattle.broker_types.specs.Broker.{Broker}
-use Rattle.broker_types.specs.Lineage.{without_descendants, without_parent}
-use Rattle.broker_types.specs.Operation.{Done, nothing, plainly}
-use Rattle.broker_types.specs.Spending.{drop_waiting}
-use Rattle.broker_types.specs.Text.{Text}
-use Rattle.broker_types.specs.Token.{Tokens}
+use Rattle.broker_model.specs.Words.{Broker, without_descendants, without_parent, Done, nothing, plainly, drop_waiting}
+use Rattle.broker_model.specs.Words.{Text, Tokens}
 use Rattle.token_operations.specs.declared.revocation.Descent.{Descent}
 use Rattle.token_operations.specs.declared.revocation.Descent.TheVariants.{Ends, Stays}
 

@@ -1,12 +1,6 @@
 -- The tokens of rows: what a row tells of a token, and the row of a new one (this project's definition).
-use Rattle.std.specs.Prelude.{ℕ, List, Option}
-use Rattle.std.specs.FinMap.{from_entries}
-use Rattle.broker_types.specs.Text.{Text}
-use Rattle.broker_types.specs.Map.{empty}
-use Rattle.broker_types.specs.Token.{Token}
-use Rattle.records.specs.TokenEntry.{TokenEntry, token_entry}
-use Rattle.api_json.specs.declared.token_bodies.TokenCreation.{TokenCreation}
-use Rattle.broker_model.specs.parts.TokenCreation.{new_token}
+use Rattle.broker_model.specs.Words.{ℕ, List, Option, from_entries, Text, empty, Token, TokenEntry, token_entry}
+use Rattle.broker_model.specs.Words.{TokenCreation, new_token}
 
 -- the token that a row tells, without a cubbyhole and leases
 abbrev pub token_told : TokenEntry → Token

@@ -1,19 +1,8 @@
 -- What the steps of a creation come to (this project's definition).
 use Rattle.std.specs.Prelude.{◌≡◌, Option, Result, Ok}
-use Rattle.broker_types.specs.Broker.{Broker}
-use Rattle.broker_types.specs.Map.{empty}
-use Rattle.broker_types.specs.Names.{names_of}
-use Rattle.broker_types.specs.Text.{Text}
-use Rattle.broker_types.specs.Token.{Token}
-use Rattle.broker_types.specs.TokenText.{token_text}
-use Rattle.broker_types.specs.declared.request_error.RequestError.{RequestError}
-use Rattle.records.specs.TokenEntry.{TokenEntry, token_entry}
-use Rattle.records.specs.Transaction.{Seen, IsHonest}
-use Rattle.token_tree.specs.Tokens.{MayBeMade}
-use Rattle.broker_model.specs.Forms.{forms}
-use Rattle.broker_model.specs.parts.Tokens.{made}
-use Rattle.broker_rows.specs.Context.{Context}
-use Rattle.broker_rows.specs.Operating.{ActsAs, Begins}
+use Rattle.broker_model.specs.Words.{Broker, empty, names_of, Text, Token, token_text, RequestError, TokenEntry}
+use Rattle.broker_model.specs.Words.{token_entry, Seen, IsHonest, MayBeMade, forms, made}
+use Rattle.broker_rows.specs.Words.{Context, ActsAs, Begins}
 use Rattle.broker_rows.specs.declared.answered.Answered.{Answered}
 
 -- the token of the entry is made, if it may be

@@ -1,11 +1,6 @@
 -- What commands on tokens may bring so that a broker can keep it (this project's definition).
 use Rattle.std.specs.Prelude.{◌<◌, ◌≤◌, ◌^◌, All, IsUtf8, ⊤}
-use Rattle.broker_types.specs.Duration.{longest_duration}
-use Rattle.broker_types.specs.Names.{Names}
-use Rattle.broker_types.specs.Sound.{IsIdentifier}
-use Rattle.broker_types.specs.Text.{Text}
-use Rattle.api_json.specs.KeptBodies.{IsKeptCreation}
-use Rattle.api_json.specs.declared.token_bodies.TokenCreation.{TokenCreation}
+use Rattle.broker_model.specs.Words.{longest_duration, Names, IsIdentifier, Text, IsKeptCreation, TokenCreation}
 use Rattle.broker_model.specs.declared.commands.TokenCommand.{TokenCommand}
 use Rattle.broker_model.specs.declared.commands.TokenCommand.TheVariants as command
 

@@ -1,7 +1,6 @@
 -- Sets of texts, as lists that ascend (this project's definition).
-use Rattle.std.specs.Prelude.{List, [], ◌∷◌}
-use Rattle.std.specs.BTreeSet.{insert_key}
-use Rattle.broker_types.specs.Text.{Text, text_cmp}
+use Rattle.std.specs.Prelude.{◌∷◌, List, []}
+use Rattle.broker_model.specs.Words.{insert_key, Text, text_cmp}
 
 -- the texts in their places among those of the list
 abbrev pub put_each : List Text → List Text → List Text

@@ -1,20 +1,10 @@
 -- The rows of tokens that end by themselves.
-use Rattle.std.specs.Prelude.{◌≡◌, ℕ, List, [], ◌∷◌, true, filter, Some, None, Contains}
-use Rattle.std.specs.FinMap.{get}
-use Rattle.std.specs.List.{IsDistinct}
-use Rattle.std.proofs.Common.{sym, ◌∙◌, subst, arith}
-use Rattle.std.proofs.lemmas.List.Elements.{All-nil, All-from_recursion, All-contains_itself}
-use Rattle.std.proofs.lemmas.Option.{none-some, same_Some}
-use Rattle.broker_types.specs.Text.{Text, same}
-use Rattle.broker_types.specs.TextLaws.{same_self, same_true}
+use Rattle.std.proofs.Common.{◌≡◌, ◌∷◌, ℕ, List, [], true, filter, Some, None, Contains, sym, ◌∙◌, subst, arith}
+use Rattle.records.specs.Words.{get, IsDistinct, All-nil, All-from_recursion, All-contains_itself, none-some, same_Some}
+use Rattle.records.specs.Words.{Text, same, same_self, same_true, due_each, due_whole, due_once, AreDue, RowKey}
+use Rattle.records.specs.Words.{is_of_kind, Rows}
 use Rattle.records.specs.declared.kind.Kind.TheVariants as kind
-use Rattle.records.specs.declared.row.Row.{Row}
-use Rattle.records.specs.DueLaws.{due_each, due_whole, due_once}
-use Rattle.records.specs.DueRows.{AreDue}
-use Rattle.records.specs.Kind.{RowKey, is_of_kind}
-use Rattle.records.specs.Transaction.{Rows}
-use Rattle.token_tree.specs.Ended.{has_come, is_named}
-use Rattle.token_tree.specs.Walks.{AreStarted}
+use Rattle.token_tree.specs.Words.{Row, has_come, is_named, AreStarted}
 use Rattle.token_tree.proofs.Found.{lone_token}
 
 nobody : IsDistinct same []

@@ -1,19 +1,9 @@
 -- What a walk adds is below what it began with, whatever that is.
-use Rattle.std.specs.Prelude.{◌≡◌, ◌<◌, ◌&&◌, ◌++◌, ℕ, List, [], true, not, length, get_or, filter, Some, All}
-use Rattle.std.specs.FinMap.{get}
-use Rattle.std.proofs.Common.{sym, ◌∙◌, ap, append_assoc}
-use Rattle.std.proofs.lemmas.Bool.{and_parts}
-use Rattle.std.proofs.lemmas.List.{append-nil}
-use Rattle.std.proofs.lemmas.List.Elements.{All-append, All-filter, All-nil}
-use Rattle.broker_types.specs.Text.{Text, same}
+use Rattle.std.proofs.Common.{◌≡◌, ◌<◌, ◌&&◌, ◌++◌, ℕ, List, [], true, not, length, get_or, filter, Some, All, sym, ◌∙◌}
+use Rattle.records.specs.Words.{get, ap, append_assoc, and_parts, append-nil, All-append, All-filter, All-nil, Text}
+use Rattle.records.specs.Words.{same, passing_each, RowKey, is_of_kind, same_kind, Rows}
 use Rattle.records.specs.declared.kind.Kind.TheVariants as kind
-use Rattle.records.specs.declared.row.Row.{Row}
-use Rattle.records.specs.EntryLaws.{passing_each}
-use Rattle.records.specs.Kind.{RowKey, is_of_kind}
-use Rattle.records.specs.KeyLaws.{same_kind}
-use Rattle.records.specs.Transaction.{Rows}
-use Rattle.token_tree.specs.Ended.{of_owner, Start}
-use Rattle.token_tree.specs.Walks.{children, Descends}
+use Rattle.token_tree.specs.Words.{Row, of_owner, Start, children, Descends}
 use Rattle.token_tree.proofs.TokenMap.{token_each}
 use Rattle.token_tree.proofs.Walks.{to_one}
 

@@ -1,34 +1,13 @@
 -- What revocation and expiry leave of the rows, and which tokens they end.
-use Rattle.std.specs.Prelude.{◌≡◌, ◌||◌, ℕ, List, [], ◌∷◌, Bool, true, false, not, None, Result, Ok, Err, IfOk, OnOk}
-use Rattle.std.proofs.Common.{refl, sym, ◌∙◌, ap, subst, inl, inr}
-use Rattle.std.proofs.Math.Bool.{not-not}
-use Rattle.broker_types.specs.Text.{Text}
-use Rattle.broker_types.specs.Map.{get, keep}
-use Rattle.broker_types.specs.Broker.{Broker, revoke}
-use Rattle.broker_types.specs.Lineage.{is_under, is_alive, with_live_leases}
-use Rattle.broker_types.specs.Sound.{Forms, IsTokenText}
-use Rattle.broker_types.specs.LineageLaws.{revoke_unknown}
-use Rattle.broker_types.specs.TextLaws.{same_self}
-use Rattle.broker_types.specs.TreeLaws.{under_tokens}
-use Rattle.broker_types.specs.OptionLaws.{found_or_not}
-use Rattle.records.specs.declared.kind.Kind.{Kind}
+use Rattle.std.proofs.Common.{◌≡◌, ◌||◌, ◌∷◌, ℕ, List, [], Bool, true, false, not, None, Result, Ok, Err, IfOk, OnOk}
+use Rattle.records.specs.Words.{refl, sym, ◌∙◌, ap, subst, inl, inr, not-not, Text, get, keep, Broker, revoke, is_under}
+use Rattle.records.specs.Words.{is_alive, with_live_leases, Forms, IsTokenText, revoke_unknown, same_self, under_tokens}
+use Rattle.records.specs.Words.{found_or_not, RowKey, of_tokens, Tells, KeepsOthers, rows_of, table_of-injective}
+use Rattle.records.specs.Words.{table_of, token_entry, Rows, rows_under, token_in_range, has}
+use Rattle.token_tree.specs.Words.{Kind, Row, has_come, is_named, IsDescent, Start, RepresentsTokens, AreEnded}
+use Rattle.token_tree.specs.Words.{has_ended, without_expired, ended_by_revocation, ended_by_now, EndsDescent}
+use Rattle.token_tree.specs.Words.{IsTokenRow, HasDamagedDescent}
 use Rattle.records.specs.declared.kind.Kind.TheVariants as kind
-use Rattle.records.specs.declared.row.Row.{Row}
-use Rattle.records.specs.Kind.{RowKey}
-use Rattle.records.specs.Parts.{of_tokens, Tells, KeepsOthers}
-use Rattle.records.specs.Rows.{rows_of}
-use Rattle.records.specs.TableLaws.{table_of-injective}
-use Rattle.records.specs.Table.{table_of}
-use Rattle.records.specs.TokenEntry.{token_entry}
-use Rattle.records.specs.Transaction.{Rows, rows_under}
-use Rattle.records.specs.RangeLaws.{token_in_range}
-use Rattle.records.specs.Children.{has}
-use Rattle.token_tree.specs.Ended.{has_come, is_named, IsDescent, Start}
-use Rattle.token_tree.specs.Tokens.{RepresentsTokens, AreEnded, has_ended, without_expired}
-use Rattle.token_tree.specs.EndedLaws.{ended_by_revocation, ended_by_now}
-use Rattle.token_tree.specs.Endings.{EndsDescent}
-use Rattle.token_tree.specs.Removed.{IsTokenRow}
-use Rattle.token_tree.specs.Walks.{HasDamagedDescent}
 use Rattle.token_tree.proofs.Taken.{without_ended, AreReadableEnded}
 use Rattle.token_tree.proofs.Fates.{IsFate, fated, under_fate, expired_fate}
 use Rattle.token_tree.proofs.ListedTokens.{each_listed, lists_tokens}

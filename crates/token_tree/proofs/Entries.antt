@@ -1,20 +1,11 @@
 -- Rows of tokens in a list, by their texts.
-use Rattle.std.specs.Prelude.{◌≡◌, ◌<◌, ◌||◌, ◌++◌, ℕ, zero, suc, List, [], ◌∷◌, Bool, true, false, length, take}
-use Rattle.std.specs.Prelude.{get_or, Some, Contains}
-use Rattle.std.specs.FinMap.{get}
-use Rattle.std.specs.List.{AllByRecursion, IsDistinct}
-use Rattle.std.proofs.Common.{refl, sym, ◌∙◌, ap, subst, arith}
-use Rattle.std.proofs.lemmas.Bool.{false≢true, or_left, or_right, or_parts}
-use Rattle.std.proofs.lemmas.List.Elements.{All-contains, All-from_recursion, All-contains_itself, Contains-append_left}
-use Rattle.std.proofs.lemmas.List.Elements.{Contains-append_right}
-use Rattle.broker_types.specs.Text.{Text, same}
-use Rattle.broker_types.specs.TextLaws.{same_self, same_true, same_equiv}
+use Rattle.std.proofs.Common.{◌≡◌, ◌<◌, ◌||◌, ◌++◌, ◌∷◌, ℕ, zero, suc, List, [], Bool, true, false, length, take, Some}
+use Rattle.records.specs.Words.{get_or, Contains, get, AllByRecursion, IsDistinct, refl, sym, ◌∙◌, ap, subst, arith}
+use Rattle.records.specs.Words.{false≢true, or_left, or_right, or_parts, All-contains, All-from_recursion}
+use Rattle.records.specs.Words.{All-contains_itself, Contains-append_left, Contains-append_right, Text, same, same_self}
+use Rattle.records.specs.Words.{same_true, same_equiv, has, RowKey, Rows}
 use Rattle.records.specs.declared.kind.Kind.TheVariants as kind
-use Rattle.records.specs.declared.row.Row.{Row}
-use Rattle.records.specs.Children.{has}
-use Rattle.records.specs.Kind.{RowKey}
-use Rattle.records.specs.Transaction.{Rows}
-use Rattle.token_tree.specs.Walks.{texts, AreTokens}
+use Rattle.token_tree.specs.Words.{Row, texts, AreTokens}
 
 abbrev Entry : Type 0
 Entry = RowKey × Row

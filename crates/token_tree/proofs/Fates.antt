@@ -1,21 +1,11 @@
 -- What the passes collect is what ends: what does so by itself, and each child of what ends.
-use Rattle.std.specs.Prelude.{◌≡◌, ℕ, zero, suc, List, [], ◌∷◌, Bool, true, false, not, ◌&&◌, ◌||◌, nat_lt, nat_le}
-use Rattle.std.specs.Prelude.{Option, Some, None, unwrap_or}
-use Rattle.std.specs.Prelude.{option_and_then}
-use Rattle.std.specs.Cmp.{both_ways}
-use Rattle.std.specs.List.{list_any, list_all}
-use Rattle.std.specs.Option.{option_map_or}
-use Rattle.std.proofs.Common.{refl, sym, ◌∙◌, ap, inl, inr, arith}
-use Rattle.std.proofs.lemmas.Bool.Decides.{nat_tests}
-use Rattle.broker_types.specs.Text.{Text, same}
-use Rattle.broker_types.specs.Map.{get, len}
-use Rattle.broker_types.specs.Token.{Token, Tokens}
-use Rattle.broker_types.specs.Lineage.{lineage, is_under, is_alive, outlasts, ends_within, ChainsEnd}
-use Rattle.std.proofs.lemmas.Bool.{false≢true, or_left, or_right}
-use Rattle.broker_types.specs.OptionLaws.{found_or_not, is_nothing}
-use Rattle.broker_types.specs.TreeLaws.{lineage_none, lineage_orphan, lineage_child}
-use Rattle.records.specs.Children.{has}
-use Rattle.token_tree.specs.Ended.{goes, of_owner, has_come, is_named, IsDescent, Start}
+use Rattle.std.proofs.Common.{◌≡◌, ◌∷◌, ◌&&◌, ◌||◌, ℕ, zero, suc, List, [], Bool, true, false, not, nat_lt, nat_le, sym}
+use Rattle.records.specs.Words.{Option, Some, None, unwrap_or, option_and_then, both_ways, list_any, list_all}
+use Rattle.records.specs.Words.{option_map_or, refl, ◌∙◌, ap, inl, inr, arith, nat_tests, Text, same, get, len, Token}
+use Rattle.records.specs.Words.{Tokens, lineage, is_under, is_alive, outlasts, ends_within, ChainsEnd, false≢true}
+use Rattle.records.specs.Words.{or_left, or_right, found_or_not, is_nothing, lineage_none, lineage_orphan}
+use Rattle.records.specs.Words.{lineage_child, has}
+use Rattle.token_tree.specs.Words.{goes, of_owner, has_come, is_named, IsDescent, Start}
 use Rattle.token_tree.proofs.ListedTokens.{node, listing, each_listed, listed_at}
 
 -- the texts that end by a start

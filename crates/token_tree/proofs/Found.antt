@@ -1,31 +1,15 @@
 -- The rows that a walk found, in place of those of all tokens.
-use Rattle.std.specs.Prelude.{◌≡◌, ◌&&◌, not, ℕ, List, [], ◌∷◌, Bool, true, false, if◌then◌else◌, filter, nat_eq, None}
-use Rattle.std.specs.Prelude.{Some}
-use Rattle.std.specs.Cmp.{both_ways}
-use Rattle.std.specs.FinMap.{get, entries}
+use Rattle.std.proofs.Common.{◌≡◌, ◌&&◌, ◌∷◌, if◌then◌else◌, not, ℕ, List, [], Bool, true, false, filter, nat_eq, None}
+use Rattle.records.specs.Words.{Some, both_ways, get, entries, AllByRecursion, list_any, starts_with, IsDistinct, refl}
+use Rattle.records.specs.Words.{sym, ◌∙◌, ap, subst, false≢true, and_parts, or_left, All-contains, All-from_recursion}
+use Rattle.records.specs.Words.{recursion_from_All, Contains-get_or, filter_agree, any_contained, passing, Text, same}
+use Rattle.records.specs.Words.{same_self, has, RowKey, is_of_kind, of_tokens, KeepsOthers, table_of}
+use Rattle.records.specs.Words.{table_of-injective, Rows, rows_under, rows_owned}
 use Rattle.std.specs.FinMap as fin
-use Rattle.std.specs.List.{AllByRecursion, list_any, starts_with, IsDistinct}
-use Rattle.std.proofs.Common.{refl, sym, ◌∙◌, ap, subst}
-use Rattle.std.proofs.lemmas.Bool.{false≢true, and_parts, or_left}
-use Rattle.std.proofs.lemmas.List.Elements.{All-contains, All-from_recursion, recursion_from_All, Contains-get_or}
-use Rattle.std.proofs.lemmas.List.Elements.{filter_agree}
-use Rattle.broker_types.specs.ListLaws.{any_contained, passing}
-use Rattle.broker_types.specs.Text.{Text, same}
-use Rattle.broker_types.specs.TextLaws.{same_self}
-use Rattle.records.specs.declared.kind.Kind.{Kind}
+use Rattle.token_tree.specs.Words.{Kind, Row, IsDescent, Start, of_owner, AreTokenRows, EndsDescent, IsDamagedDescent}
+use Rattle.token_tree.specs.Words.{is_child, orphaned, without_parent, without_token, without_each, IsTokenRow}
+use Rattle.token_tree.specs.Words.{children, texts, AreTokens, HasDamagedDescent}
 use Rattle.records.specs.declared.kind.Kind.TheVariants as kind
-use Rattle.records.specs.declared.row.Row.{Row}
-use Rattle.records.specs.Children.{has}
-use Rattle.records.specs.Kind.{RowKey, is_of_kind}
-use Rattle.records.specs.Parts.{of_tokens, KeepsOthers}
-use Rattle.records.specs.Table.{table_of}
-use Rattle.records.specs.TableLaws.{table_of-injective}
-use Rattle.records.specs.Transaction.{Rows, rows_under, rows_owned}
-use Rattle.token_tree.specs.Ended.{IsDescent, Start, of_owner}
-use Rattle.token_tree.specs.Endings.{AreTokenRows, EndsDescent, IsDamagedDescent}
-use Rattle.token_tree.specs.Orphaned.{is_child, orphaned, without_parent}
-use Rattle.token_tree.specs.Removed.{without_token, without_each, IsTokenRow}
-use Rattle.token_tree.specs.Walks.{children, texts, AreTokens, HasDamagedDescent}
 use Rattle.token_tree.proofs.Entries.{has_texts, has_text, entry_is, at_text}
 use Rattle.token_tree.proofs.Removals.{takes, table_of-without_ended, others_stay}
 use Rattle.token_tree.proofs.Taken.{AreReadableEnded, without_ended}

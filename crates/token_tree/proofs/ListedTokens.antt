@@ -1,26 +1,10 @@
 -- The rows of tokens, listed.
-use Rattle.std.specs.Prelude.{◌≡◌, List, [], ◌∷◌, true, false, cond, map, Some, All}
-use Rattle.std.specs.List.{AllByRecursion}
-use Rattle.std.specs.Map.{lookup}
-use Rattle.std.proofs.Common.{refl, sym, ◌∙◌, subst}
-use Rattle.std.proofs.lemmas.List.Elements.{All-head, All-tail}
-use Rattle.broker_types.specs.Text.{Text, same}
-use Rattle.broker_types.specs.Map.{get, entries}
-use Rattle.broker_types.specs.Token.{Token, Tokens}
-use Rattle.broker_types.specs.Broker.{Broker}
-use Rattle.std.proofs.lemmas.Option.{none-some, same_Some}
-use Rattle.broker_types.specs.MapLaws.{get-lookup}
-use Rattle.broker_types.specs.SearchLaws.{each_entry}
-use Rattle.broker_types.specs.TextLaws.{same_true}
+use Rattle.std.proofs.Common.{◌≡◌, ◌∷◌, List, [], true, false, cond, map, Some, All, refl, sym, ◌∙◌, subst}
+use Rattle.records.specs.Words.{AllByRecursion, lookup, All-head, All-tail, Text, same, get, entries, Token, Tokens}
+use Rattle.records.specs.Words.{Broker, none-some, same_Some, get-lookup, each_entry, same_true, RowKey, of_tokens}
+use Rattle.records.specs.Words.{Tells, token_row, rows_of, table_of, Rows, rows_under, rows_under-listing}
 use Rattle.records.specs.declared.kind.Kind.TheVariants as kind
-use Rattle.records.specs.declared.row.Row.{Row}
-use Rattle.records.specs.Kind.{RowKey}
-use Rattle.records.specs.Parts.{of_tokens, Tells}
-use Rattle.records.specs.RowForms.{token_row}
-use Rattle.records.specs.Rows.{rows_of}
-use Rattle.records.specs.Table.{table_of}
-use Rattle.records.specs.Transaction.{Rows, rows_under}
-use Rattle.records.specs.ListingLaws.{rows_under-listing}
+use Rattle.token_tree.specs.Words.{Row}
 
 -- the entry of a token
 abbrev pub node : Text → Token → RowKey × Row

@@ -1,40 +1,19 @@
 -- The rows of accessors, and the tokens that they name.
-use Rattle.std.specs.Prelude.{◌≡◌, List, [], ◌∷◌, ◌++◌, Bool, true, false, cond, if◌then◌else◌, Option, Some, None}
-use Rattle.std.specs.Prelude.{option_map, option_and_then, map}
-use Rattle.std.specs.Prelude.{All, filter}
-use Rattle.std.specs.Cmp.Lexicographic.{nat_list_cmp_total}
-use Rattle.std.specs.FinMap.{find, from_entries, get-from_entries, get-entries, entries_sorted}
-use Rattle.std.specs.FinMap.{slice_cmp-IsAntisymmetric, nat_cmp-IsAntisymmetric}
-use Rattle.std.specs.FinMap.Entries.{find-where_key, is_sorted-where_key, where_key}
-use Rattle.std.specs.List.{AllByRecursion, find as first}
-use Rattle.std.specs.Option.{option_map_or}
-use Rattle.std.specs.Ordering.{eq_by_cmp}
-use Rattle.std.proofs.Common.{refl, sym, ◌∙◌, ap, subst, append_assoc}
-use Rattle.std.proofs.lemmas.List.{append-nil}
-use Rattle.std.proofs.lemmas.List.Elements.{All-head, All-tail}
-use Rattle.broker_types.specs.Text.{Text, text_cmp, same}
-use Rattle.broker_types.specs.TextLaws.{same-text_cmp, same_self, same_true, same_equiv}
-use Rattle.broker_types.specs.Map.{Map, get, entries, first_where, with_values}
-use Rattle.broker_types.specs.MapLaws.{listing_is}
-use Rattle.broker_types.specs.SearchLaws.{each_entry, first_where_is, first_where_only}
-use Rattle.broker_types.specs.OptionLaws.{mapped}
-use Rattle.broker_types.specs.IdentifierPlaces.{OnePlaceEach}
-use Rattle.broker_types.specs.Token.{Token}
-use Rattle.broker_types.specs.Broker.{Broker, Waiting}
+use Rattle.std.proofs.Common.{◌≡◌, ◌∷◌, ◌++◌, if◌then◌else◌, List, [], Bool, true, false, cond, Option, Some, None, map}
+use Rattle.records.specs.Words.{option_map, option_and_then, All, filter, nat_list_cmp_total, find, from_entries}
+use Rattle.records.specs.Words.{get-from_entries, get-entries, entries_sorted, slice_cmp-IsAntisymmetric}
+use Rattle.records.specs.Words.{nat_cmp-IsAntisymmetric, find-where_key, is_sorted-where_key, where_key, AllByRecursion}
+use Rattle.records.specs.Words.{option_map_or, eq_by_cmp, refl, sym, ◌∙◌, ap, subst, append_assoc, append-nil, All-head}
+use Rattle.records.specs.Words.{All-tail, Text, text_cmp, same, same-text_cmp, same_self, same_true, same_equiv, Map}
+use Rattle.records.specs.Words.{get, entries, first_where, with_values, listing_is, each_entry, first_where_is}
+use Rattle.records.specs.Words.{first_where_only, mapped, OnePlaceEach, Token, Broker, Waiting, RowKey}
+use Rattle.records.specs.Words.{rows_under-listing, of_tokens, Tells, accessor_row, rows_of, or_else, table_of, Rows}
+use Rattle.records.specs.Words.{rows_under}
+use Rattle.std.specs.List.{find as first}
 use Rattle.records.specs.declared.holder.Holder.TheVariants as holder
 use Rattle.records.specs.declared.kind.Kind.TheVariants as kind
-use Rattle.records.specs.declared.row.Row.{Row}
-use Rattle.records.specs.Kind.{RowKey}
-use Rattle.records.specs.ListingLaws.{rows_under-listing}
-use Rattle.records.specs.Parts.{of_tokens, Tells}
-use Rattle.records.specs.RowForms.{accessor_row}
-use Rattle.records.specs.Rows.{rows_of, or_else}
-use Rattle.records.specs.Table.{table_of}
-use Rattle.records.specs.Transaction.{Rows, rows_under}
-use Rattle.token_tree.specs.AccessorLaws.{names_token_is}
-use Rattle.token_tree.specs.Accessors.{IsAccessorRow, Named, named_row, is_of_token, token_of, names_token}
-use Rattle.token_tree.specs.Accessors.{with_accessors}
-use Rattle.token_tree.specs.Tokens.{has_accessor, by_accessor, find_accessor, accessors_of}
+use Rattle.token_tree.specs.Words.{Row, names_token_is, IsAccessorRow, Named, named_row, is_of_token, token_of}
+use Rattle.token_tree.specs.Words.{names_token, with_accessors, has_accessor, by_accessor, find_accessor, accessors_of}
 use Rattle.token_tree.proofs.Removals.{one_accessor}
 
 -- a search by key among entries that are made of a map's

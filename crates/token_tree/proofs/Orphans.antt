@@ -1,44 +1,22 @@
 -- The rows of tokens after one of them is revoked alone.
-use Rattle.std.specs.Prelude.{◌≡◌, List, [], ◌∷◌, Bool, true, false, not, cond, ◌&&◌, ◌||◌, if◌then◌else◌, Option, Some}
-use Rattle.std.specs.Prelude.{None, option_map, option_and_then}
-use Rattle.std.specs.Prelude.{unwrap_or, is_some, is_none, map}
-use Rattle.std.specs.List.{list_any, find, IsDistinct}
+use Rattle.std.proofs.Common.{◌≡◌, ◌∷◌, ◌&&◌, ◌||◌, if◌then◌else◌, List, [], Bool, true, false, not, cond, Option, Some}
+use Rattle.records.specs.Words.{None, option_map, option_and_then, unwrap_or, is_some, is_none, map, list_any}
+use Rattle.records.specs.Words.{IsDistinct, and-false, refl, sym, ◌∙◌, ap, subst, inl, inr, Text, same, get, entries}
+use Rattle.records.specs.Words.{keep, without, first_where, map_values, Token, Tokens, orphaned_by, Broker}
+use Rattle.records.specs.Words.{revoke_orphan, Forms, false≢true, and_parts, none-some, found_or_not, mapped}
+use Rattle.records.specs.Words.{mapped_none, mapped_unseen, get-keep, get-without, get-map_values}
+use Rattle.records.specs.Words.{first_where-map_values, same_map, first_where_is, first_where_none, each_entry}
+use Rattle.records.specs.Words.{same_self, same_true, same_equiv, orphan_unknown, IsDistinct-push, All-head, All-tail}
+use Rattle.records.specs.Words.{All, RowKey, of_tokens, Tells, KeepsOthers, token_row, accessor_row, rows_of, or_else}
+use Rattle.records.specs.Words.{Table, table_of, Rows, rows_under, table_of-insert, by_token_kind}
+use Rattle.std.specs.List.{find}
 use Rattle.std.specs.FinMap as fin
-use Rattle.std.proofs.Math.Bool.{and-false}
-use Rattle.std.proofs.Common.{refl, sym, ◌∙◌, ap, subst, inl, inr}
-use Rattle.broker_types.specs.Text.{Text, same}
-use Rattle.broker_types.specs.Map.{get, entries, keep, without, first_where, map_values}
-use Rattle.broker_types.specs.Token.{Token, Tokens}
-use Rattle.broker_types.specs.Lineage.{orphaned_by}
-use Rattle.broker_types.specs.Broker.{Broker, revoke_orphan}
-use Rattle.broker_types.specs.Sound.{Forms}
-use Rattle.std.proofs.lemmas.Bool.{false≢true, and_parts}
-use Rattle.std.proofs.lemmas.Option.{none-some}
-use Rattle.broker_types.specs.OptionLaws.{found_or_not, mapped, mapped_none}
-use Rattle.records.specs.ValueLaws.{mapped_unseen}
-use Rattle.broker_types.specs.MapLaws.{get-keep, get-without, get-map_values, first_where-map_values, same_map}
-use Rattle.broker_types.specs.SearchLaws.{first_where_is, first_where_none, each_entry}
-use Rattle.broker_types.specs.TextLaws.{same_self, same_true, same_equiv}
-use Rattle.broker_types.specs.TreeLaws.{orphan_unknown}
-use Rattle.std.proofs.lemmas.Map.Keys.{IsDistinct-push}
-use Rattle.std.proofs.lemmas.List.Elements.{All-head, All-tail}
-use Rattle.std.specs.Prelude.{All}
 use Rattle.records.specs.declared.holder.Holder.TheVariants as holder
 use Rattle.records.specs.declared.kind.Kind.TheVariants as kind
-use Rattle.records.specs.declared.row.Row.{Row}
-use Rattle.records.specs.Kind.{RowKey}
-use Rattle.records.specs.Parts.{of_tokens, Tells, KeepsOthers}
-use Rattle.records.specs.RowForms.{token_row, accessor_row}
-use Rattle.records.specs.Rows.{rows_of, or_else}
-use Rattle.records.specs.Table.{Table, table_of}
-use Rattle.records.specs.Transaction.{Rows, rows_under}
-use Rattle.records.specs.TableLaws.{table_of-insert}
-use Rattle.records.specs.PartLaws.{by_token_kind}
-use Rattle.token_tree.specs.Orphaned.{is_child, orphaned, without_parent}
+use Rattle.token_tree.specs.Words.{Row, is_child, orphaned, without_parent, has_accessor, has_ended, RepresentsTokens}
+use Rattle.token_tree.specs.Words.{AreEnded, ended_by_revocation_alone}
 use Rattle.token_tree.proofs.Taken.{without_ended}
 use Rattle.token_tree.proofs.ListedTokens.{node, listing, lists_tokens}
-use Rattle.token_tree.specs.Tokens.{has_accessor, has_ended, RepresentsTokens, AreEnded}
-use Rattle.token_tree.specs.EndedLaws.{ended_by_revocation_alone}
 use Rattle.token_tree.proofs.Removals.{tells_kept}
 use Rattle.token_tree.proofs.Singles.{joined, waits, put_keeps, token_row_at}
 

@@ -1,41 +1,19 @@
 -- The table without the rows of tokens that ended.
-use Rattle.std.specs.Prelude.{◌≡◌, List, [], ◌∷◌, Bool, true, false, not, cond, ◌&&◌, ◌||◌, Option, Some, None}
-use Rattle.std.specs.Prelude.{option_map, is_some}
-use Rattle.std.specs.Prelude.{map, if◌then◌else◌}
-use Rattle.std.specs.List.{list_any, find}
+use Rattle.std.proofs.Common.{◌≡◌, ◌∷◌, ◌&&◌, ◌||◌, if◌then◌else◌, List, [], Bool, true, false, not, cond, Option, Some}
+use Rattle.records.specs.Words.{None, option_map, is_some, map, list_any, refl, sym, ◌∙◌, ap, inl, inr, Text, same, get}
+use Rattle.records.specs.Words.{entries, keep, first_where, map_values, Token, Tokens, Broker, Waiting, Forms}
+use Rattle.records.specs.Words.{SoundTokens, accessor, wrapping_accessor, place_token, OnePlaceEach, or-false}
+use Rattle.records.specs.Words.{false≢true, and_parts, found_or_not, taken_out_twice, get-keep, get-map_values}
+use Rattle.records.specs.Words.{first_where-map_values, OnePasses, first_where_is, first_where_none, first_where-keep}
+use Rattle.records.specs.Words.{if_kept, same_self, same_true, token_tells, accessor_in, RowKey, of_tokens, Tells}
+use Rattle.records.specs.Words.{KeepsOthers, token_row, accessor_row, rows_of, or_else, table_of, is_at, without_row}
+use Rattle.records.specs.Words.{token_entry, Rows, table_of-remove, token_in_range, has}
+use Rattle.std.specs.List.{find}
 use Rattle.std.specs.FinMap as fin
-use Rattle.std.proofs.Common.{refl, sym, ◌∙◌, ap, inl, inr}
-use Rattle.broker_types.specs.Text.{Text, same}
-use Rattle.broker_types.specs.Map.{get, entries, keep, first_where, map_values}
-use Rattle.broker_types.specs.Token.{Token, Tokens}
-use Rattle.broker_types.specs.Broker.{Broker, Waiting}
-use Rattle.broker_types.specs.Sound.{Forms, SoundTokens}
-use Rattle.broker_types.specs.IdentifierPlaces.{accessor, wrapping_accessor, place_token, OnePlaceEach}
-use Rattle.std.proofs.Math.Bool.{or-false}
-use Rattle.std.proofs.lemmas.Bool.{false≢true, and_parts}
-use Rattle.broker_types.specs.OptionLaws.{found_or_not, taken_out_twice}
-use Rattle.broker_types.specs.MapLaws.{get-keep, get-map_values, first_where-map_values}
-use Rattle.broker_types.specs.SearchLaws.{OnePasses, first_where_is, first_where_none, first_where-keep, if_kept}
-use Rattle.broker_types.specs.TextLaws.{same_self, same_true}
 use Rattle.records.specs.declared.holder.Holder.TheVariants as holder
-use Rattle.records.specs.declared.kind.Kind.{Kind}
+use Rattle.token_tree.specs.Words.{Kind, Row, without_token, has_accessor}
 use Rattle.records.specs.declared.kind.Kind.TheVariants as kind
-use Rattle.records.specs.declared.row.Row.{Row}
-use Rattle.records.specs.AccessorLaws.{token_tells}
-use Rattle.records.specs.Accessors.{accessor_in}
-use Rattle.records.specs.Kind.{RowKey}
-use Rattle.records.specs.Parts.{of_tokens, Tells, KeepsOthers}
-use Rattle.records.specs.RowForms.{token_row, accessor_row}
-use Rattle.records.specs.Rows.{rows_of, or_else}
-use Rattle.records.specs.Table.{table_of, is_at, without_row}
-use Rattle.records.specs.TokenEntry.{token_entry}
-use Rattle.records.specs.Transaction.{Rows}
-use Rattle.records.specs.TableLaws.{table_of-remove}
-use Rattle.records.specs.RangeLaws.{token_in_range}
-use Rattle.records.specs.Children.{has}
-use Rattle.token_tree.specs.Removed.{without_token}
 use Rattle.token_tree.proofs.Taken.{without_ended}
-use Rattle.token_tree.specs.Tokens.{has_accessor}
 use Rattle.token_tree.proofs.ListedTokens.{node, listing}
 
 -- ---- which rows are taken out

@@ -1,31 +1,16 @@
 -- The rows of tokens after one is made or changed.
-use Rattle.std.specs.Prelude.{◌≡◌, ◌≢◌, Bool, true, false, cond, if◌then◌else◌, Option, Some, None, option_map}
+use Rattle.std.proofs.Common.{◌≡◌, ◌≢◌, if◌then◌else◌, Bool, true, false, cond, Option, Some, None, option_map, refl}
 use Rattle.std.specs.FinMap as fin
-use Rattle.std.proofs.Common.{refl, sym, ◌∙◌, ap, inl, inr}
-use Rattle.broker_types.specs.Text.{Text, same}
-use Rattle.broker_types.specs.Map.{get, put, change, first_where}
-use Rattle.broker_types.specs.Token.{Token, Tokens}
-use Rattle.broker_types.specs.Broker.{Broker, Waiting}
-use Rattle.broker_types.specs.Evolves.{IsNew}
-use Rattle.broker_types.specs.IdentifierPlaces.{token, accessor, token_identifier, OnePlaceEach, AllUsed}
-use Rattle.std.proofs.lemmas.Bool.{false≢true}
-use Rattle.std.proofs.lemmas.Option.{none-some, same_Some}
-use Rattle.broker_types.specs.OptionLaws.{found_or_not}
-use Rattle.records.specs.ValueLaws.{mapped_unseen, unseen}
-use Rattle.broker_types.specs.MapLaws.{get-put, get-change, first_where-map_values, same_map}
-use Rattle.broker_types.specs.SearchLaws.{OnePasses, first_where_is, first_where_none, first_where_only}
-use Rattle.broker_types.specs.TextLaws.{same_self, same_true}
+use Rattle.records.specs.Words.{sym, ◌∙◌, ap, inl, inr, Text, same, get, put, change, first_where, Token, Tokens}
+use Rattle.records.specs.Words.{Broker, Waiting, IsNew, token, accessor, token_identifier, OnePlaceEach, AllUsed}
+use Rattle.records.specs.Words.{false≢true, none-some, same_Some, found_or_not, mapped_unseen, unseen, get-put}
+use Rattle.records.specs.Words.{get-change, first_where-map_values, same_map, OnePasses, first_where_is}
+use Rattle.records.specs.Words.{first_where_none, first_where_only, same_self, same_true, of_tokens, Tells, KeepsOthers}
+use Rattle.records.specs.Words.{token_row, accessor_row, rows_of, or_else, Table, table_of, with_row, Rows}
+use Rattle.records.specs.Words.{by_token_kind}
 use Rattle.records.specs.declared.holder.Holder.TheVariants as holder
-use Rattle.records.specs.declared.kind.Kind.{Kind}
+use Rattle.token_tree.specs.Words.{Kind, Row, has_accessor, with_token}
 use Rattle.records.specs.declared.kind.Kind.TheVariants as kind
-use Rattle.records.specs.declared.row.Row.{Row}
-use Rattle.records.specs.Parts.{of_tokens, Tells, KeepsOthers}
-use Rattle.records.specs.RowForms.{token_row, accessor_row}
-use Rattle.records.specs.Rows.{rows_of, or_else}
-use Rattle.records.specs.Table.{Table, table_of, with_row}
-use Rattle.records.specs.Transaction.{Rows}
-use Rattle.records.specs.PartLaws.{by_token_kind}
-use Rattle.token_tree.specs.Tokens.{has_accessor, with_token}
 use Rattle.token_tree.proofs.Removals.{one_accessor}
 
 abbrev pub waits : Broker → Text → Option Row

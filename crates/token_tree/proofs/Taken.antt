@@ -1,12 +1,7 @@
 -- The rows of the ended among those of all tokens, taken out.
-use Rattle.std.specs.Prelude.{◌≡◌, List, [], ◌∷◌, true, if◌then◌else◌}
-use Rattle.std.specs.List.{AllByRecursion}
-use Rattle.broker_types.specs.Text.{Text}
-use Rattle.records.specs.declared.row.Row.{Row}
-use Rattle.records.specs.Children.{has}
-use Rattle.records.specs.Kind.{RowKey}
-use Rattle.records.specs.Transaction.{Rows}
-use Rattle.token_tree.specs.Removed.{without_token, IsTokenRow}
+use Rattle.std.proofs.Common.{◌≡◌, ◌∷◌, if◌then◌else◌, List, [], true}
+use Rattle.records.specs.Words.{AllByRecursion, Text, has, RowKey, Rows}
+use Rattle.token_tree.specs.Words.{Row, without_token, IsTokenRow}
 
 -- the rows of the ended among the entries can be read
 abbrev pub AreReadableEnded : List Text → List (RowKey × Row) → Type 0

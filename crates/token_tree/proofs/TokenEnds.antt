@@ -1,32 +1,15 @@
 -- What the end of tokens leaves of a table, whatever its rows are.
-use Rattle.std.specs.Prelude.{◌≡◌, List, [], ◌∷◌, Bool, true, false, not, ◌&&◌, ◌||◌, if◌then◌else◌, Option, Some, None}
-use Rattle.std.specs.Prelude.{option_map, is_some}
-use Rattle.std.specs.Cmp.{both_ways}
+use Rattle.std.proofs.Common.{◌≡◌, ◌∷◌, ◌&&◌, ◌||◌, if◌then◌else◌, List, [], Bool, true, false, not, Option, Some, None}
+use Rattle.records.specs.Words.{option_map, is_some, both_ways, AllByRecursion, list_any, option_map_or, refl, sym, ◌∙◌}
+use Rattle.records.specs.Words.{ap, subst, inl, inr, or-false, false≢true, and_parts, or_right, and_from, none-some}
+use Rattle.records.specs.Words.{same_Some, found_or_not, Text, same, same_self, same_true, accessor_in, is_told, has}
+use Rattle.records.specs.Words.{RowKey, of_tokens, Table, table_of, table_of-insert, Rows, rows_under, any_from}
+use Rattle.records.specs.Words.{any_found}
 use Rattle.std.specs.FinMap as fin
-use Rattle.std.specs.List.{AllByRecursion, list_any}
-use Rattle.std.specs.Option.{option_map_or}
-use Rattle.std.proofs.Common.{refl, sym, ◌∙◌, ap, subst, inl, inr}
-use Rattle.std.proofs.Math.Bool.{or-false}
-use Rattle.std.proofs.lemmas.Bool.{false≢true, and_parts, or_right, and_from}
-use Rattle.std.proofs.lemmas.Option.{none-some, same_Some}
-use Rattle.broker_types.specs.OptionLaws.{found_or_not}
-use Rattle.broker_types.specs.Text.{Text, same}
-use Rattle.broker_types.specs.TextLaws.{same_self, same_true}
-use Rattle.records.specs.declared.kind.Kind.{Kind}
+use Rattle.token_tree.specs.Words.{Kind, Row, IsClosed, IsDescent, Start, Starts, of_owner, AllStay, AreTokenRows}
+use Rattle.token_tree.specs.Words.{EndsAlone, without_tokens, orphan_row, without_children_of, is_child, orphaned}
+use Rattle.token_tree.specs.Words.{without_parent, IsDamagedToken}
 use Rattle.records.specs.declared.kind.Kind.TheVariants as kind
-use Rattle.records.specs.declared.row.Row.{Row}
-use Rattle.records.specs.Accessors.{accessor_in, is_told}
-use Rattle.records.specs.Children.{has}
-use Rattle.records.specs.Kind.{RowKey}
-use Rattle.records.specs.Parts.{of_tokens}
-use Rattle.records.specs.Table.{Table, table_of}
-use Rattle.records.specs.TableLaws.{table_of-insert}
-use Rattle.records.specs.Transaction.{Rows, rows_under}
-use Rattle.records.specs.HasLaws.{any_from, any_found}
-use Rattle.token_tree.specs.Ended.{IsClosed, IsDescent, Start, Starts, of_owner, AllStay}
-use Rattle.token_tree.specs.Endings.{AreTokenRows, EndsAlone, without_tokens, orphan_row, without_children_of}
-use Rattle.token_tree.specs.Orphaned.{is_child, orphaned, without_parent}
-use Rattle.token_tree.specs.TokenRows.{IsDamagedToken}
 use Rattle.token_tree.proofs.Taken.{without_ended, AreReadableEnded}
 use Rattle.token_tree.proofs.Removals.{takes, table_of-without_ended, others_stay}
 use Rattle.token_tree.proofs.Orphans.{parents_keep, parents_accessors, turned}

@@ -1,28 +1,13 @@
 -- The rows of tokens as a map, and what is said of them one by one.
-use Rattle.std.specs.Prelude.{◌≡◌, List, [], ◌∷◌, Bool, true, false, cond, ◌||◌, ◌&&◌, map, filter, nat_eq, Option}
-use Rattle.std.specs.Prelude.{Some, None, option_map, All}
-use Rattle.std.specs.Cmp.Lexicographic.{nat_list_cmp_total}
+use Rattle.std.proofs.Common.{◌≡◌, ◌∷◌, ◌||◌, ◌&&◌, List, [], Bool, true, false, cond, map, filter, nat_eq, Option, All}
+use Rattle.records.specs.Words.{Some, None, option_map, nat_list_cmp_total, find, from_entries, get-from_entries}
+use Rattle.records.specs.Words.{find-where_key, AllByRecursion, list_any, starts_with, refl, sym, ◌∙◌, ap, subst}
+use Rattle.records.specs.Words.{lookup, All-head, All-tail, none-some, same_Some, false≢true, and_parts, Text, text_cmp}
+use Rattle.records.specs.Words.{same, same_true, Map, get, entries, get-lookup, each_entry, RowKey, key_cmp, is_of_kind}
+use Rattle.records.specs.Words.{key_cmp_exact, same_kind, rows_under-listing, table_of, Rows, rows_under}
 use Rattle.std.specs.FinMap as fin
-use Rattle.std.specs.FinMap.{find, from_entries, get-from_entries}
-use Rattle.std.specs.FinMap.Entries.{find-where_key}
-use Rattle.std.specs.List.{AllByRecursion, list_any, starts_with}
-use Rattle.std.proofs.Common.{refl, sym, ◌∙◌, ap, subst}
-use Rattle.std.specs.Map.{lookup}
-use Rattle.std.proofs.lemmas.List.Elements.{All-head, All-tail}
-use Rattle.std.proofs.lemmas.Option.{none-some, same_Some}
-use Rattle.std.proofs.lemmas.Bool.{false≢true, and_parts}
-use Rattle.broker_types.specs.Text.{Text, text_cmp, same}
-use Rattle.broker_types.specs.TextLaws.{same_true}
-use Rattle.broker_types.specs.Map.{Map, get, entries}
-use Rattle.broker_types.specs.MapLaws.{get-lookup}
-use Rattle.broker_types.specs.SearchLaws.{each_entry}
 use Rattle.records.specs.declared.kind.Kind.TheVariants as kind
-use Rattle.records.specs.declared.row.Row.{Row}
-use Rattle.records.specs.Kind.{RowKey, key_cmp, is_of_kind}
-use Rattle.records.specs.KeyLaws.{key_cmp_exact, same_kind}
-use Rattle.records.specs.ListingLaws.{rows_under-listing}
-use Rattle.records.specs.Table.{table_of}
-use Rattle.records.specs.Transaction.{Rows, rows_under}
+use Rattle.token_tree.specs.Words.{Row}
 
 -- ---- the map
 

@@ -1,25 +1,14 @@
 -- What a walk has found, after some of its tokens have been asked for their children.
-use Rattle.std.specs.Prelude.{◌≡◌, ◌≤◌, ◌<◌, ◌+◌, ◌||◌, ◌&&◌, ◌++◌, ℕ, zero, suc, List, [], ◌∷◌, Bool, true, false, not}
-use Rattle.std.specs.Prelude.{length, take, get_or, filter, Some, All, Contains}
-use Rattle.std.specs.FinMap.{get}
-use Rattle.std.specs.List.{IsDistinct, list_any}
-use Rattle.std.proofs.Common.{refl, sym, ◌∙◌, ap, arith, length-append}
-use Rattle.std.proofs.lemmas.Bool.{false≢true, and_parts, or_left, or_right, not-true}
-use Rattle.std.proofs.lemmas.List.{take_more}
-use Rattle.std.proofs.lemmas.List.Elements.{All-append, All-filter, All-contains, Contains-append_left}
-use Rattle.std.proofs.lemmas.List.Elements.{Contains-append_right, filter_passes}
-use Rattle.std.proofs.lemmas.Map.Made.{IsDistinct-keys_filter}
-use Rattle.broker_types.specs.Text.{Text, same}
-use Rattle.broker_types.specs.TextLaws.{same_self, same_true}
+use Rattle.std.proofs.Common.{◌≡◌, ◌≤◌, ◌<◌, ◌+◌, ◌||◌, ◌&&◌, ◌++◌, ◌∷◌, ℕ, zero, suc, List, [], Bool, true, false, not}
+use Rattle.records.specs.Words.{length, take, get_or, filter, Some, All, Contains, get, IsDistinct, list_any, refl, sym}
+use Rattle.records.specs.Words.{◌∙◌, ap, arith, length-append, false≢true, and_parts, or_left, or_right, not-true}
+use Rattle.records.specs.Words.{take_more, All-append, All-filter, All-contains, Contains-append_left}
+use Rattle.records.specs.Words.{Contains-append_right, filter_passes, IsDistinct-keys_filter, Text, same, same_self}
+use Rattle.records.specs.Words.{same_true, has, Contains-filter, passing_each, passing_whole, passing_once, texts_once}
+use Rattle.records.specs.Words.{RowKey, is_of_kind, same_kind, Rows, rows_under}
 use Rattle.records.specs.declared.kind.Kind.TheVariants as kind
-use Rattle.records.specs.declared.row.Row.{Row}
-use Rattle.records.specs.Children.{has}
-use Rattle.records.specs.EntryLaws.{Contains-filter, passing_each, passing_whole, passing_once, texts_once}
-use Rattle.records.specs.Kind.{RowKey, is_of_kind}
-use Rattle.records.specs.KeyLaws.{same_kind}
-use Rattle.records.specs.Transaction.{Rows, rows_under}
-use Rattle.token_tree.specs.Ended.{goes, has_key, of_owner, IsClosed, Start, Starts}
-use Rattle.token_tree.specs.Walks.{children, texts, AreTokens, AreStarted, AreDescending}
+use Rattle.token_tree.specs.Words.{Row, goes, has_key, of_owner, IsClosed, Start, Starts, children, texts, AreTokens}
+use Rattle.token_tree.specs.Words.{AreStarted, AreDescending}
 use Rattle.token_tree.proofs.Entries.{has_text, text_of, once-append, none_before, entry_is, at_text, text_row}
 use Rattle.token_tree.proofs.TokenMap.{each_token, token_each, token_passes}
 

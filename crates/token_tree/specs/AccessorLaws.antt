@@ -1,12 +1,9 @@
 -- What the rows of accessors say.
-use Rattle.std.specs.Prelude.{◌≡◌}
-use Rattle.std.proofs.Common.{refl, ◌∙◌, ap}
-use Rattle.broker_types.specs.Text.{same}
+use Rattle.std.proofs.Common.{◌≡◌, refl, ◌∙◌, ap}
+use Rattle.records.specs.Words.{same, accessor_row, number}
 use Rattle.records.specs.declared.holder.Holder.{Holder}
 use Rattle.records.specs.declared.holder.Holder.TheVariants as holder
 use Rattle.records.specs.declared.row.Row.{Row}
-use Rattle.records.specs.RowForms.{accessor_row}
-use Rattle.records.specs.Spelling.{number}
 use Rattle.token_tree.specs.Accessors.{Named, named_row, is_of_token, names_token}
 
 -- the row of what is named says whether that is a token

@@ -1,16 +1,11 @@
 -- The rows of accessors, whatever they are, and which of them name tokens (this project's definition).
-use Rattle.std.specs.Prelude.{◌≡◌, List, [], ◌∷◌, ◌++◌, Bool, true, false, if◌then◌else◌, map, filter}
-use Rattle.std.specs.Prelude.{Option, Some, None, option_map, option_and_then}
-use Rattle.std.specs.List.{AllByRecursion}
-use Rattle.broker_types.specs.Text.{Text, same}
+use Rattle.std.specs.Prelude.{◌≡◌, ◌∷◌, ◌++◌, if◌then◌else◌, List, [], Bool, true, false, map, filter, Option, Some}
+use Rattle.records.specs.Words.{None, option_map, option_and_then, AllByRecursion, Text, same, RowKey, accessor_row}
+use Rattle.records.specs.Words.{Table, Rows, rows_under}
 use Rattle.records.specs.declared.holder.Holder.{Holder}
 use Rattle.records.specs.declared.holder.Holder.TheVariants as holder
 use Rattle.records.specs.declared.kind.Kind.TheVariants as kind
 use Rattle.records.specs.declared.row.Row.{Row}
-use Rattle.records.specs.Kind.{RowKey}
-use Rattle.records.specs.RowForms.{accessor_row}
-use Rattle.records.specs.Table.{Table}
-use Rattle.records.specs.Transaction.{Rows, rows_under}
 
 -- ---- one accessor
 

@@ -1,12 +1,7 @@
 -- Which tokens end: those that do so by themselves, and all below them (this project's definition).
-use Rattle.std.specs.Prelude.{◌≡◌, ℕ, List, [], ◌∷◌, Bool, true, false, not, ◌&&◌, ◌||◌, nat_le}
-use Rattle.std.specs.Prelude.{map}
-use Rattle.std.specs.List.{IsDistinct, AllByRecursion}
-use Rattle.std.specs.Option.{option_map_or}
-use Rattle.broker_types.specs.Text.{Text, same}
-use Rattle.records.specs.Children.{has}
+use Rattle.std.specs.Prelude.{◌≡◌, ◌∷◌, ◌&&◌, ◌||◌, ℕ, List, [], Bool, true, false, not, nat_le, map}
+use Rattle.records.specs.Words.{IsDistinct, AllByRecursion, option_map_or, Text, same, has, RowKey}
 use Rattle.records.specs.declared.row.Row.{Row}
-use Rattle.records.specs.Kind.{RowKey}
 
 -- the texts that the entries have as keys
 abbrev pub has_key : List (RowKey × Row) → Text → Bool

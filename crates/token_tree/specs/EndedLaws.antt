@@ -1,18 +1,9 @@
 -- Which tokens end by revocation and by expiry.
-use Rattle.std.specs.Prelude.{◌≡◌, ℕ, Bool, true, false, not, cond, ◌&&◌, Option, Some, None, option_map, is_some}
-use Rattle.std.specs.Prelude.{is_none}
-use Rattle.std.specs.Prelude.{option_and_then}
-use Rattle.std.specs.List.{list_any, list_all}
-use Rattle.std.proofs.Common.{refl, sym, ◌∙◌, ap, inl, inr}
-use Rattle.std.proofs.Math.Bool.{not-not}
-use Rattle.broker_types.specs.Text.{Text, same}
-use Rattle.broker_types.specs.Map.{get, keep, without}
-use Rattle.broker_types.specs.Token.{Token, Tokens}
-use Rattle.broker_types.specs.Lineage.{is_under, is_alive, outlasts, orphaned_by, with_live_leases}
-use Rattle.broker_types.specs.Broker.{Broker, revoke, revoke_orphan}
-use Rattle.broker_types.specs.OptionLaws.{found_or_not}
-use Rattle.broker_types.specs.MapLaws.{get-keep, get-without, get-map_values}
-use Rattle.broker_types.specs.TreeLaws.{lineage_none}
+use Rattle.std.specs.Prelude.{◌≡◌, ◌&&◌, ℕ, Bool, true, false, not, cond, Option, Some, None, option_map, is_some, refl}
+use Rattle.records.specs.Words.{is_none, option_and_then, list_any, list_all, sym, ◌∙◌, ap, inl, inr, not-not, Text}
+use Rattle.records.specs.Words.{same, get, keep, without, Token, Tokens, is_under, is_alive, outlasts, orphaned_by}
+use Rattle.records.specs.Words.{with_live_leases, Broker, revoke, revoke_orphan, found_or_not, get-keep, get-without}
+use Rattle.records.specs.Words.{get-map_values, lineage_none}
 use Rattle.token_tree.specs.Tokens.{has_ended, without_expired}
 
 none_changed : (f : Token → Token) (o : Option Token) → is_none (option_map f o) ≡ is_none o

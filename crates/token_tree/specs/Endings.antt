@@ -1,13 +1,8 @@
 -- What the end of tokens makes of rows, whatever these are (this project's definition).
-use Rattle.std.specs.Prelude.{◌≡◌, List, [], ◌∷◌, true, not, ◌&&◌, if◌then◌else◌, Some, None}
-use Rattle.std.specs.Prelude.{option_map, is_some}
-use Rattle.broker_types.specs.Text.{Text, same}
+use Rattle.std.specs.Prelude.{◌≡◌, ◌∷◌, ◌&&◌, if◌then◌else◌, List, [], true, not, Some, None, option_map, is_some}
+use Rattle.records.specs.Words.{Text, same, is_told, has, Table, table_of, Rows, rows_under}
 use Rattle.records.specs.declared.kind.Kind.TheVariants as kind
 use Rattle.records.specs.declared.row.Row.{Row}
-use Rattle.records.specs.Accessors.{is_told}
-use Rattle.records.specs.Children.{has}
-use Rattle.records.specs.Table.{Table, table_of}
-use Rattle.records.specs.Transaction.{Rows, rows_under}
 use Rattle.token_tree.specs.Ended.{IsDescent, Start}
 use Rattle.token_tree.specs.Orphaned.{orphaned}
 use Rattle.token_tree.specs.Removed.{IsTokenRow}

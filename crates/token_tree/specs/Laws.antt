@@ -1,17 +1,9 @@
 -- Laws of tokens as rows, as statements (this project's; Vault's documentation, "Tokens").
-use Rattle.std.specs.Prelude.{◌≡◌, ◌≢◌, ℕ, true, false, not, ◌&&◌, Option, Some, None, is_some}
-use Rattle.broker_types.specs.Text.{Text, same}
-use Rattle.broker_types.specs.Map.{get, empty}
-use Rattle.broker_types.specs.Token.{Token}
-use Rattle.broker_types.specs.Lineage.{is_under, is_alive}
-use Rattle.broker_types.specs.Broker.{Broker, revoke, revoke_orphan}
-use Rattle.broker_types.specs.IdentifierPlaces.{OnePlaceEach, token_identifier}
-use Rattle.broker_types.specs.Evolves.{Evolves, IsNew}
-use Rattle.broker_types.specs.Sound.{Forms, Sound, IsEnd}
+use Rattle.std.specs.Prelude.{◌≡◌, ◌≢◌, ◌&&◌, ℕ, true, false, not, Option, Some, None, is_some}
+use Rattle.records.specs.Words.{Text, same, get, empty, Token, is_under, is_alive, Broker, revoke, revoke_orphan}
+use Rattle.records.specs.Words.{OnePlaceEach, token_identifier, Evolves, IsNew, Forms, Sound, IsEnd, of_tokens, Tells}
+use Rattle.records.specs.Words.{token_row, Table}
 use Rattle.records.specs.declared.kind.Kind.TheVariants as kind
-use Rattle.records.specs.Parts.{of_tokens, Tells}
-use Rattle.records.specs.RowForms.{token_row}
-use Rattle.records.specs.Table.{Table}
 use Rattle.token_tree.specs.Tokens.{find_accessor, has_ended, without_expired, created, renew, MayBeMade}
 
 -- ---- what is found after revocation

@@ -12,3 +12,4 @@ pub mod Starts
 pub mod Tokens
 pub mod TokenRows
 pub mod Walks
+pub mod Words

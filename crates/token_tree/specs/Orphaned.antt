@@ -1,11 +1,9 @@
 -- The rows of a token's children without their parent (this project's definition).
-use Rattle.std.specs.Prelude.{List, [], ◌∷◌, Bool, not, ◌&&◌, if◌then◌else◌}
+use Rattle.std.specs.Prelude.{◌∷◌, ◌&&◌, if◌then◌else◌, List, [], Bool, not}
 use Rattle.std.specs.FinMap as fin
-use Rattle.broker_types.specs.Text.{Text, same}
+use Rattle.records.specs.Words.{Text, same, RowKey, Rows}
 use Rattle.records.specs.declared.kind.Kind.TheVariants as kind
 use Rattle.records.specs.declared.row.Row.{Row}
-use Rattle.records.specs.Kind.{RowKey}
-use Rattle.records.specs.Transaction.{Rows}
 
 -- the row of a child of t
 abbrev pub is_child : Text → RowKey × Row → Bool

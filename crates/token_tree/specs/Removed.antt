@@ -1,14 +1,9 @@
 -- The rows of tokens that ended, and of their accessors, taken out (this project's definition).
-use Rattle.std.specs.Prelude.{◌≡◌, List, [], ◌∷◌}
+use Rattle.std.specs.Prelude.{◌≡◌, ◌∷◌, List, []}
 use Rattle.std.specs.FinMap as fin
 use Rattle.records.specs.declared.kind.Kind.TheVariants as kind
 use Rattle.records.specs.declared.row.Row.{Row}
-use Rattle.records.specs.Accessors.{accessor_in}
-use Rattle.records.specs.Kind.{RowKey}
-use Rattle.records.specs.Ranges.{IsTokenInRange}
-use Rattle.records.specs.RowForms.{entry_row}
-use Rattle.records.specs.TokenEntry.{TokenEntry}
-use Rattle.records.specs.Transaction.{Rows}
+use Rattle.records.specs.Words.{accessor_in, RowKey, IsTokenInRange, entry_row, TokenEntry, Rows}
 
 -- the row of a token, which can be read
 abbrev pub IsTokenRow : RowKey × Row → Type 0

@@ -1,27 +1,12 @@
 -- A renewed token and a new one leave a sound broker sound, and let it evolve.
 use Rattle.std.specs.Prelude.{◌≡◌, ◌≢◌, ℕ, zero, suc, true, false, cond, Option, Some, None, option_map, is_none, drop}
-use Rattle.std.specs.Prelude.{option_and_then}
-use Rattle.std.specs.FinMap.{get-empty}
-use Rattle.std.proofs.Common.{refl, sym, ◌∙◌, ap, subst, inl, inr}
-use Rattle.std.proofs.lemmas.Bool.{false_from_ne_true}
-use Rattle.std.proofs.lemmas.Option.{none-some, same_Some}
-use Rattle.broker_types.specs.Text.{Text, text_cmp, same}
-use Rattle.broker_types.specs.Map.{get, put, len, empty}
-use Rattle.broker_types.specs.Token.{Token, Tokens, Lease}
-use Rattle.broker_types.specs.Broker.{Broker}
-use Rattle.broker_types.specs.Evolves.{Evolves, IsNew}
-use Rattle.broker_types.specs.Lineage.{ends_within, ParentsExist, ChainsEnd}
-use Rattle.broker_types.specs.IdentifierPlaces.{token, accessor, lease, credential, wrapping_token, wrapping_accessor}
-use Rattle.broker_types.specs.IdentifierPlaces.{lease_of, token_identifier, lease_identifier}
-use Rattle.broker_types.specs.Sound.{Forms, Sound, IsEnd, IsIdentifier, IsSoundToken}
-use Rattle.broker_types.specs.EditLaws.{IsEdit, edit_evolves, edit_sound, unspent_still}
-use Rattle.broker_types.specs.FewerLaws.{edited_sound}
-use Rattle.broker_types.specs.LineageLaws.{ends_above, ends_at, ends_in_time}
-use Rattle.broker_types.specs.MapLaws.{get-put, get-put_self}
-use Rattle.broker_types.specs.NewPlaceLaws.{HasTwoMore, still_marked, sound_with_two}
-use Rattle.broker_types.specs.OptionLaws.{mapped}
-use Rattle.broker_types.specs.PutLaws.{put_is}
-use Rattle.broker_types.specs.TextLaws.{same_true}
+use Rattle.records.specs.Words.{option_and_then, get-empty, refl, sym, ◌∙◌, ap, subst, inl, inr, false_from_ne_true}
+use Rattle.records.specs.Words.{none-some, same_Some, Text, text_cmp, same, get, put, len, empty, Token, Tokens, Lease}
+use Rattle.records.specs.Words.{Broker, Evolves, IsNew, ends_within, ParentsExist, ChainsEnd, token, accessor, lease}
+use Rattle.records.specs.Words.{credential, wrapping_token, wrapping_accessor, lease_of, token_identifier}
+use Rattle.records.specs.Words.{lease_identifier, Forms, Sound, IsEnd, IsIdentifier, IsSoundToken, IsEdit, edit_evolves}
+use Rattle.records.specs.Words.{edit_sound, unspent_still, edited_sound, ends_above, ends_at, ends_in_time, get-put}
+use Rattle.records.specs.Words.{get-put_self, HasTwoMore, still_marked, sound_with_two, mapped, put_is, same_true}
 use Rattle.token_tree.specs.Tokens.{with_end, renew, created, MayBeMade}
 
 -- ---- a renewal

@@ -1,18 +1,8 @@
 -- What the row of a token says once a use is spent.
-use Rattle.std.specs.Prelude.{◌≡◌, Bool, true, if◌then◌else◌, Option, Some, None, option_map}
-use Rattle.std.proofs.Common.{refl, sym, ◌∙◌, ap}
-use Rattle.broker_types.specs.Broker.{Broker}
-use Rattle.broker_types.specs.Map.{get}
-use Rattle.broker_types.specs.MapLaws.{get-change}
-use Rattle.broker_types.specs.OptionLaws.{mapped_none}
-use Rattle.broker_types.specs.Spending.{spend, one_less}
-use Rattle.broker_types.specs.Text.{Text}
-use Rattle.broker_types.specs.TextLaws.{same_self}
-use Rattle.broker_types.specs.Token.{Token}
+use Rattle.std.proofs.Common.{◌≡◌, if◌then◌else◌, Bool, true, Option, Some, None, option_map, refl, sym, ◌∙◌, ap}
+use Rattle.records.specs.Words.{Broker, get, get-change, mapped_none, spend, one_less, Text, same_self, Token}
+use Rattle.records.specs.Words.{entry_row, Table, token_entry}
 use Rattle.records.specs.declared.kind.Kind.TheVariants as kind
-use Rattle.records.specs.RowForms.{entry_row}
-use Rattle.records.specs.Table.{Table}
-use Rattle.records.specs.TokenEntry.{token_entry}
 use Rattle.token_tree.specs.TokenRows.{SpendsUse, spent_entry, with_entry}
 
 -- where nothing is left, there was no row, and no other has changed

@@ -1,14 +1,9 @@
 -- What the rows of tokens say, whatever they are, and how calls on a single token change them (this project's row
 -- format).
 use Rattle.std.specs.Prelude.{◌≡◌, ◌-◌, ℕ, Option, Some, None, option_map}
-use Rattle.broker_types.specs.Text.{Text}
+use Rattle.records.specs.Words.{Text, IsTokenInRange, IsSomeIn, entry_row, accessor_row, Table, with_row, TokenEntry}
 use Rattle.records.specs.declared.kind.Kind.TheVariants as kind
 use Rattle.records.specs.declared.holder.Holder.TheVariants as holder
-use Rattle.records.specs.Ranges.{IsTokenInRange}
-use Rattle.records.specs.RowReaders.{IsSomeIn}
-use Rattle.records.specs.RowForms.{entry_row, accessor_row}
-use Rattle.records.specs.Table.{Table, with_row}
-use Rattle.records.specs.TokenEntry.{TokenEntry}
 
 -- the row of the token t is that of the entry, or there is none
 abbrev pub IsTokenAt : Table → Text → Option TokenEntry → Type 0

@@ -1,20 +1,9 @@
 -- Tokens as rows: which rows are those of a broker's tokens, and what operations on tokens make of it (Vault's
 -- documentation, "Tokens").
-use Rattle.std.specs.Prelude.{◌≡◌, ◌≢◌, ℕ, List, [], ◌∷◌, Bool, Option, Some, None, is_some, is_none, ◌&&◌, map}
-use Rattle.std.specs.FinMap.{from_entries}
-use Rattle.std.specs.List.{IsDistinct}
-use Rattle.broker_types.specs.Text.{Text, same}
-use Rattle.broker_types.specs.Map.{Map, get, put, change, empty, entries, keys}
-use Rattle.broker_types.specs.Token.{Token}
-use Rattle.broker_types.specs.Lineage.{alive_at}
-use Rattle.broker_types.specs.Broker.{Broker}
-use Rattle.broker_types.specs.IdentifierPlaces.{OnePlaceEach, token_identifier}
-use Rattle.broker_types.specs.Evolves.{IsNew}
-use Rattle.broker_types.specs.Used.{use_up}
-use Rattle.broker_types.specs.Sound.{Forms, SoundTokens, IsSoundToken}
-use Rattle.records.specs.Children.{has}
-use Rattle.records.specs.Parts.{of_tokens, Tells}
-use Rattle.records.specs.Table.{Table}
+use Rattle.std.specs.Prelude.{◌≡◌, ◌≢◌, ◌∷◌, ◌&&◌, ℕ, List, [], Bool, Option, Some, None, is_some, is_none, map}
+use Rattle.records.specs.Words.{from_entries, IsDistinct, Text, same, Map, get, put, change, empty, entries, keys}
+use Rattle.records.specs.Words.{Token, alive_at, Broker, OnePlaceEach, token_identifier, IsNew, use_up, Forms}
+use Rattle.records.specs.Words.{SoundTokens, IsSoundToken, has, of_tokens, Tells, Table}
 
 -- The rows of tokens and accessors are those of the broker b, whose tokens are sound, and which has each identifier in
 -- one place. This holds within a request too, where a caller may have spent its last use.

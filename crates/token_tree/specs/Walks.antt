@@ -1,13 +1,8 @@
 -- The walk from tokens down to their children, and what it finds (this project's definition).
 use Rattle.std.specs.Prelude.{◌≡◌, ◌&&◌, ◌++◌, List, [], Bool, true, map, filter, Some, All, Contains}
-use Rattle.std.specs.FinMap.{get, entries}
-use Rattle.std.specs.List.{IsDistinct}
-use Rattle.broker_types.specs.Text.{Text, same}
+use Rattle.records.specs.Words.{get, entries, IsDistinct, Text, same, RowKey, is_of_kind, table_of, Rows, rows_under}
 use Rattle.records.specs.declared.kind.Kind.TheVariants as kind
 use Rattle.records.specs.declared.row.Row.{Row}
-use Rattle.records.specs.Kind.{RowKey, is_of_kind}
-use Rattle.records.specs.Table.{table_of}
-use Rattle.records.specs.Transaction.{Rows, rows_under}
 use Rattle.token_tree.specs.Ended.{IsClosed, IsDescent, Start, of_owner}
 use Rattle.token_tree.specs.Endings.{AreTokenRows}
 use Rattle.token_tree.specs.Removed.{without_each}

@@ -1,5 +1,5 @@
 -- How the program ends (this project's).
-use Rattle.std.specs.Prelude.{ℕ}
+use Rattle.broker_model.specs.Words.{ℕ}
 use Rattle.replay.specs.declared.replaying.Exit.TheVariants.{Done, Faulted, BadLine}
 use Rattle.trial_restarts.specs.declared.ending.End.{End}
 use Rattle.trial_restarts.specs.declared.ending.End.TheVariants.{Replayed, Wrong}

@@ -1,30 +1,14 @@
 -- Of the rows that are due, those of wrapping tokens: what a sweep takes out, whatever the rows are.
-use Rattle.std.specs.Prelude.{◌≡◌, ◌&&◌, ◌||◌, ℕ, List, [], ◌∷◌, Bool, true, false, cond, if◌then◌else◌}
-use Rattle.std.specs.Prelude.{Option, Some, None, map, filter, All, Contains}
-use Rattle.std.specs.Cmp.{both_ways}
+use Rattle.std.proofs.Common.{◌≡◌, ◌&&◌, ◌||◌, ◌∷◌, if◌then◌else◌, ℕ, List, [], Bool, true, false, cond, Option, Some}
+use Rattle.records.specs.Words.{None, map, filter, All, Contains, both_ways, AllByRecursion, list_any, option_map_or}
+use Rattle.records.specs.Words.{refl, sym, ◌∙◌, ap, inl, inr, false≢true, All-contains, All-filter, All-from_recursion}
+use Rattle.records.specs.Words.{All-weaker, recursion_from_All, Text, same, any_contained, passing, any_mapped}
+use Rattle.records.specs.Words.{found_or_not, taken_out_twice, same_self, same_true, accessor_in, is_told, has}
+use Rattle.records.specs.Words.{due_each, due_whole, is_due, RowKey, of_waiting, KeepsOthers, Table}
 use Rattle.std.specs.FinMap as fin
-use Rattle.std.specs.List.{AllByRecursion, list_any}
-use Rattle.std.specs.Option.{option_map_or}
-use Rattle.std.proofs.Common.{refl, sym, ◌∙◌, ap, inl, inr}
-use Rattle.std.proofs.lemmas.Bool.{false≢true}
-use Rattle.std.proofs.lemmas.List.Elements.{All-contains, All-filter, All-from_recursion}
-use Rattle.std.proofs.lemmas.List.Elements.{All-weaker, recursion_from_All}
-use Rattle.broker_types.specs.Text.{Text, same}
-use Rattle.broker_types.specs.ListLaws.{any_contained, passing, any_mapped}
-use Rattle.broker_types.specs.OptionLaws.{found_or_not, taken_out_twice}
-use Rattle.broker_types.specs.TextLaws.{same_self, same_true}
-use Rattle.records.specs.declared.kind.Kind.{Kind}
+use Rattle.wrapping.specs.Words.{Kind, Row, is_due_at, AreStillDue, IsWaitingRow, AreReadableDue, without_responses}
+use Rattle.wrapping.specs.Words.{Sweeps, is_waiting, AreReadable, without_told, without_each}
 use Rattle.records.specs.declared.kind.Kind.TheVariants as kind
-use Rattle.records.specs.declared.row.Row.{Row}
-use Rattle.records.specs.Accessors.{accessor_in, is_told}
-use Rattle.records.specs.Children.{has}
-use Rattle.records.specs.DueLaws.{due_each, due_whole}
-use Rattle.records.specs.DueRows.{is_due}
-use Rattle.records.specs.Kind.{RowKey}
-use Rattle.records.specs.Parts.{of_waiting, KeepsOthers}
-use Rattle.records.specs.Table.{Table}
-use Rattle.wrapping.specs.DueResponses.{is_due_at, AreStillDue, IsWaitingRow, AreReadableDue}
-use Rattle.wrapping.specs.DueResponses.{without_responses, Sweeps, is_waiting, AreReadable, without_told, without_each}
 use Rattle.wrapping.proofs.Responses.{by_kind, dropped_keeps}
 
 -- ---- one entry after another

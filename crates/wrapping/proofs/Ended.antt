@@ -1,32 +1,14 @@
 -- The rows of a broker's waiting responses, after those went that have come to their end.
-use Rattle.std.specs.Prelude.{◌≡◌, ◌<◌, ◌≤◌, ℕ, List, Bool, true, false, not, cond, if◌then◌else◌}
-use Rattle.std.specs.Prelude.{Option, Some, None, option_map, nat_le, nat_lt}
-use Rattle.std.specs.Cmp.{both_ways}
-use Rattle.std.specs.Option.{option_map_or}
-use Rattle.std.proofs.Common.{refl, sym, ◌∙◌, ap, inl, inr, arith}
-use Rattle.std.proofs.lemmas.Bool.{false≢true, false_from_ne_true, leb-true, leb-false, ltb-true, lt-ltb}
-use Rattle.broker_types.specs.Text.{Text, same}
-use Rattle.broker_types.specs.Map.{Map, get, keep, first_where}
-use Rattle.broker_types.specs.Broker.{Broker, Waiting, waiting_ends}
-use Rattle.broker_types.specs.MapLaws.{get-keep}
-use Rattle.broker_types.specs.ListLaws.{any_contained, passing}
-use Rattle.broker_types.specs.OptionLaws.{found_or_not, mapped}
-use Rattle.broker_types.specs.SearchLaws.{first_where_is, first_where_none, first_where-keep, if_kept}
-use Rattle.broker_types.specs.TextLaws.{same_self, same_true}
+use Rattle.std.proofs.Common.{◌≡◌, ◌<◌, ◌≤◌, if◌then◌else◌, ℕ, List, Bool, true, false, not, cond, Option, Some, None}
+use Rattle.records.specs.Words.{option_map, nat_le, nat_lt, both_ways, option_map_or, refl, sym, ◌∙◌, ap, inl, inr}
+use Rattle.records.specs.Words.{arith, false≢true, false_from_ne_true, leb-true, leb-false, ltb-true, lt-ltb, Text}
+use Rattle.records.specs.Words.{same, Map, get, keep, first_where, Broker, Waiting, waiting_ends, get-keep}
+use Rattle.records.specs.Words.{any_contained, passing, found_or_not, mapped, first_where_is, first_where_none}
+use Rattle.records.specs.Words.{first_where-keep, if_kept, same_self, same_true, response_tells, accessor_in, is_told}
+use Rattle.records.specs.Words.{has, is_due, of_waiting, Tells, waiting_in_range, waiting_row, or_else, Table}
 use Rattle.records.specs.declared.kind.Kind.TheVariants as kind
-use Rattle.records.specs.declared.row.Row.{Row}
-use Rattle.records.specs.AccessorLaws.{response_tells}
-use Rattle.records.specs.Accessors.{accessor_in, is_told}
-use Rattle.records.specs.Children.{has}
-use Rattle.records.specs.DueRows.{is_due}
-use Rattle.records.specs.Parts.{of_waiting, Tells}
-use Rattle.records.specs.RangeLaws.{waiting_in_range}
-use Rattle.records.specs.RowForms.{waiting_row}
-use Rattle.records.specs.Rows.{or_else}
-use Rattle.records.specs.Table.{Table}
-use Rattle.wrapping.specs.DueResponses.{is_due_at, AreReadableDue, Sweeps}
-use Rattle.wrapping.specs.WaitingRows.{RepresentsWaiting}
-use Rattle.wrapping.specs.Wrapping.{has_accessor, still_waits, without_ended}
+use Rattle.wrapping.specs.Words.{Row, is_due_at, AreReadableDue, Sweeps, RepresentsWaiting, has_accessor, still_waits}
+use Rattle.wrapping.specs.Words.{without_ended}
 use Rattle.wrapping.proofs.Responses.{joined, waiting_told, accessor_told, tells_waiting, one_accessor, no_token}
 
 -- what has come is not later

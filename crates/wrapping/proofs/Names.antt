@@ -1,28 +1,13 @@
 -- The rows of accessors, and the wrapping tokens that they name.
-use Rattle.std.specs.Prelude.{◌≡◌, ◌⊎◌, true, Option, Some, None, option_map}
-use Rattle.std.proofs.Common.{sym, ◌∙◌, ap, subst, inl, inr}
-use Rattle.std.proofs.lemmas.Bool.{false≢true}
-use Rattle.std.proofs.lemmas.Option.{none-some, same_Some}
-use Rattle.broker_types.specs.Text.{Text, same}
-use Rattle.broker_types.specs.Map.{first_where}
-use Rattle.broker_types.specs.Token.{Token}
-use Rattle.broker_types.specs.Broker.{Broker, Waiting}
-use Rattle.broker_types.specs.IdentifierPlaces.{OnePlaceEach}
-use Rattle.broker_types.specs.OptionLaws.{found_or_not}
-use Rattle.broker_types.specs.SearchLaws.{first_where_is}
-use Rattle.broker_types.specs.TextLaws.{same_true}
+use Rattle.std.proofs.Common.{◌≡◌, ◌⊎◌, true, Option, Some, None, option_map, sym, ◌∙◌, ap, subst, inl, inr}
+use Rattle.records.specs.Words.{false≢true, none-some, same_Some, Text, same, first_where, Token, Broker, Waiting}
+use Rattle.records.specs.Words.{OnePlaceEach, found_or_not, first_where_is, same_true, of_waiting, Tells, accessor_row}
+use Rattle.records.specs.Words.{or_else, number, Table}
 use Rattle.records.specs.declared.holder.Holder.{Holder}
 use Rattle.records.specs.declared.holder.Holder.TheVariants as holder
 use Rattle.records.specs.declared.kind.Kind.TheVariants as kind
-use Rattle.records.specs.declared.row.Row.{Row}
-use Rattle.records.specs.Parts.{of_waiting, Tells}
-use Rattle.records.specs.RowForms.{accessor_row}
-use Rattle.records.specs.Rows.{or_else}
-use Rattle.records.specs.Spelling.{number}
-use Rattle.records.specs.Table.{Table}
-use Rattle.wrapping.specs.AccessorRows.{NamesAt, IsDamagedName}
-use Rattle.wrapping.specs.WaitingRows.{IsWaitingAt, IsDamagedWaiting}
-use Rattle.wrapping.specs.Wrapping.{has_accessor, find_accessor}
+use Rattle.wrapping.specs.Words.{Row, NamesAt, IsDamagedName, IsWaitingAt, IsDamagedWaiting, has_accessor}
+use Rattle.wrapping.specs.Words.{find_accessor}
 use Rattle.wrapping.proofs.Responses.{joined, accessor_told, not_both}
 
 -- the row of a token's accessor is not that of a wrapping token's

@@ -1,34 +1,17 @@
 -- The rows of a broker's waiting responses, after one is stored or dropped.
-use Rattle.std.specs.Prelude.{◌≡◌, ◌≢◌, Bool, true, false, cond, if◌then◌else◌, Option, Some, None, option_map}
-use Rattle.std.proofs.Common.{refl, sym, ◌∙◌, ap, subst, inl, inr}
-use Rattle.std.proofs.lemmas.Bool.{false≢true}
-use Rattle.std.proofs.lemmas.Option.{none-some, same_Some}
-use Rattle.broker_types.specs.Text.{Text, same}
-use Rattle.broker_types.specs.Map.{Map, get, put, without, first_where}
-use Rattle.broker_types.specs.Token.{Token, Tokens}
-use Rattle.broker_types.specs.Broker.{Broker, Waiting}
-use Rattle.broker_types.specs.Evolves.{IsNew}
-use Rattle.broker_types.specs.IdentifierPlaces.{Place, token, accessor, lease, credential, wrapping_token}
-use Rattle.broker_types.specs.IdentifierPlaces.{wrapping_accessor}
-use Rattle.broker_types.specs.IdentifierPlaces.{identifier_at, place_token, token_identifier, OnePlaceEach, AllUsed}
-use Rattle.broker_types.specs.Spending.{drop_waiting}
-use Rattle.broker_types.specs.MapLaws.{get-put, get-put_self, get-without, without_is}
-use Rattle.broker_types.specs.OptionLaws.{mapped, found_or_not}
-use Rattle.broker_types.specs.PutLaws.{put_is}
-use Rattle.broker_types.specs.SearchLaws.{OnePasses, first_where_is, first_where_only, none_found, same_found}
-use Rattle.broker_types.specs.TextLaws.{same_self, same_true}
+use Rattle.std.proofs.Common.{◌≡◌, ◌≢◌, if◌then◌else◌, Bool, true, false, cond, Option, Some, None, option_map, refl}
+use Rattle.records.specs.Words.{sym, ◌∙◌, ap, subst, inl, inr, false≢true, none-some, same_Some, Text, same, Map, get}
+use Rattle.records.specs.Words.{put, without, first_where, Token, Tokens, Broker, Waiting, IsNew, Place, token}
+use Rattle.records.specs.Words.{accessor, lease, credential, wrapping_token, wrapping_accessor, identifier_at}
+use Rattle.records.specs.Words.{place_token, token_identifier, OnePlaceEach, AllUsed, drop_waiting, get-put}
+use Rattle.records.specs.Words.{get-put_self, get-without, without_is, mapped, found_or_not, put_is, OnePasses}
+use Rattle.records.specs.Words.{first_where_is, first_where_only, none_found, same_found, same_self, same_true}
+use Rattle.records.specs.Words.{of_tokens, of_waiting, Tells, KeepsOthers, waiting_row, accessor_row, rows_of, or_else}
+use Rattle.records.specs.Words.{Table, by_token_kind}
 use Rattle.records.specs.declared.holder.Holder.TheVariants as holder
-use Rattle.records.specs.declared.kind.Kind.{Kind}
+use Rattle.wrapping.specs.Words.{Kind, Row, drop_unknown, RepresentsWaiting, with_response, without_response}
+use Rattle.wrapping.specs.Words.{has_accessor, find_accessor, with_waiting}
 use Rattle.records.specs.declared.kind.Kind.TheVariants as kind
-use Rattle.records.specs.declared.row.Row.{Row}
-use Rattle.records.specs.Parts.{of_tokens, of_waiting, Tells, KeepsOthers}
-use Rattle.records.specs.RowForms.{waiting_row, accessor_row}
-use Rattle.records.specs.Rows.{rows_of, or_else}
-use Rattle.records.specs.Table.{Table}
-use Rattle.records.specs.PartLaws.{by_token_kind}
-use Rattle.wrapping.specs.ResponseLaws.{drop_unknown}
-use Rattle.wrapping.specs.WaitingRows.{RepresentsWaiting, with_response, without_response}
-use Rattle.wrapping.specs.Wrapping.{has_accessor, find_accessor, with_waiting}
 
 -- a part of two kinds
 pub by_kind : (P : Kind → Type 0) → P kind.Waiting → P kind.Accessor → (k : Kind) → of_waiting k ≡ true → P k

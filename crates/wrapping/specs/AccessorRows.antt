@@ -1,11 +1,9 @@
 -- What the rows of accessors say of wrapping tokens, whatever they are, and what dropping by an accessor makes of them
 -- (this project's row format).
 use Rattle.std.specs.Prelude.{◌≡◌, ◌⊎◌, Bool, false, ⊤, Option, Some, None}
-use Rattle.broker_types.specs.Text.{Text}
+use Rattle.records.specs.Words.{Text, accessor_row, Table}
 use Rattle.records.specs.declared.holder.Holder.TheVariants as holder
 use Rattle.records.specs.declared.kind.Kind.TheVariants as kind
-use Rattle.records.specs.RowForms.{accessor_row}
-use Rattle.records.specs.Table.{Table}
 use Rattle.wrapping.specs.WaitingRows.{IsReadableWaiting, Drops}
 
 -- by its row the accessor names the wrapping token, or none: there is no row, or it is that of a token's accessor

@@ -1,19 +1,9 @@
 -- What expiry makes of the rows of responses, whatever these are (this project's definition).
-use Rattle.std.specs.Prelude.{◌≡◌, ℕ, List, [], ◌∷◌, Bool, true, false, if◌then◌else◌, Some, None}
-use Rattle.std.specs.List.{AllByRecursion}
-use Rattle.std.specs.Option.{option_map_or}
-use Rattle.broker_types.specs.Text.{Text}
-use Rattle.broker_types.specs.Broker.{Waiting}
+use Rattle.std.specs.Prelude.{◌≡◌, ◌∷◌, if◌then◌else◌, ℕ, List, [], Bool, true, false, Some, None}
+use Rattle.records.specs.Words.{AllByRecursion, option_map_or, Text, Waiting, accessor_in, is_told, has, is_due, AreDue}
+use Rattle.records.specs.Words.{RowKey, is_of_kind, IsWaitingInRange, waiting_row, Table, table_of, Rows}
 use Rattle.records.specs.declared.kind.Kind.TheVariants as kind
 use Rattle.records.specs.declared.row.Row.{Row}
-use Rattle.records.specs.Accessors.{accessor_in, is_told}
-use Rattle.records.specs.Children.{has}
-use Rattle.records.specs.DueRows.{is_due, AreDue}
-use Rattle.records.specs.Kind.{RowKey, is_of_kind}
-use Rattle.records.specs.Ranges.{IsWaitingInRange}
-use Rattle.records.specs.RowForms.{waiting_row}
-use Rattle.records.specs.Table.{Table, table_of}
-use Rattle.records.specs.Transaction.{Rows}
 use Rattle.wrapping.specs.WaitingRows.{without_response}
 
 -- ---- which are due

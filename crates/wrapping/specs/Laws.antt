@@ -1,19 +1,11 @@
 -- Laws of responses that wait, as statements (this project's; Vault's documentation, "Response wrapping").
 use Rattle.std.specs.Prelude.{◌≡◌, ◌≢◌, ◌⊎◌, ◌<◌, ℕ, Option, Some, None, max}
-use Rattle.broker_types.specs.Text.{Text}
-use Rattle.broker_types.specs.Map.{Map, get}
-use Rattle.broker_types.specs.Token.{Token, Tokens}
-use Rattle.broker_types.specs.Lineage.{alive_at}
-use Rattle.broker_types.specs.Broker.{Broker, Waiting, waiting_ends, at_moment}
-use Rattle.broker_types.specs.Evolves.{Evolves, IsNew, IsTakenOut, WaitedBefore}
-use Rattle.broker_types.specs.IdentifierPlaces.{OnePlaceEach, token_identifier}
-use Rattle.broker_types.specs.Sound.{Forms, Sound, SoundIdentifiers, IsMoment, IsIdentifier, IsTokenText}
-use Rattle.broker_types.specs.Spending.{drop_waiting}
-use Rattle.records.specs.Parts.{of_tokens, of_waiting, Tells, KeepsOthers}
-use Rattle.records.specs.Table.{Table}
+use Rattle.records.specs.Words.{Text, Map, get, Token, Tokens, alive_at, Broker, Waiting, waiting_ends, at_moment}
+use Rattle.records.specs.Words.{Evolves, IsNew, IsTakenOut, WaitedBefore, OnePlaceEach, token_identifier, Forms, Sound}
+use Rattle.records.specs.Words.{SoundIdentifiers, IsMoment, IsIdentifier, IsTokenText, drop_waiting, of_tokens}
+use Rattle.records.specs.Words.{of_waiting, Tells, KeepsOthers, Table}
 use Rattle.wrapping.specs.Wrapping.{AddsNone, find_accessor, with_waiting, stored, MayBeStored, moved, rewrap}
-use Rattle.wrapping.specs.Wrapping.{drop_accessor}
-use Rattle.wrapping.specs.Wrapping.{without_ended}
+use Rattle.wrapping.specs.Wrapping.{drop_accessor, without_ended}
 
 -- ---- a response moves whole
 

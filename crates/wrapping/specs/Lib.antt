@@ -4,4 +4,5 @@ pub mod Laws
 pub mod ResponseLaws
 pub mod SoundLaws
 pub mod WaitingRows
+pub mod Words
 pub mod Wrapping

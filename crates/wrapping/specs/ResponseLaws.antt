@@ -1,23 +1,12 @@
 -- What storing, moving and dropping a response, and expiry, make of the responses that wait.
-use Rattle.std.specs.Prelude.{◌≡◌, ◌≢◌, ◌⊎◌, ℕ, true, false, cond, Option, Some, None}
-use Rattle.std.specs.Option.{option_map_or}
-use Rattle.std.proofs.Common.{refl, sym, ◌∙◌, ap, subst, inl, inr}
-use Rattle.broker_types.specs.Text.{Text, same}
-use Rattle.broker_types.specs.Map.{get, without, keep}
-use Rattle.broker_types.specs.Broker.{Broker, Waiting}
-use Rattle.broker_types.specs.Evolves.{IsTakenOut, WaitedBefore}
-use Rattle.broker_types.specs.IdentifierPlaces.{token_identifier}
-use Rattle.broker_types.specs.Sound.{SoundIdentifiers}
-use Rattle.broker_types.specs.Spending.{drop_waiting}
-use Rattle.broker_types.specs.FewerLaws.{WaitFewer}
-use Rattle.broker_types.specs.MapLaws.{get-put, get-put_self, get-without, get-without_self, without_is, same_map}
-use Rattle.broker_types.specs.OptionLaws.{found_or_not}
-use Rattle.broker_types.specs.PutLaws.{put_is}
-use Rattle.broker_types.specs.SearchLaws.{kept_get}
-use Rattle.broker_types.specs.SpendingLaws.{drop_takes_out}
-use Rattle.broker_types.specs.TextLaws.{same_true, same_false}
-use Rattle.wrapping.specs.Wrapping.{AddsNone, find_accessor, with_waiting, moved, rewrap, drop_accessor}
-use Rattle.wrapping.specs.Wrapping.{still_waits, without_ended}
+use Rattle.std.proofs.Common.{◌≡◌, ◌≢◌, ◌⊎◌, ℕ, true, false, cond, Option, Some, None, refl, sym, ◌∙◌, ap, subst, inl}
+use Rattle.records.specs.Words.{option_map_or, inr, Text, same, get, without, keep, Broker, Waiting, IsTakenOut}
+use Rattle.records.specs.Words.{WaitedBefore, token_identifier, SoundIdentifiers, drop_waiting, WaitFewer, get-put}
+use Rattle.records.specs.Words.{get-put_self, get-without, get-without_self, without_is, same_map, found_or_not, put_is}
+use Rattle.records.specs.Words.{kept_get, drop_takes_out, same_true}
+use Rattle.broker_types.specs.TextLaws.{same_false}
+use Rattle.wrapping.specs.Wrapping.{AddsNone, find_accessor, with_waiting, moved, rewrap, drop_accessor, still_waits}
+use Rattle.wrapping.specs.Wrapping.{without_ended}
 
 -- ---- a response goes alone
 

@@ -1,23 +1,11 @@
 -- Responses that are stored, moved and dropped leave a sound broker sound, and let it evolve.
-use Rattle.std.specs.Prelude.{◌≡◌, ◌≢◌, ◌⊎◌, ℕ, Option, Some, None, option_map, drop}
-use Rattle.std.specs.Option.{option_map_or}
-use Rattle.std.proofs.Common.{refl, sym, ◌∙◌, ap, subst, inl, inr}
-use Rattle.std.proofs.lemmas.Option.{none-some}
-use Rattle.broker_types.specs.Text.{Text}
-use Rattle.broker_types.specs.Map.{Map, get, put, without, keep}
-use Rattle.broker_types.specs.Broker.{Broker, Waiting}
-use Rattle.broker_types.specs.Evolves.{Evolves, IsNew, WaitedBefore}
-use Rattle.broker_types.specs.IdentifierPlaces.{token, accessor, lease, credential, wrapping_token, wrapping_accessor}
-use Rattle.broker_types.specs.IdentifierPlaces.{token_identifier, IsUsed}
-use Rattle.broker_types.specs.Sound.{Forms, Sound, IsMoment, IsIdentifier, IsTokenText}
-use Rattle.broker_types.specs.Sound.{IsSoundWaiting}
-use Rattle.broker_types.specs.Spending.{drop_waiting}
-use Rattle.broker_types.specs.FewerLaws.{WaitFewer, fewer_evolves, fewer_sound, same_fewer, tree_of}
-use Rattle.broker_types.specs.MapLaws.{without_is}
-use Rattle.broker_types.specs.NewPlaceLaws.{HasTwoMore, still_marked, first_marked, sound_with_two}
-use Rattle.broker_types.specs.OptionLaws.{mapped, found_or_not}
-use Rattle.broker_types.specs.PutLaws.{put_is}
-use Rattle.broker_types.specs.SpendingLaws.{evolves_self, drop_evolves, drop_sound, drop_ends_origin}
+use Rattle.std.proofs.Common.{◌≡◌, ◌≢◌, ◌⊎◌, ℕ, Option, Some, None, option_map, drop, refl, sym, ◌∙◌, ap, subst, inl}
+use Rattle.records.specs.Words.{option_map_or, inr, none-some, Text, Map, get, put, without, keep, Broker, Waiting}
+use Rattle.records.specs.Words.{Evolves, IsNew, WaitedBefore, token, accessor, lease, credential, wrapping_token}
+use Rattle.records.specs.Words.{wrapping_accessor, token_identifier, IsUsed, Forms, Sound, IsMoment, IsIdentifier}
+use Rattle.records.specs.Words.{IsTokenText, IsSoundWaiting, drop_waiting, WaitFewer, fewer_evolves, fewer_sound}
+use Rattle.records.specs.Words.{same_fewer, tree_of, without_is, HasTwoMore, still_marked, first_marked, sound_with_two}
+use Rattle.records.specs.Words.{mapped, found_or_not, put_is, evolves_self, drop_evolves, drop_sound, drop_ends_origin}
 use Rattle.wrapping.specs.ResponseLaws.{rewrap_is, rewrap_unknown, later_fewer}
 use Rattle.wrapping.specs.Wrapping.{find_accessor, with_waiting, stored, MayBeStored, moved, rewrap, drop_accessor}
 use Rattle.wrapping.specs.Wrapping.{still_waits, without_ended}

@@ -1,17 +1,10 @@
 -- What the rows of responses that wait say, whatever they are, and how calls on one response change them (this
 -- project's row format).
 use Rattle.std.specs.Prelude.{◌≡◌, ℕ, Bool, Option, Some, None, option_map, is_some}
-use Rattle.broker_types.specs.Text.{Text}
-use Rattle.broker_types.specs.Broker.{Broker, Waiting}
-use Rattle.broker_types.specs.IdentifierPlaces.{OnePlaceEach}
-use Rattle.broker_types.specs.Sound.{SoundWaiting}
+use Rattle.records.specs.Words.{Text, Broker, Waiting, OnePlaceEach, SoundWaiting, of_waiting, Tells, IsWaitingInRange}
+use Rattle.records.specs.Words.{IsRowOf, waiting_row, accessor_row, Table, with_row, without_row}
 use Rattle.records.specs.declared.holder.Holder.TheVariants as holder
 use Rattle.records.specs.declared.kind.Kind.TheVariants as kind
-use Rattle.records.specs.Parts.{of_waiting, Tells}
-use Rattle.records.specs.Ranges.{IsWaitingInRange}
-use Rattle.records.specs.RowReaders.{IsRowOf}
-use Rattle.records.specs.RowForms.{waiting_row, accessor_row}
-use Rattle.records.specs.Table.{Table, with_row, without_row}
 use Rattle.wrapping.specs.Wrapping.{moved}
 
 -- The rows of waiting responses and of accessors are those of the broker b, whose waiting responses are sound, and

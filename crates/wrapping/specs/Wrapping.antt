@@ -1,15 +1,9 @@
 -- Responses that wait for their wrapping tokens, and what operations on them make of a broker (Vault's documentation,
 -- "Response wrapping").
-use Rattle.std.specs.Prelude.{◌≡◌, ◌≢◌, ◌⊎◌, ℕ, [], ◌∷◌, Bool, false, nat_lt, Option, Some, option_map}
-use Rattle.std.specs.Option.{option_map_or}
-use Rattle.broker_types.specs.Text.{Text, same}
-use Rattle.broker_types.specs.Map.{Map, get, put, keep, first_where}
-use Rattle.broker_types.specs.Broker.{Broker, Waiting, waiting_ends}
-use Rattle.broker_types.specs.Evolves.{IsNew, OriginIsGone, WaitedBefore}
-use Rattle.broker_types.specs.IdentifierPlaces.{token_identifier}
-use Rattle.broker_types.specs.Sound.{IsSoundWaiting}
-use Rattle.broker_types.specs.Spending.{drop_waiting}
-use Rattle.broker_types.specs.Used.{use_up}
+use Rattle.std.specs.Prelude.{◌≡◌, ◌≢◌, ◌⊎◌, ◌∷◌, ℕ, [], Bool, false, nat_lt, Option, Some, option_map}
+use Rattle.records.specs.Words.{option_map_or, Text, same, Map, get, put, keep, first_where, Broker, Waiting}
+use Rattle.records.specs.Words.{waiting_ends, IsNew, OriginIsGone, WaitedBefore, token_identifier, IsSoundWaiting}
+use Rattle.records.specs.Words.{drop_waiting, use_up}
 
 -- ---- what is found
 

@@ -1,19 +1,12 @@
 -- The part of policies: what its routes mean, by a body, and what they do to the maps (Vault's documentation,
 -- "/sys/policies").
-use Rattle.std.specs.Prelude.{ℕ, List, Option, Some, None, Result, Ok}
-use Rattle.broker_types.specs.declared.refusal.Refusal.{Refusal}
-use Rattle.broker_types.specs.Broker.{Broker}
-use Rattle.broker_types.specs.Names.{Names}
-use Rattle.broker_types.specs.Operation.{nothing, reply, plainly, Done}
-use Rattle.broker_types.specs.Refuse.{◌>>=◌, some_or}
-use Rattle.broker_types.specs.Text.{Text}
+use Rattle.records.specs.Words.{ℕ, List, Option, Some, None, Result, Ok, Refusal, Broker, Names, nothing, reply}
+use Rattle.records.specs.Words.{plainly, Done, ◌>>=◌, some_or, Text, Part, of_policies}
 use Rattle.broker_types.specs.declared.refusal.Refusal.TheVariants as refusal
-use Rattle.records.specs.Parts.{Part, of_policies}
 use Rattle.policies.specs.Policies as policies
 use Rattle.mounts.specs.declared.operation.PolicyOperation.{PolicyOperation}
 use Rattle.mounts.specs.declared.operation.PolicyOperation.TheVariants as operation
-use Rattle.api_json.specs.Objects.{keys_object, policy_object}
-use Rattle.api_json.specs.Reply.{plain_reply}
+use Rattle.api_json.specs.Words.{keys_object, policy_object, plain_reply}
 use Rattle.api_json.specs.Readers as reader
 use Rattle.broker_model.specs.Traits.{Traits, plain}
 use Rattle.broker_model.specs.declared.commands.PolicyCommand.{PolicyCommand}

@@ -1,9 +1,7 @@
 -- The command that a body is, by what a reader finds in it (this project's definition).
-use Rattle.std.specs.Prelude.{ℕ, List, Result, Ok}
+use Rattle.records.specs.Words.{ℕ, List, Result, Ok, ◌>>=◌, Refusal}
 use Rattle.serde_json.specs.Data.{Members}
-use Rattle.broker_types.specs.Refuse.{◌>>=◌}
-use Rattle.broker_types.specs.declared.refusal.Refusal.{Refusal}
-use Rattle.api_json.specs.Json.{body_members}
+use Rattle.api_json.specs.Words.{body_members}
 
 -- the command of what is found in a body
 abbrev pub read_as : {X Command : Type 0} → (Members → Result X Refusal) → (X → Command) → List ℕ

@@ -1,22 +1,15 @@
 -- The part of cubbyholes: what its operations mean, and what they do to the maps (Vault's documentation, "Cubbyhole
 -- secrets engine (API)").
-use Rattle.std.specs.Prelude.{ℕ, List, Option, Some, None, Result, Ok}
+use Rattle.records.specs.Words.{ℕ, List, Option, Some, None, Result, Ok, Text, Broker, Names, nothing, reply, plainly}
+use Rattle.records.specs.Words.{Done, ◌>>=◌, some_or, Refusal, Part, of_cubbyholes}
 use Rattle.serde_json.specs.Data.{Members, no_members, member, object}
 use Rattle.serde_json.specs.Written.{compact_text}
-use Rattle.broker_types.specs.Text.{Text}
-use Rattle.broker_types.specs.Broker.{Broker}
-use Rattle.broker_types.specs.Names.{Names}
-use Rattle.broker_types.specs.Operation.{nothing, reply, plainly, Done}
-use Rattle.broker_types.specs.Refuse.{◌>>=◌, some_or}
-use Rattle.broker_types.specs.declared.refusal.Refusal.{Refusal}
 use Rattle.broker_types.specs.declared.refusal.Refusal.TheVariants as refusal
 use Rattle.broker_types.specs.declared.refusal.Reason.TheVariants as reason
-use Rattle.records.specs.Parts.{Part, of_cubbyholes}
 use Rattle.cubbyhole.specs.Cubbyhole as cubbyhole
 use Rattle.mounts.specs.declared.operation.CubbyholeOperation.{CubbyholeOperation}
 use Rattle.mounts.specs.declared.operation.CubbyholeOperation.TheVariants as operation
-use Rattle.api_json.specs.Json.{body_members}
-use Rattle.api_json.specs.Reply.{plain_reply}
+use Rattle.api_json.specs.Words.{body_members, plain_reply}
 use Rattle.broker_model.specs.Traits.{Traits, plain}
 use Rattle.broker_model.specs.declared.commands.CubbyholeCommand.{CubbyholeCommand}
 use Rattle.broker_model.specs.declared.commands.CubbyholeCommand.TheVariants as command

@@ -1,22 +1,16 @@
 -- The part of issued credentials: what the routes of a mount that issues them mean, and what they do to the maps (this
 -- project's engine).
-use Rattle.std.specs.Prelude.{ℕ, ◌||◌, List, Option, Some, None, Result, Ok}
-use Rattle.broker_types.specs.Text.{Text}
-use Rattle.broker_types.specs.Broker.{Broker}
-use Rattle.broker_types.specs.Names.{Names}
-use Rattle.broker_types.specs.Operation.{nothing, reply, plainly, Done}
-use Rattle.broker_types.specs.Refuse.{◌>>=◌, some_or}
-use Rattle.broker_types.specs.declared.refusal.Refusal.{Refusal}
+use Rattle.std.specs.Prelude.{◌||◌, ℕ, List, Option, Some, None, Result, Ok}
+use Rattle.records.specs.Words.{Text, Broker, Names, nothing, reply, plainly, Done, ◌>>=◌, some_or, Refusal, Part}
+use Rattle.records.specs.Words.{of_leases, of_roles, of_used}
 use Rattle.broker_types.specs.declared.refusal.Refusal.TheVariants as refusal
-use Rattle.records.specs.Parts.{Part, of_leases, of_roles, of_used}
 use Rattle.leases.specs.Leases as leases
 use Rattle.leases.specs.Roles as roles
-use Rattle.leases.specs.Roles.{Issued}
+use Rattle.leases.specs.Words.{Issued}
 use Rattle.mounts.specs.declared.operation.IssuedOperation.{IssuedOperation}
 use Rattle.mounts.specs.declared.operation.IssuedOperation.TheVariants as operation
-use Rattle.api_json.specs.Objects.{role_object, credential_object, valid_object}
+use Rattle.api_json.specs.Words.{role_object, credential_object, valid_object, plain_reply, lease_reply}
 use Rattle.api_json.specs.Readers as reader
-use Rattle.api_json.specs.Reply.{plain_reply, lease_reply}
 use Rattle.api_json.specs.declared.issued_bodies.RoleSettings.{RoleSettings}
 use Rattle.broker_model.specs.Traits.{Traits, lease_names, names_needed, plain}
 use Rattle.broker_model.specs.declared.commands.IssuedCommand.{IssuedCommand}

@@ -1,20 +1,13 @@
 -- The part of leases: what the routes under `sys/leases/` mean, and what they do to the maps (Vault's documentation,
 -- "/sys/leases").
-use Rattle.std.specs.Prelude.{ℕ, ◌-◌, List, Option, Some, None, Result, Ok}
-use Rattle.broker_types.specs.Text.{Text}
-use Rattle.broker_types.specs.Broker.{Broker}
-use Rattle.broker_types.specs.Names.{Names}
-use Rattle.broker_types.specs.Operation.{nothing, reply, plainly, Done}
-use Rattle.broker_types.specs.Refuse.{◌>>=◌}
-use Rattle.broker_types.specs.declared.refusal.Refusal.{Refusal}
-use Rattle.records.specs.Parts.{Part, of_leases}
+use Rattle.std.specs.Prelude.{◌-◌, ℕ, List, Option, Some, None, Result, Ok}
+use Rattle.records.specs.Words.{Text, Broker, Names, nothing, reply, plainly, Done, ◌>>=◌, Refusal, Part, of_leases}
 use Rattle.leases.specs.Leases as leases
-use Rattle.leases.specs.Leases.{Times, times_of}
+use Rattle.leases.specs.Words.{Times, times_of}
 use Rattle.mounts.specs.declared.operation.LeaseOperation.{LeaseOperation}
 use Rattle.mounts.specs.declared.operation.LeaseOperation.TheVariants as operation
-use Rattle.api_json.specs.Objects.{lease_object}
+use Rattle.api_json.specs.Words.{lease_object, plain_reply, lease_reply}
 use Rattle.api_json.specs.Readers as reader
-use Rattle.api_json.specs.Reply.{plain_reply, lease_reply}
 use Rattle.api_json.specs.declared.lease_objects.LeaseObject.{LeaseObject}
 use Rattle.broker_model.specs.Traits.{Traits, plain}
 use Rattle.broker_model.specs.declared.commands.LeaseCommand.{LeaseCommand}

@@ -1,15 +1,8 @@
 -- Lists of names, as replies (Vault's documentation, the requests by the method LIST).
-use Rattle.std.specs.Prelude.{List, [], ◌∷◌, Bool, true, false, not, None, Result, Ok}
-use Rattle.broker_types.specs.Text.{Text}
-use Rattle.broker_types.specs.Broker.{Broker}
-use Rattle.broker_types.specs.Names.{Names}
-use Rattle.broker_types.specs.Operation.{reply, plainly, Done}
-use Rattle.broker_types.specs.Refuse.{◌>>=◌, unless}
-use Rattle.broker_types.specs.declared.refusal.Refusal.{Refusal}
+use Rattle.std.specs.Prelude.{◌∷◌, List, [], Bool, true, false, not, None, Result, Ok}
+use Rattle.records.specs.Words.{Text, Broker, Names, reply, plainly, Done, ◌>>=◌, unless, Refusal, Reply}
 use Rattle.broker_types.specs.declared.refusal.Refusal.TheVariants as refusal
-use Rattle.broker_types.specs.declared.reply.Reply.{Reply}
-use Rattle.api_json.specs.Objects.{keys_object}
-use Rattle.api_json.specs.Reply.{plain_reply}
+use Rattle.api_json.specs.Words.{keys_object, plain_reply}
 
 -- whether there are none
 abbrev pub are_none : List Text → Bool

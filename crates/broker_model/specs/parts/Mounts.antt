@@ -1,15 +1,8 @@
 -- The part of mounts: what the routes under `sys/mounts` mean, and what they do to the maps (Vault's documentation,
 -- "/sys/mounts").
-use Rattle.std.specs.Prelude.{ℕ, ◌||◌, List, map, Option, Some, None, is_some, Result, Ok, codes}
-use Rattle.std.specs.Prelude.{if◌then◌else◌}
-use Rattle.broker_types.specs.Text.{Text}
-use Rattle.broker_types.specs.Map.{get}
-use Rattle.broker_types.specs.Broker.{Broker}
-use Rattle.broker_types.specs.Names.{Names}
-use Rattle.broker_types.specs.Operation.{nothing, reply, plainly, Done}
-use Rattle.broker_types.specs.Refuse.{◌>>=◌}
-use Rattle.broker_types.specs.declared.refusal.Refusal.{Refusal}
-use Rattle.records.specs.Parts.{Part, of_leases, of_mounts, of_roles, of_secrets}
+use Rattle.std.specs.Prelude.{◌||◌, if◌then◌else◌, ℕ, List, map, Option, Some, None, is_some, Result, Ok, codes}
+use Rattle.records.specs.Words.{Text, get, Broker, Names, nothing, reply, plainly, Done, ◌>>=◌, Refusal, Part}
+use Rattle.records.specs.Words.{of_leases, of_mounts, of_roles, of_secrets}
 use Rattle.leases.specs.Leases as leases
 use Rattle.leases.specs.Roles as roles
 use Rattle.mounts.specs.Mounts as mounts
@@ -18,9 +11,8 @@ use Rattle.mounts.specs.declared.mount_type.MountType.TheVariants as type
 use Rattle.mounts.specs.declared.operation.MountOperation.{MountOperation}
 use Rattle.mounts.specs.declared.operation.MountOperation.TheVariants as operation
 use Rattle.kv2.specs.Secrets as secrets
-use Rattle.api_json.specs.Objects.{mounts_object}
+use Rattle.api_json.specs.Words.{mounts_object, plain_reply}
 use Rattle.api_json.specs.Readers as reader
-use Rattle.api_json.specs.Reply.{plain_reply}
 use Rattle.api_json.specs.declared.mount_bodies.MountCreation.{MountCreation}
 use Rattle.api_json.specs.declared.mount_objects.MountObject.{MountObject}
 use Rattle.broker_model.specs.Traits.{Traits, plain}

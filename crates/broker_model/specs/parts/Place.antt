@@ -1,5 +1,5 @@
 -- Where in a mount a command acts (this project's definition).
-use Rattle.broker_types.specs.Text.{Text}
+use Rattle.records.specs.Words.{Text}
 
 -- The mount, and the path there: that of a secret, of a folder, whose path is empty for the whole mount, or the name of
 -- a role.

@@ -1,14 +1,9 @@
 -- The part of versioned secrets: what the routes of a mount of secrets mean, by a body or a version, and what they do
 -- to the maps (Vault's documentation, "KV secrets engine - version 2 (API)").
-use Rattle.std.specs.Prelude.{ℕ, List, Option, Some, None, Result, Ok}
-use Rattle.broker_types.specs.Refuse.{◌>>=◌, some_or}
-use Rattle.broker_types.specs.declared.refusal.Refusal.{Refusal}
-use Rattle.broker_types.specs.Broker.{Broker}
-use Rattle.broker_types.specs.Names.{Names}
-use Rattle.broker_types.specs.Operation.{nothing, reply, plainly, Done}
+use Rattle.records.specs.Words.{ℕ, List, Option, Some, None, Result, Ok, ◌>>=◌, some_or, Refusal, Broker, Names}
+use Rattle.records.specs.Words.{nothing, reply, plainly, Done, Part, of_mounts, of_secrets}
 use Rattle.broker_types.specs.declared.refusal.Refusal.TheVariants as refusal
-use Rattle.records.specs.Parts.{Part, of_mounts, of_secrets}
-use Rattle.kv2.specs.Versions.{Settings}
+use Rattle.kv2.specs.Words.{Settings}
 use Rattle.kv2.specs.Secrets as secrets
 use Rattle.mounts.specs.declared.operation.SecretOperation.{SecretOperation}
 use Rattle.mounts.specs.declared.operation.SecretOperation.TheVariants as operation

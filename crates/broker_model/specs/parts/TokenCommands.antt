@@ -1,10 +1,9 @@
 -- What the routes under `auth/token/` mean: which command a body is, and what each command needs (Vault's
 -- documentation, "Token auth method (API)").
-use Rattle.std.specs.Prelude.{ℕ, ◌||◌, List, Option, Some, None, Result, Ok}
-use Rattle.broker_types.specs.declared.refusal.Refusal.{Refusal}
+use Rattle.std.specs.Prelude.{◌||◌, ℕ, List, Option, Some, None, Result, Ok}
+use Rattle.records.specs.Words.{Refusal, Part, of_tokens, of_tokens_and_theirs, of_used, of_waiting}
 use Rattle.mounts.specs.declared.operation.TokenOperation.{TokenOperation}
 use Rattle.mounts.specs.declared.operation.TokenOperation.TheVariants as operation
-use Rattle.records.specs.Parts.{Part, of_tokens, of_tokens_and_theirs, of_used, of_waiting}
 use Rattle.api_json.specs.Readers as reader
 use Rattle.broker_model.specs.Traits.{Fate, Traits, by_accessor, by_text, itself, make, names_needed, orphan, plain}
 use Rattle.broker_model.specs.Traits.{renew, revoke, stay}

@@ -1,23 +1,13 @@
 -- A token that is made: who may make it, its policies and its ttl (Vault's documentation, "Token auth method (API)",
 -- create token; "Tokens", token hierarchies and orphan tokens, root tokens, use limits, explicit max TTLs, periodic
 -- tokens; the order of the refusals, and what `sudo` allows, are this project's).
-use Rattle.std.specs.Prelude.{ℕ, ◌+◌, ◌==◌, min, List, [], ◌∷◌, filter, Bool, true, false, not, ◌&&◌, ◌||◌, ⊤, codes}
-use Rattle.std.specs.Prelude.{Option, Some, None, is_none, Result, if◌then◌else◌}
-use Rattle.std.specs.FinMap.{from_entries}
-use Rattle.std.specs.List.{list_all}
-use Rattle.broker_types.specs.Text.{Text, same}
-use Rattle.broker_types.specs.Map.{empty, keys}
-use Rattle.broker_types.specs.Limits.{longest_ttl}
-use Rattle.broker_types.specs.Name.{is_name}
-use Rattle.broker_types.specs.Token.{Token}
-use Rattle.broker_types.specs.Broker.{Broker}
+use Rattle.std.specs.Prelude.{◌+◌, ◌==◌, ◌∷◌, ◌&&◌, ◌||◌, if◌then◌else◌, ℕ, min, List, [], filter, Bool, true, false, ⊤}
+use Rattle.records.specs.Words.{not, codes, Option, Some, None, is_none, Result, from_entries, list_all, Text, same}
+use Rattle.records.specs.Words.{empty, keys, longest_ttl, is_name, Token, Broker, ◌>>=◌, unless, Refusal, has, set_of}
 use Rattle.broker_types.specs.declared.ask.Verb.TheVariants as verb
-use Rattle.broker_types.specs.Refuse.{◌>>=◌, unless}
-use Rattle.broker_types.specs.declared.refusal.Refusal.{Refusal}
 use Rattle.broker_types.specs.declared.refusal.Refusal.TheVariants as refusal
 use Rattle.broker_types.specs.declared.refusal.Reason.TheVariants as reason
-use Rattle.records.specs.Children.{has, set_of}
-use Rattle.policies.specs.Grants.{grants}
+use Rattle.policies.specs.Words.{grants}
 use Rattle.policies.specs.declared.capability.Capability.TheVariants.{Sudo}
 use Rattle.api_json.specs.declared.token_bodies.TokenCreation.{TokenCreation}
 use Rattle.broker_model.specs.declared.making.Making.{Making}

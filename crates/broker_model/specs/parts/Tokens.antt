@@ -1,27 +1,15 @@
 -- The part of tokens: what the commands of the routes under `auth/token/` do to the maps (Vault's documentation, "Token
 -- auth method (API)").
-use Rattle.std.specs.Prelude.{ℕ, ◌+◌, ◌==◌, min, List, [], Bool, Some, None, is_some, Result, Ok, if◌then◌else◌}
-use Rattle.std.specs.Option.{option_map_or}
-use Rattle.broker_types.specs.Text.{Text}
-use Rattle.broker_types.specs.Map.{get}
-use Rattle.broker_types.specs.Limits.{longest_ttl}
-use Rattle.broker_types.specs.Names.{Names}
-use Rattle.broker_types.specs.Token.{Token}
-use Rattle.broker_types.specs.TokenText.{token_text}
+use Rattle.std.specs.Prelude.{◌+◌, ◌==◌, if◌then◌else◌, ℕ, min, List, [], Bool, Some, None, is_some, Result, Ok}
+use Rattle.records.specs.Words.{option_map_or, Text, get, longest_ttl, Names, Token, token_text, Broker, nothing, reply}
+use Rattle.records.specs.Words.{plainly, Done, ◌>>=◌, some_or, unless, drop_waiting, Refusal, TokenEntry, token_entry}
 use Rattle.broker_types.specs.Broker as broker
-use Rattle.broker_types.specs.Broker.{Broker}
-use Rattle.broker_types.specs.Operation.{nothing, reply, plainly, Done}
-use Rattle.broker_types.specs.Refuse.{◌>>=◌, some_or, unless}
-use Rattle.broker_types.specs.Spending.{drop_waiting}
-use Rattle.broker_types.specs.declared.refusal.Refusal.{Refusal}
 use Rattle.broker_types.specs.declared.refusal.Refusal.TheVariants as refusal
 use Rattle.broker_types.specs.declared.refusal.Reason.TheVariants as reason
 use Rattle.broker_types.specs.declared.refusal.Denial.TheVariants as denial
-use Rattle.records.specs.TokenEntry.{TokenEntry, token_entry}
 use Rattle.token_tree.specs.Tokens as tree
 use Rattle.wrapping.specs.Wrapping as wrapping
-use Rattle.api_json.specs.Objects.{keys_object}
-use Rattle.api_json.specs.Reply.{plain_reply}
+use Rattle.api_json.specs.Words.{keys_object, plain_reply}
 use Rattle.api_json.specs.declared.token_bodies.TokenCreation.{TokenCreation}
 use Rattle.broker_model.specs.Traits.{token_names}
 use Rattle.broker_model.specs.declared.commands.TokenCommand.{TokenCommand}

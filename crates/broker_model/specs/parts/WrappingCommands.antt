@@ -1,22 +1,15 @@
 -- What the routes under `sys/wrapping/` mean: which command a body is, which wrapping token is meant, what each command
 -- needs, and which requests are open (Vault's documentation, "/sys/wrapping").
-use Rattle.std.specs.Prelude.{◌||◌, ℕ, List, [], ◌∷◌, Bool, true, false, Option, Some, None}
-use Rattle.std.specs.Prelude.{Result, Ok, Err}
-use Rattle.std.specs.Option.{option_map_or}
+use Rattle.std.specs.Prelude.{◌||◌, ◌∷◌, ℕ, List, [], Bool, true, false, Option, Some, None, Result, Ok, Err}
+use Rattle.records.specs.Words.{option_map_or, Text, same, ◌>>=◌, Verb, Refusal, Part, of_used, of_waiting}
 use Rattle.serde_json.specs.Data.{object}
 use Rattle.serde_json.specs.Written.{compact_text}
-use Rattle.broker_types.specs.Text.{Text, same}
-use Rattle.broker_types.specs.Refuse.{◌>>=◌}
-use Rattle.broker_types.specs.declared.ask.Verb.{Verb}
-use Rattle.broker_types.specs.declared.refusal.Refusal.{Refusal}
-use Rattle.records.specs.Parts.{Part, of_used, of_waiting}
-use Rattle.mounts.specs.Route.{operation_at}
-use Rattle.mounts.specs.RouteTable.{facts}
+use Rattle.mounts.specs.Words.{operation_at, facts}
 use Rattle.mounts.specs.declared.operation.Opens.{Opens}
 use Rattle.mounts.specs.declared.operation.Opens.TheVariants.{Never, Always, WithItsOwn}
 use Rattle.mounts.specs.declared.operation.WrappingOperation.{WrappingOperation}
 use Rattle.mounts.specs.declared.operation.WrappingOperation.TheVariants as operation
-use Rattle.api_json.specs.Json.{body_members}
+use Rattle.api_json.specs.Words.{body_members}
 use Rattle.api_json.specs.Readers as reader
 use Rattle.broker_model.specs.Traits.{Traits, names_needed, plain}
 use Rattle.broker_model.specs.declared.commands.Needs.{Needs}

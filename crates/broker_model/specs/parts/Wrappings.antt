@@ -1,22 +1,12 @@
 -- The part of responses that wait: what the commands of the routes under `sys/wrapping/` do to the maps (Vault's
 -- documentation, "Response wrapping", "/sys/wrapping").
-use Rattle.std.specs.Prelude.{[], Option, Some, None, Result, Ok, option_map}
-use Rattle.broker_types.specs.Text.{Text}
-use Rattle.broker_types.specs.Map.{get}
-use Rattle.broker_types.specs.Names.{Names}
-use Rattle.broker_types.specs.TokenText.{token_text}
-use Rattle.broker_types.specs.Broker.{Broker, Waiting}
-use Rattle.broker_types.specs.Operation.{reply, kept_text, plainly, Done}
-use Rattle.broker_types.specs.Refuse.{◌>>=◌, some_or}
-use Rattle.broker_types.specs.Spending.{drop_waiting}
-use Rattle.broker_types.specs.declared.refusal.Refusal.{Refusal}
+use Rattle.records.specs.Words.{[], Option, Some, None, Result, Ok, option_map, Text, get, Names, token_text, Broker}
+use Rattle.records.specs.Words.{Waiting, reply, kept_text, plainly, Done, ◌>>=◌, some_or, drop_waiting, Refusal, Reply}
 use Rattle.broker_types.specs.declared.refusal.Refusal.TheVariants as refusal
 use Rattle.broker_types.specs.declared.refusal.Reason.TheVariants as reason
-use Rattle.broker_types.specs.declared.reply.Reply.{Reply}
 use Rattle.wrapping.specs.Wrapping as wrapping
-use Rattle.wrapping.specs.Wrapping.{moved}
-use Rattle.api_json.specs.Objects.{waiting_object}
-use Rattle.api_json.specs.Reply.{plain_reply, wrap_reply}
+use Rattle.wrapping.specs.Words.{moved}
+use Rattle.api_json.specs.Words.{waiting_object, plain_reply, wrap_reply}
 use Rattle.broker_model.specs.Order.{wrap_info}
 use Rattle.broker_model.specs.Traits.{wrapping_names}
 use Rattle.broker_model.specs.declared.commands.WrappingCommand.{WrappingCommand}

@@ -1,6 +1,5 @@
 use Rattle.std.proofs.Common.{◌≡◌, ◌∙◌, Bool, true, false, not, ap, ap₂, refl}
-use Rattle.std.proofs.lemmas.Bool.{and_parts}
-use Rattle.std.proofs.lemmas.Result.{IfOk-weaker}
+use Rattle.broker_types.specs.Words.{and_parts, IfOk-weaker}
 use Rattle.clap.specs.Words.{App, app_of, with_subcommand}
 use Rattle.clap.specs.declared.builder.command.Command.{Command}
 use Rattle.clap.specs.declared.builder.command.Command.TheViews.{out-Command}

@@ -1,5 +1,5 @@
-use Rattle.std.proofs.Common.{◌≡◌, ◌∙◌, List, [], ◌∷◌, None, Ok, Err, Result, IsErrAnd, MatchResult, Option, map}
-use Rattle.std.proofs.Common.{string_bytes, refl, sym, ap, ap₂, subst, true, inl, inr}
+use Rattle.std.specs.Prelude.{◌≡◌, ◌∷◌, List, [], None, Ok, Err, Result, IsErrAnd, MatchResult, Option, map, refl, true}
+use Rattle.broker_types.specs.Words.{◌∙◌, string_bytes, sym, ap, ap₂, subst, inl, inr}
 use Rattle.clap.specs.Words.{App, HasKind, IsAmong, Kinds, Row, Text, fault_of, found_of, is_simple, is_simple_and_free}
 use Rattle.clap.specs.Words.{kind_of, matches_of, rows_of, subcommand_of, subcommand_rows_of}
 use Rattle.clap.specs.declared.error.Error.{Error}

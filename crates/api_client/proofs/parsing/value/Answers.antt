@@ -1,4 +1,4 @@
-use Rattle.std.proofs.Common.{◌∙◌}
+use Rattle.broker_types.specs.Words.{◌∙◌}
 use Rattle.clap.specs.Words.{found_of}
 use Rattle.clap.proofs.WalkLemmas.{first_value-rows}
 use Rattle.api_client.proofs.parsing.value.Goals as goal

@@ -1,15 +1,10 @@
-use Rattle.std.proofs.Common.{◌≡◌, ◌∙◌, ◌<◌, ◌+◌, ◌++◌, ◌∷◌, [], Bool, true, false, cond, codes, drop, length, Some}
-use Rattle.std.proofs.Common.{sym, ap, map, take, get_or, List, ℕ, add-one}
-use Rattle.std.specs.Prelude.{filter, slice_get}
-use Rattle.std.specs.Char.{to_ascii_lowercase}
-use Rattle.std.proofs.Math.Seq.{drop-cons}
-use Rattle.std.proofs.lemmas.Bool.Decides.{same_from_decides}
-use Rattle.std.proofs.lemmas.List.{map-append, map_more, take-append-drop, append-nil}
-use Rattle.std.proofs.lemmas.Slice.Eq.{bytes_eq-Decides}
+use Rattle.std.proofs.Common.{◌≡◌, ◌<◌, ◌+◌, ◌++◌, ◌∷◌, ◌∙◌, [], Bool, true, false, cond, codes, drop, length, Some, ap}
+use Rattle.broker_types.specs.Words.{sym, map, take, get_or, List, ℕ, add-one, filter, slice_get, to_ascii_lowercase}
+use Rattle.broker_types.specs.Words.{drop-cons, same_from_decides, map-append, map_more, take-append-drop, append-nil}
+use Rattle.broker_types.specs.Words.{bytes_eq-Decides}
 use Rattle.httparse.specs.Spans.{header_bytes}
 use Rattle.httparse.specs.declared.spans.HeaderSpan.{HeaderSpan}
-use Rattle.http_layer.specs.HeadParts.{HeadField, values_named, is_named, same_in_any_case}
-use Rattle.http_layer.specs.HeadPartsLaws.{values_named-append}
+use Rattle.http_layer.specs.Words.{HeadField, values_named, is_named, same_in_any_case, values_named-append}
 use Rattle.api_client.proofs.reply_head.first_length.Goals as goal
 
 abbrev none : HeaderSpan

@@ -1,16 +1,10 @@
-use Rattle.std.proofs.Common.{◌≡◌, ℕ, ◌==◌, ◌&&◌, ◌<◌, ◌^◌, Bool, true, false, cond, List, [], ◌∷◌, length, drop, Some}
-use Rattle.std.proofs.Common.{None, Result, Ok, Err, MatchResult, IsUtf8, nat_le, nat_lt, refl, sym, ap, ◌∙◌, subst}
-use Rattle.std.proofs.Common.{arith}
-use Rattle.std.proofs.lemmas.Bool.{and_parts, ltb-true}
-use Rattle.std.proofs.lemmas.Bool.Decides.{nat_tests}
-use Rattle.std.proofs.lemmas.Fmt.{IsAscii-from_digits}
-use Rattle.std.proofs.lemmas.Str.{IsUtf8-from_ascii}
-use Rattle.std.specs.Char.{is_ascii_digit}
-use Rattle.std.specs.List.{list_all}
-use Rattle.std.specs.Result.{IsOk}
-use Rattle.std.specs.Str.Parse.{IsNumeral, digits_value, without_leading_plus}
+use Rattle.std.proofs.Common.{◌≡◌, ◌==◌, ◌&&◌, ◌<◌, ◌^◌, ◌∷◌, ℕ, Bool, true, false, cond, List, [], length, drop, Some}
+use Rattle.broker_types.specs.Words.{None, Result, Ok, Err, MatchResult, IsUtf8, nat_le, nat_lt, refl, sym, ap, ◌∙◌}
+use Rattle.broker_types.specs.Words.{subst, arith, and_parts, ltb-true, nat_tests, IsAscii-from_digits}
+use Rattle.broker_types.specs.Words.{IsUtf8-from_ascii, is_ascii_digit, list_all, IsOk, IsNumeral, digits_value}
+use Rattle.broker_types.specs.Words.{without_leading_plus}
 use Rattle.broker_types.specs.DecimalLaws.{all_digits}
-use Rattle.http_layer.specs.Front.{is_number}
+use Rattle.http_layer.specs.Words.{is_number}
 use Rattle.api_client.specs.Replies.{length_told, longest_reply_body}
 use Rattle.api_client.proofs.reply_head.length_of.Goals as goal
 

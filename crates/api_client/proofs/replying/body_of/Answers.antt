@@ -1,5 +1,5 @@
 use Rattle.std.proofs.Common.{◌++◌, ◌<◌, length, arith}
-use Rattle.std.proofs.KnownBytes.{Consumes-trans}
+use Rattle.broker_types.specs.Words.{Consumes-trans}
 use Rattle.api_client.proofs.ReplyLemmas.{body_more}
 use Rattle.api_client.proofs.replying.body_of.Goals as goal
 

@@ -1,5 +1,5 @@
 use Rattle.std.proofs.Common.{◌≡◌, ◌++◌, ◌-◌, ℕ, List, length, take}
-use Rattle.std.specs.Io.KnownBytes.{Consumes}
+use Rattle.broker_types.specs.Words.{Consumes}
 use Rattle.api_client.proofs.replying.body_of.Given as goal
 
 -- what has come is the front of what had begun and what was read

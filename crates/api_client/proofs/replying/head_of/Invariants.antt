@@ -1,5 +1,5 @@
 use Rattle.std.proofs.Common.{◌-◌, ◌≤◌, length}
-use Rattle.std.specs.Io.KnownBytes.{Consumes}
+use Rattle.broker_types.specs.Words.{Consumes}
 use Rattle.api_client.proofs.replying.head_of.Given as goal
 
 abbrev pub invariant-loop-head : goal.invariant-loop-head

@@ -1,5 +1,4 @@
-use Rattle.std.proofs.Common.{ℕ, List, Vec, Global, sym, subst}
-use Rattle.std.proofs.lemmas.Result.{IfOk-weaker}
+use Rattle.broker_types.specs.Words.{ℕ, List, Vec, Global, sym, subst, IfOk-weaker}
 use Rattle.api_client.specs.Asking.{Asks}
 use Rattle.api_client.proofs.requesting.request_of.Goals as goal
 

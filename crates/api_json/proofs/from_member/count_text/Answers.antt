@@ -1,7 +1,5 @@
 use Rattle.std.proofs.Common.{◌≡◌, ◌<◌, ◌≤◌, ◌+◌, ◌*◌, ◌^◌, ℕ, suc, arith, lit<}
-use Rattle.std.proofs.Math.Nat.{pow-le-pow_right, pow-suc}
-use Rattle.std.proofs.lemmas.Bool.Decides.{nat_tests}
-use Rattle.std.proofs.lemmas.Grind.{common_steps}
+use Rattle.broker_types.specs.Words.{pow-le-pow_right, pow-suc, nat_tests, common_steps}
 use Rattle.api_json.proofs.from_member.count_text.Goals as goal
 
 -- eighteen digits fit

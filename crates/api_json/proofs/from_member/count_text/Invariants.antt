@@ -1,5 +1,5 @@
 use Rattle.std.proofs.Common.{◌≡◌, ◌<◌, ◌≤◌, ◌^◌, drop, length}
-use Rattle.api_json.specs.Kinds.{digits_from}
+use Rattle.api_json.specs.Words.{digits_from}
 use Rattle.api_json.proofs.from_member.count_text.Given as goal
 
 abbrev pub invariant-loop-digit : goal.invariant-loop-digit

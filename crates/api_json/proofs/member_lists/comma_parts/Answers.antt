@@ -1,7 +1,5 @@
-use Rattle.std.proofs.Common.{ap, ◌∙◌, lit<, map, filter}
-use Rattle.std.proofs.lemmas.Iterator.Splits.{YieldsList-from_str_split}
-use Rattle.std.proofs.lemmas.Iterator.Consumers.{YieldsList-end}
-use Rattle.api_json.specs.Kinds.{comma_parts, is_part, without_spaces}
+use Rattle.broker_types.specs.Words.{ap, ◌∙◌, lit<, map, filter, YieldsList-from_str_split, YieldsList-end}
+use Rattle.api_json.specs.Words.{comma_parts, is_part, without_spaces}
 use Rattle.api_json.proofs.member_lists.comma_parts.Goals as goal
 
 pub returns : goal.returns

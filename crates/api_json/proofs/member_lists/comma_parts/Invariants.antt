@@ -1,5 +1,5 @@
 use Rattle.std.proofs.Common.{◌≡◌, map, filter}
-use Rattle.api_json.specs.Kinds.{is_part, without_spaces}
+use Rattle.api_json.specs.Words.{is_part, without_spaces}
 use Rattle.api_json.proofs.member_lists.comma_parts.Given as goal
 
 abbrev pub invariant-loop-part : goal.invariant-loop-part

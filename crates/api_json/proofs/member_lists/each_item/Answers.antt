@@ -1,5 +1,5 @@
-use Rattle.std.proofs.Common.{sym, ap, ◌∙◌, ◌+◌, drop, get_or}
-use Rattle.std.proofs.lemmas.List.{at_drop_more}
+use Rattle.std.proofs.Common.{◌+◌, sym, ap, ◌∙◌, drop, get_or}
+use Rattle.broker_types.specs.Words.{at_drop_more}
 use Rattle.serde_json.specs.View.{view, items_view}
 use Rattle.api_json.specs.Kinds as kinds
 use Rattle.api_json.proofs.Gathering.{one_more}

@@ -1,6 +1,6 @@
 use Rattle.std.proofs.Common.{◌≡◌}
 use Rattle.serde_json.specs.View.{members_view}
-use Rattle.api_json.specs.Kinds.{each_text}
+use Rattle.api_json.specs.Words.{each_text}
 use Rattle.api_json.proofs.Gathering.{onto}
 use Rattle.api_json.proofs.member_lists.member_texts.Given as goal
 

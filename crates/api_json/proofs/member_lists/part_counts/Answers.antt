@@ -1,6 +1,5 @@
-use Rattle.std.proofs.Common.{sym, ap, ◌∙◌}
-use Rattle.std.proofs.lemmas.List.{at_drop_more}
-use Rattle.api_json.specs.Kinds.{count_text, each_count}
+use Rattle.broker_types.specs.Words.{sym, ap, ◌∙◌, at_drop_more}
+use Rattle.api_json.specs.Words.{count_text, each_count}
 use Rattle.api_json.proofs.Gathering.{one_more}
 use Rattle.api_json.proofs.member_lists.part_counts.Goals as goal
 

@@ -1,5 +1,5 @@
 use Rattle.std.proofs.Common.{◌≡◌, drop}
-use Rattle.api_json.specs.Kinds.{each_count}
+use Rattle.api_json.specs.Words.{each_count}
 use Rattle.api_json.proofs.Gathering.{onto}
 use Rattle.api_json.proofs.member_lists.part_counts.Given as goal
 

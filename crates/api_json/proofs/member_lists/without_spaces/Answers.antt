@@ -1,5 +1,5 @@
-use Rattle.std.proofs.Common.{ap, ◌∙◌}
-use Rattle.api_json.specs.Kinds.{before_spaces}
+use Rattle.broker_types.specs.Words.{ap, ◌∙◌}
+use Rattle.api_json.specs.Words.{before_spaces}
 use Rattle.api_json.proofs.Spaces.{trimmed_front, trimmed_back}
 use Rattle.api_json.proofs.member_lists.without_spaces.Goals as goal
 

@@ -1,6 +1,5 @@
 use Rattle.std.proofs.Common.{◌≡◌, ◌∷◌, [], take, map, fold}
-use Rattle.api_json.specs.Printing.{with_member}
-use Rattle.api_json.specs.Objects.{mount_entry}
+use Rattle.api_json.specs.Words.{with_member, mount_entry}
 use Rattle.api_json.proofs.mount_objects.mounts_object.Given as goal
 
 abbrev pub invariant-loop-mount : goal.invariant-loop-mount

@@ -1,5 +1,5 @@
 use Rattle.broker_types.specs.declared.refusal.Field.TheVariants as field
-use Rattle.api_json.specs.Parsed.{members_of}
+use Rattle.api_json.specs.Words.{members_of}
 use Rattle.api_json.proofs.KeptObjects.{given_members}
 use Rattle.api_json.proofs.KeptMeta.{short_text}
 use Rattle.api_json.proofs.policy_bodies.policy_text.Goals as goal

@@ -1,7 +1,6 @@
-use Rattle.std.proofs.Common.{sym, ap, ◌∙◌, ◌+◌, ◌∷◌, [], get_or, take, string_bytes}
-use Rattle.std.proofs.lemmas.List.Folds.{fold-map}
-use Rattle.std.proofs.lemmas.List.Sums.{fold_more}
-use Rattle.api_json.specs.Printing.{quoted, with_item}
+use Rattle.std.proofs.Common.{◌+◌, ◌∷◌, sym, ap, ◌∙◌, [], get_or, take, string_bytes}
+use Rattle.broker_types.specs.Words.{fold-map, fold_more}
+use Rattle.api_json.specs.Words.{quoted, with_item}
 use Rattle.api_json.proofs.printing.texts.Goals as goal
 
 pub loop-value-preserved : goal.loop-value-preserved

@@ -1,7 +1,6 @@
 use Rattle.std.proofs.Common.{◌≡◌, drop}
-use Rattle.std.specs.List.{AllByRecursion, list_all}
-use Rattle.broker_types.specs.Sound.{IsCustomPair}
-use Rattle.api_json.specs.Readers.{is_custom_pair}
+use Rattle.broker_types.specs.Words.{AllByRecursion, list_all, IsCustomPair}
+use Rattle.api_json.specs.Words.{is_custom_pair}
 use Rattle.api_json.proofs.secret_bodies.are_custom_pairs.Given as goal
 
 -- so far each is accepted: if those that are left are, all are

@@ -1,8 +1,7 @@
-use Rattle.std.proofs.Common.{sym, ◌∙◌}
+use Rattle.broker_types.specs.Words.{sym, ◌∙◌}
 use Rattle.broker_types.specs.declared.refusal.Field.TheVariants as field
 use Rattle.broker_types.specs.RefuseLaws.{unless_ok}
-use Rattle.api_json.specs.Members.{invalid}
-use Rattle.api_json.specs.Parsed.{members_of}
+use Rattle.api_json.specs.Words.{invalid, members_of}
 use Rattle.api_json.proofs.KeptCustom.{custom_kept}
 use Rattle.api_json.proofs.KeptObjects.{given_members}
 use Rattle.api_json.proofs.secret_bodies.key_settings.Goals as goal

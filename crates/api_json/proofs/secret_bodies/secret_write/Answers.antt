@@ -1,5 +1,5 @@
-use Rattle.std.proofs.Common.{sym, ◌∙◌}
-use Rattle.api_json.specs.Parsed.{members_of}
+use Rattle.broker_types.specs.Words.{sym, ◌∙◌}
+use Rattle.api_json.specs.Words.{members_of}
 use Rattle.api_json.proofs.KeptObjects.{payloads_kept, given_members}
 use Rattle.api_json.proofs.secret_bodies.secret_write.Goals as goal
 

@@ -1,6 +1,5 @@
 use Rattle.std.proofs.Common.{◌≡◌, [], map, fold, take}
-use Rattle.api_json.specs.Printing.{with_entry}
-use Rattle.api_json.specs.Objects.{version_entry}
+use Rattle.api_json.specs.Words.{with_entry, version_entry}
 use Rattle.api_json.proofs.secret_objects.versions_object.Given as goal
 
 abbrev pub invariant-loop-version : goal.invariant-loop-version

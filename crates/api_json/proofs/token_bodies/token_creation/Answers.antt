@@ -1,10 +1,7 @@
 use Rattle.std.proofs.Common.{◌≡◌, ◌<◌, ◌^◌, ◌+◌, ◌∙◌, Bool, ℕ, List, Result, Ok, length, ap, sym, subst, unwrap_or}
-use Rattle.broker_types.specs.declared.refusal.Refusal.{Refusal}
+use Rattle.api_json.specs.Words.{Refusal, IsKeptMeta, members_of, token_creation}
 use Rattle.broker_types.specs.declared.refusal.Field.TheVariants as field
-use Rattle.broker_types.specs.Refuse.{◌>>=◌, unless}
-use Rattle.api_json.specs.KeptBodies.{IsKeptMeta}
-use Rattle.api_json.specs.Parsed.{members_of}
-use Rattle.api_json.specs.Readers.{token_creation}
+use Rattle.broker_types.specs.Words.{◌>>=◌, unless}
 use Rattle.api_json.proofs.KeptObjects.{given_members}
 use Rattle.api_json.proofs.KeptMeta.{few_policies, meta_kept}
 use Rattle.api_json.proofs.token_bodies.token_creation.Goals as goal

@@ -1,11 +1,6 @@
-use Rattle.std.specs.Prelude.{List, ◌∷◌}
-use Rattle.std.proofs.Common.{◌≡◌, true, sym, ap, ◌∙◌, subst}
-use Rattle.broker_types.specs.Identifier.{id}
-use Rattle.broker_types.specs.Names.{names_of}
-use Rattle.broker_types.specs.Sound.{IsIdentifier}
-use Rattle.broker_types.specs.Text.{Text}
-use Rattle.broker_model.specs.ServedAsks.{is_wrapped, needed_by}
-use Rattle.broker_rows.specs.Operating.{ArePrinted}
+use Rattle.std.proofs.Common.{◌∷◌, ◌≡◌, List, true, sym, ap, ◌∙◌, subst}
+use Rattle.broker_model.specs.Words.{id, names_of, IsIdentifier, Text, is_wrapped, needed_by}
+use Rattle.broker_rows.specs.Words.{ArePrinted}
 use Rattle.broker.specs.Meant.{meant}
 use Rattle.broker.proofs.NeededIdentifiers.{needed_printed}
 use Rattle.broker.proofs.command.needed_identifiers.Goals as goal

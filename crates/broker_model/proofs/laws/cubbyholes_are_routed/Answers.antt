@@ -1,5 +1,4 @@
-use Rattle.std.proofs.Common.{refl}
-use Rattle.broker_types.specs.Text.{same}
+use Rattle.broker_model.specs.Words.{refl, same}
 use Rattle.broker_types.specs.declared.ask.Verb.TheVariants as verb
 use Rattle.mounts.specs.declared.operation.CubbyholeOperation.TheVariants as operations
 use Rattle.broker_model.proofs.CubbyholeRoutes.{means_there, lists_whole, lists_alone, always_there}

@@ -1,4 +1,4 @@
-use Rattle.broker_model.specs.ProperLaws.{are_proper}
+use Rattle.broker_model.specs.Words.{are_proper}
 use Rattle.broker_model.proofs.laws.operations_are_proper.Goals as goal
 
 pub returns : goal.returns

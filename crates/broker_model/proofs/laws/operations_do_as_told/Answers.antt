@@ -1,15 +1,7 @@
-use Rattle.std.specs.Prelude.{◌≡◌, length, Option, Some, None, Ok, slice_index}
-use Rattle.broker_types.specs.Broker.{Broker}
-use Rattle.broker_types.specs.IdentifierLaws.{id-length}
-use Rattle.broker_types.specs.Names.{Names, names_of}
-use Rattle.broker_types.specs.Operation.{Done}
-use Rattle.broker_types.specs.RefuseLaws.{no_ok}
-use Rattle.broker_types.specs.Text.{Text}
-use Rattle.broker_types.specs.declared.words.Words.{Words}
-use Rattle.broker_model.specs.Act.{act}
-use Rattle.broker_model.specs.Command.{Command, on_cubbyhole, on_token, on_secret, on_policy}
-use Rattle.broker_model.specs.Command.{on_mount, on_lease, on_issued, on_wrapping}
-use Rattle.broker_model.specs.Effects.{Does}
+use Rattle.std.proofs.Common.{◌≡◌, length, Option, Some, None, Ok, slice_index}
+use Rattle.broker_model.specs.Words.{Broker, id-length, Names, names_of, Done, no_ok, Text, Words, act, Command}
+use Rattle.broker_model.specs.Words.{on_cubbyhole, on_token, on_secret, on_policy, on_mount, on_lease, on_issued}
+use Rattle.broker_model.specs.Words.{on_wrapping, Does}
 use Rattle.broker_model.proofs.AclPolicyEffects as policies
 use Rattle.broker_model.proofs.CubbyholeEffects as cubbyholes
 use Rattle.broker_model.proofs.IssuedEffects as issued

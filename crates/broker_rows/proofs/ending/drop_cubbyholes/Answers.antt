@@ -1,7 +1,5 @@
 use Rattle.std.proofs.Common.{◌≤◌, length, sym, ◌∙◌, ap, rules}
-use Rattle.std.proofs.Math.ListN.{drop_of_length-le}
-use Rattle.records.specs.Table.{table_of}
-use Rattle.cubbyhole.specs.Laws.{without_cubbyholes}
+use Rattle.broker_model.specs.Words.{drop_of_length-le, table_of, without_cubbyholes}
 use Rattle.broker_rows.proofs.ending.drop_cubbyholes.Goals as goal
 
 pub returns-clause-rows : goal.returns-clause-rows

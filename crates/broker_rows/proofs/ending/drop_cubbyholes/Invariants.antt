@@ -1,7 +1,5 @@
 use Rattle.std.proofs.Common.{◌≡◌, false, drop}
-use Rattle.records.specs.Table.{table_of}
-use Rattle.records.specs.Transaction.{IsHonest, GoesOn}
-use Rattle.cubbyhole.specs.Laws.{without_cubbyholes}
+use Rattle.broker_model.specs.Words.{table_of, IsHonest, GoesOn, without_cubbyholes}
 use Rattle.broker_rows.proofs.ending.drop_cubbyholes.Given as goal
 
 -- to drop what is left leads to the same rows

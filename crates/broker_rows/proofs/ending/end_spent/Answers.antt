@@ -1,18 +1,7 @@
-use Rattle.std.proofs.Common.{sym, subst}
-use Rattle.std.proofs.lemmas.Result.{err_from_is_err_and, on_ok_weaker}
-use Rattle.broker_types.specs.Broker.{revoke}
-use Rattle.broker_types.specs.Lineage.{without_descendants}
-use Rattle.broker_types.specs.Sound.{Sound}
-use Rattle.broker_types.specs.SpendingLaws.{end_spent_sound}
-use Rattle.records.specs.CallLaws.{honest_before}
-use Rattle.token_tree.specs.Tokens.{AreEnded}
-use Rattle.broker_model.specs.Forms.{forms}
+use Rattle.broker_model.specs.Words.{sym, subst, err_from_is_err_and, on_ok_weaker, revoke, without_descendants, Sound}
+use Rattle.broker_model.specs.Words.{end_spent_sound, honest_before, AreEnded, forms, Some, None}
 use Rattle.broker_rows.proofs.Callers.{represents-unspent, spent_revoked}
-use Rattle.std.specs.Prelude.{Some, None}
-use Rattle.broker_rows.specs.Left.{HaveEnded}
-use Rattle.broker_rows.specs.LeftLaws.{revoked_left}
-use Rattle.broker_rows.specs.Representing.{Represents}
-use Rattle.broker_rows.specs.RepresentingLaws.{represents_tokens, still_represented}
+use Rattle.broker_rows.specs.Words.{HaveEnded, revoked_left, Represents, represents_tokens, still_represented}
 use Rattle.broker_rows.proofs.ending.end_spent.Goals as goal
 
 pub returns-then-not-branch-clause-told : goal.returns-then-not-branch-clause-told

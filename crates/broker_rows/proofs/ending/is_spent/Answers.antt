@@ -1,13 +1,7 @@
-use Rattle.std.proofs.Common.{◌≡◌, Some, None, sym, ap, ◌∙◌, false}
-use Rattle.std.specs.Prelude.{◌==◌}
-use Rattle.std.specs.Option.{option_map_or}
-use Rattle.std.proofs.lemmas.Result.{err_from_is_err_and}
-use Rattle.records.specs.ValueLaws.{none_of}
-use Rattle.records.specs.TokenEntry.{TokenEntry}
-use Rattle.broker_model.specs.Forms.{forms}
-use Rattle.broker_types.specs.Map.{get}
+use Rattle.std.proofs.Common.{◌≡◌, ◌==◌, Some, None, sym, ap, ◌∙◌, false}
+use Rattle.broker_model.specs.Words.{option_map_or, err_from_is_err_and, none_of, TokenEntry, forms, get}
 use Rattle.broker_rows.proofs.Callers.{unknown_unspent, limit_told}
-use Rattle.broker_rows.specs.RepresentingLaws.{represents_tokens}
+use Rattle.broker_rows.specs.Words.{represents_tokens}
 use Rattle.broker_rows.proofs.ending.is_spent.Goals as goal
 
 pub returns-in_default-clause-told : goal.returns-in_default-clause-told

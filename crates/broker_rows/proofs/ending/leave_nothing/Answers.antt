@@ -1,5 +1,4 @@
-use Rattle.std.proofs.lemmas.Result.{on_ok_weaker, err_from_is_err_and}
-use Rattle.records.specs.CallLaws.{honest_before, not_damaged}
+use Rattle.broker_model.specs.Words.{on_ok_weaker, err_from_is_err_and, honest_before, not_damaged}
 use Rattle.broker_rows.proofs.Ended.{represents-ended, theirs_readable}
 use Rattle.broker_rows.proofs.ending.leave_nothing.Goals as goal
 

@@ -1,13 +1,8 @@
-use Rattle.std.proofs.Common.{rules, ◌≡◌, [], max, None, sym, ap, subst, ◌∙◌}
+use Rattle.std.proofs.Common.{◌≡◌, rules, [], max, None, sym, ap, subst, ◌∙◌}
 use Rattle.std.specs.FinMap as map
-use Rattle.records.specs.RowForms.{clock_row}
+use Rattle.broker_model.specs.Words.{clock_row, same_Some, with_clock, ok_inj, honest_before}
 use Rattle.records.specs.declared.kind.Kind.TheVariants as kind
-use Rattle.std.proofs.lemmas.Option.{same_Some}
-use Rattle.records.specs.ClockLaws.{with_clock}
-use Rattle.records.specs.ValueLaws.{ok_inj}
-use Rattle.broker_rows.specs.Representing.{Represents}
-use Rattle.broker_rows.specs.RepresentingLaws.{still_represented}
-use Rattle.records.specs.CallLaws.{honest_before}
+use Rattle.broker_rows.specs.Words.{Represents, still_represented}
 use Rattle.broker_rows.proofs.ClockCalls.{clock_found, clock_put}
 use Rattle.broker_rows.proofs.expiry.advance_clock.Goals as goal
 

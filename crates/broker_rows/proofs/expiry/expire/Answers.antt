@@ -1,14 +1,6 @@
-use Rattle.std.proofs.Common.{sym, subst}
-use Rattle.std.specs.Prelude.{None}
-use Rattle.std.proofs.lemmas.Result.{err_from_is_err_and}
-use Rattle.broker_types.specs.Lineage.{alive_at}
-use Rattle.records.specs.CallLaws.{honest_before, not_damaged}
-use Rattle.records.specs.ClockLaws.{with_clock}
-use Rattle.records.specs.DueRows.{AreDue}
-use Rattle.records.specs.Transaction.{Rows}
-use Rattle.token_tree.specs.Tokens.{AreEnded, without_expired}
-use Rattle.broker_model.specs.Forms.{forms}
-use Rattle.broker_rows.specs.RepresentingLaws.{represents_tokens, represents_waiting, still_represented}
+use Rattle.broker_model.specs.Words.{sym, subst, None, err_from_is_err_and, alive_at, honest_before, not_damaged}
+use Rattle.broker_model.specs.Words.{with_clock, AreDue, Rows, AreEnded, without_expired, forms}
+use Rattle.broker_rows.specs.Words.{represents_tokens, represents_waiting, still_represented}
 use Rattle.broker_rows.proofs.Expired.{due_readable, due_yet, responses_swept, still_due, swept_left}
 use Rattle.broker_rows.proofs.expiry.expire.Goals as goal
 

@@ -1,5 +1,4 @@
-use Rattle.std.proofs.Common.{◌∙◌}
-use Rattle.std.proofs.lemmas.Result.{IfOk-weaker}
+use Rattle.broker_model.specs.Words.{◌∙◌, IfOk-weaker}
 use Rattle.broker_rows.proofs.UsedIdentifiers.{unmarked_new}
 use Rattle.broker_rows.proofs.identifiers.are_new.Goals as goal
 

@@ -1,7 +1,6 @@
 use Rattle.std.proofs.Common.{◌≡◌, length, false}
-use Rattle.records.specs.Table.{table_of}
-use Rattle.records.specs.Transaction.{IsHonest, GoesOn}
-use Rattle.broker_rows.specs.Marks.{are_unmarked}
+use Rattle.broker_model.specs.Words.{table_of, IsHonest, GoesOn}
+use Rattle.broker_rows.specs.Words.{are_unmarked}
 use Rattle.broker_rows.proofs.identifiers.are_unmarked.Given as goal
 
 abbrev pub decreases-loop-later : goal.decreases-loop-later

@@ -1,4 +1,4 @@
-use Rattle.std.proofs.Common.{rules}
+use Rattle.broker_model.specs.Words.{rules}
 use Rattle.broker_rows.proofs.identifiers.identifier.Goals as goal
 
 pub returns-clause-good : goal.returns-clause-good

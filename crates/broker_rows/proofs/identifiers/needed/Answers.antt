@@ -1,10 +1,7 @@
-use Rattle.std.proofs.Common.{◌≡◌, ◌∙◌, IfOk, List, [], ◌∷◌, Result, sym, ap, subst}
-use Rattle.broker_types.specs.Identifier.{id}
-use Rattle.broker_types.specs.Names.{Names, names_of}
-use Rattle.broker_types.specs.Text.{Text}
-use Rattle.broker_model.specs.Traits.{names_needed}
+use Rattle.std.proofs.Common.{◌≡◌, ◌∷◌, ◌∙◌, IfOk, List, [], Result, sym, ap, subst}
+use Rattle.broker_model.specs.Words.{id, Names, names_of, Text, names_needed}
 use Rattle.broker_model.specs.declared.commands.Needs.{Needs}
-use Rattle.broker_rows.specs.Operating.{ArePrinted}
+use Rattle.broker_rows.specs.Words.{ArePrinted}
 use Rattle.broker_rows.proofs.identifiers.needed.Goals as goal
 
 -- those that were printed are those that are needed

@@ -1,8 +1,5 @@
-use Rattle.std.specs.Prelude.{All}
-use Rattle.std.proofs.Common.{◌∷◌, [], ap, sym, subst, ◌∙◌}
-use Rattle.std.proofs.lemmas.List.Elements.{All-cons, All-nil}
-use Rattle.broker_types.specs.Identifier.{id}
-use Rattle.broker_types.specs.Sound.{IsIdentifier}
+use Rattle.std.proofs.Common.{◌∷◌, All, [], ap, sym, subst, ◌∙◌}
+use Rattle.broker_model.specs.Words.{All-cons, All-nil, id, IsIdentifier}
 use Rattle.broker_rows.proofs.identifiers.printed.Goals as goal
 
 pub returns : goal.returns

@@ -1,7 +1,4 @@
-use Rattle.std.proofs.Common.{ap, ◌∙◌}
-use Rattle.std.proofs.lemmas.Result.{on_ok_weaker}
-use Rattle.records.specs.Table.{table_of, with_row}
-use Rattle.records.specs.TableLaws.{table_of-insert}
+use Rattle.broker_model.specs.Words.{ap, ◌∙◌, on_ok_weaker, table_of, with_row, table_of-insert}
 use Rattle.records.specs.declared.kind.Kind.TheVariants as kind
 use Rattle.broker_rows.proofs.identifiers.use_up.Goals as goal
 

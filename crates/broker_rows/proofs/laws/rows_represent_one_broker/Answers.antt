@@ -1,5 +1,4 @@
-use Rattle.std.proofs.Common.{sym, ◌∙◌}
-use Rattle.broker_model.specs.Forms.{forms}
+use Rattle.broker_model.specs.Words.{sym, ◌∙◌, forms}
 use Rattle.broker_rows.proofs.laws.rows_represent_one_broker.Goals as goal
 
 pub returns : goal.returns

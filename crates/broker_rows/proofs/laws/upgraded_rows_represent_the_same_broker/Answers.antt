@@ -1,7 +1,4 @@
-use Rattle.std.proofs.Common.{None, subst}
-use Rattle.broker_model.specs.Forms.{forms}
-use Rattle.records.specs.Table.{Table, table_of}
-use Rattle.records.specs.Upgraded.{AreUpgraded}
+use Rattle.broker_model.specs.Words.{None, subst, forms, Table, table_of, AreUpgraded}
 use Rattle.broker_rows.proofs.laws.upgraded_rows_represent_the_same_broker.Goals as goal
 
 pub returns-clause-old : goal.returns-clause-old

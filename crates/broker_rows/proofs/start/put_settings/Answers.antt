@@ -1,7 +1,5 @@
-use Rattle.std.proofs.lemmas.Result.{on_ok_weaker}
-use Rattle.records.specs.CallLaws.{honest_before, goes_further}
+use Rattle.broker_model.specs.Words.{on_ok_weaker, honest_before, goes_further, default_policy}
 use Rattle.broker_rows.proofs.FirstRows.{settings_put}
-use Rattle.broker_types.specs.First.{default_policy}
 use Rattle.broker_rows.proofs.start.put_settings.Goals as goal
 
 pub returns-clause-call : goal.returns-clause-call

@@ -1,5 +1,5 @@
-use Rattle.std.proofs.Common.{refl, ap, ◌∙◌, ◌∷◌, []}
-use Rattle.std.proofs.lemmas.Result.{IfOk-weaker}
+use Rattle.std.proofs.Common.{◌∷◌, refl, ap, ◌∙◌, []}
+use Rattle.broker_model.specs.Words.{IfOk-weaker}
 use Rattle.broker_rows.proofs.FirstRows.{root_entry}
 use Rattle.broker_rows.proofs.start.root_row.Goals as goal
 

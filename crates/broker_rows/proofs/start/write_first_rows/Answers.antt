@@ -1,11 +1,6 @@
 use Rattle.std.proofs.Common.{◌≡◌, ◌≤◌, length, ap, ◌∙◌, subst, arith}
-use Rattle.broker_types.specs.IdentifierLaws.{id-length}
-use Rattle.broker_types.specs.Moment.{greatest_moment}
-use Rattle.broker_types.specs.Identifier.{id}
-use Rattle.broker_types.specs.TokenText.{token_text}
-use Rattle.records.specs.FirstRows.{with_root}
+use Rattle.broker_model.specs.Words.{id-length, greatest_moment, id, token_text, with_root, honest_before}
 use Rattle.broker_rows.proofs.FirstRows.{first_started}
-use Rattle.records.specs.CallLaws.{honest_before}
 use Rattle.broker_rows.proofs.start.write_first_rows.Goals as goal
 
 pub put_root-requires-clause-short : goal.put_root-requires-clause-short

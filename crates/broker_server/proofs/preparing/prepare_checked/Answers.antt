@@ -1,10 +1,8 @@
 use Rattle.std.proofs.Common.{◌≡◌, ◌≤◌, inl, inr, None, Ok, Err, Result, sym, ap, ◌∙◌}
-use Rattle.std.proofs.lemmas.Result.{err_from_is_err_and}
-use Rattle.broker_rows.specs.ClockRow.{HasNoClock}
-use Rattle.broker_types.specs.declared.fault.Fault.{Fault}
-use Rattle.broker_types.specs.declared.fault.Fault.TheVariants.{BadStart}
+use Rattle.records.specs.Words.{err_from_is_err_and, Fault, BadStart}
+use Rattle.broker_rows.specs.Words.{HasNoClock}
 use Rattle.broker_types.specs.OptionLaws.{of_none, of_some}
-use Rattle.records_sql.specs.KeptRecords.{kept_records}
+use Rattle.records_sql.specs.Words.{kept_records}
 use Rattle.database_check.specs.Findings.{OpenAsNone}
 use Rattle.broker_sql.specs.SqlKept.{sql_kept}
 use Rattle.hub.specs.declared.serve.ConnectionFault.TheVariants.{Broker, Read, Write}

@@ -1,5 +1,4 @@
-use Rattle.std.proofs.Common.{inl, inr, sym, ◌∙◌}
-use Rattle.std.proofs.lemmas.Bool.{false≢true}
+use Rattle.records.specs.Words.{inl, inr, sym, ◌∙◌, false≢true}
 use Rattle.broker_server.proofs.PreparedLemmas.{new_broker}
 use Rattle.broker_server.proofs.starting.made_ready.Goals as goal
 

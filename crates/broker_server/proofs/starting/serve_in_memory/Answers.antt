@@ -1,4 +1,4 @@
-use Rattle.std.proofs.Common.{refl, inr}
+use Rattle.records.specs.Words.{refl, inr}
 use Rattle.broker_sql.specs.HonestLaws.{always_honest}
 use Rattle.broker_server.proofs.PreparedLemmas.{faulted, not_refused}
 use Rattle.broker_server.proofs.starting.serve_in_memory.Goals.{in-Ok, in-Err-Faulted}

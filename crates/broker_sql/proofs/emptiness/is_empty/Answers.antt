@@ -1,7 +1,5 @@
 use Rattle.std.proofs.Common.{◌≡◌, ◌∙◌, false, length, sym, ap, subst, arith}
-use Rattle.std.proofs.lemmas.List.{nil_from_length}
-use Rattle.std.proofs.lemmas.Bool.Decides.{nat_tests}
-use Rattle.records.specs.CallLaws.{honest_before}
+use Rattle.broker_model.specs.Words.{nil_from_length, nat_tests, honest_before}
 use Rattle.broker_sql.proofs.KindLemmas.{LookedSoFar, looked_further, no_rows, none_in_empty}
 use Rattle.broker_sql.proofs.emptiness.is_empty.Goals as goal
 

@@ -1,4 +1,4 @@
-use Rattle.std.proofs.Common.{refl}
+use Rattle.broker_model.specs.Words.{refl}
 use Rattle.broker_sql.specs.HonestLaws.{always_honest}
 use Rattle.broker_sql.proofs.laws.memory_returns_what_was_written.Goals as goal
 

@@ -1,5 +1,5 @@
-use Rattle.std.proofs.Common.{Bool, true, false, ◌&&◌, IsTrue, refl, ap, ◌∙◌}
-use Rattle.records_sql.specs.SqlTable.{rows_of}
+use Rattle.std.proofs.Common.{◌&&◌, Bool, true, false, IsTrue, refl, ap, ◌∙◌}
+use Rattle.records_sql.specs.Words.{rows_of}
 use Rattle.broker_sql.proofs.laws.what_was_committed_is_found.Goals as goal
 
 second : (b c : Bool) → IsTrue (b && c) → IsTrue c

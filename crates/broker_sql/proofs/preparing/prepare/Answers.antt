@@ -1,9 +1,6 @@
 use Rattle.std.proofs.Common.{◌≡◌, ◌≤◌, inl, inr, Ok, Err, Result, slice_index, sym, ap, ◌∙◌, arith}
-use Rattle.std.proofs.lemmas.Result.{err_from_is_err_and}
-use Rattle.std.proofs.lemmas.Bool.Decides.{eqb_tells}
-use Rattle.broker_types.specs.declared.fault.Fault.{Fault}
-use Rattle.broker_types.specs.declared.fault.Fault.TheVariants.{BadStart}
-use Rattle.records_sql.specs.KeptRecords.{kept_records}
+use Rattle.broker_model.specs.Words.{err_from_is_err_and, eqb_tells, Fault, BadStart}
+use Rattle.records_sql.specs.Words.{kept_records}
 use Rattle.broker_sql.specs.SqlKept.{sql_kept}
 use Rattle.broker_sql.proofs.PreparedLemmas.{begun, lacking, no_rows, opened, refused}
 use Rattle.broker_sql.proofs.preparing.prepare.Goals as goal

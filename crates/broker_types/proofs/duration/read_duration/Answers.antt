@@ -1,4 +1,4 @@
-use Rattle.std.proofs.Common.{Some, sym, ap, ◌∙◌}
+use Rattle.broker_types.specs.Words.{Some, sym, ap, ◌∙◌}
 use Rattle.broker_types.proofs.Grammar.{of_duration, none_of_duration}
 use Rattle.broker_types.proofs.duration.read_duration.Goals as goal
 

@@ -1,5 +1,5 @@
 use Rattle.std.proofs.Common.{◌+◌, ◌<◌, ◌≤◌, sym, ap, ◌∙◌, arith, unwrap_or}
-use Rattle.broker_types.specs.Duration.{duration_of, at_most, whole_groups}
+use Rattle.broker_types.specs.Words.{duration_of, at_most, whole_groups}
 use Rattle.broker_types.proofs.Groups.{refused, over, ended, in_range}
 use Rattle.broker_types.proofs.duration.seconds_of.Goals as goal
 

@@ -1,5 +1,5 @@
 use Rattle.std.proofs.Common.{◌≡◌, ◌≤◌, ◌+◌, ◌++◌, List, ℕ, None, drop, unwrap_or}
-use Rattle.broker_types.specs.Duration.{groups}
+use Rattle.broker_types.specs.Words.{groups}
 use Rattle.broker_types.proofs.duration.seconds_of.Given as goal
 
 -- whatever comes after the text, the bytes to come decide

@@ -1,5 +1,5 @@
 use Rattle.std.proofs.Common.{◌≡◌, ◌∙◌, length, sym, ap}
-use Rattle.broker_types.specs.Identifier.{id}
+use Rattle.broker_types.specs.Words.{id}
 use Rattle.broker_types.specs.IdentifierLaws.{id-length}
 use Rattle.broker_types.proofs.identifier.id_bytes.Goals as goal
 

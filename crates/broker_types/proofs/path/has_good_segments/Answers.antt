@@ -1,5 +1,5 @@
 use Rattle.std.proofs.Common.{◌<◌, length, sym, ◌∙◌, arith}
-use Rattle.std.proofs.lemmas.Bool.Decides.{nat_tests}
+use Rattle.broker_types.specs.Words.{nat_tests}
 use Rattle.broker_types.proofs.Parts.{at_slash, at_other}
 use Rattle.broker_types.proofs.path.has_good_segments.Goals as goal
 use Rattle.broker_types.proofs.path.has_good_segments.Goals.{then-byte-eq47+else-not-is_good_segment, else-byte-eq47}

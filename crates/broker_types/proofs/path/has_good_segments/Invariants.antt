@@ -1,6 +1,5 @@
 use Rattle.std.proofs.Common.{◌≡◌, ◌≤◌, [], drop, slice_range}
-use Rattle.std.specs.List.{list_all}
-use Rattle.broker_types.specs.Path.{is_segment, segments}
+use Rattle.broker_types.specs.Words.{list_all, is_segment, segments}
 use Rattle.broker_types.proofs.path.has_good_segments.Given as goal
 
 abbrev pub invariant-loop-i : goal.invariant-loop-i

@@ -1,5 +1,5 @@
-use Rattle.std.proofs.Common.{◌≡◌, ℕ, ◌<◌, pos, arith, w64, ◌∙◌, to_z}
-use Rattle.std.proofs.lemmas.Int.{to_z_pos}
+use Rattle.std.proofs.Common.{◌≡◌, ◌<◌, ℕ, pos, arith, w64, ◌∙◌, to_z}
+use Rattle.broker_types.specs.Words.{to_z_pos}
 use Rattle.jiff_core.specs.declared.civil.date.Date.{Date}
 use Rattle.jiff_core.specs.Date.{epoch_day, IsYmd}
 use Rattle.jiff_core.specs.Span.{IsOnly}

@@ -1,9 +1,8 @@
-use Rattle.std.proofs.Common.{◌≡◌, ℕ, ◌/◌, ◌%◌, List, [], ◌∷◌, ◌++◌, ◌∙◌, pos, refl, string_bytes}
-use Rattle.std.proofs.lemmas.Result.{IfOk-weaker}
+use Rattle.std.proofs.Common.{◌≡◌, ◌/◌, ◌%◌, ◌∷◌, ◌++◌, ℕ, List, [], ◌∙◌, pos, refl, string_bytes}
+use Rattle.broker_types.specs.Words.{IfOk-weaker, time_text, IsClock}
 use Rattle.jiff.specs.Types.{DateTime}
 use Rattle.jiff.specs.Words.{epoch_day}
 use Rattle.jiff.specs.Names.{iso_datetime_text}
-use Rattle.broker_types.specs.Time.{time_text, IsClock}
 use Rattle.broker_types.proofs.Dates.{civil_of_date}
 use Rattle.broker_types.proofs.time.time_text.Goals as goal
 

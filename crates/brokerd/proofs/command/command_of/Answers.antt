@@ -1,6 +1,5 @@
 use Rattle.std.proofs.Common.{◌≡◌, ◌∙◌, List, Option, Some, None, IfErr, IsErrAnd, Result, Ok, Err, map, option_map}
-use Rattle.std.proofs.Common.{string_bytes, refl, sym, ap}
-use Rattle.std.proofs.Common.{subst, true}
+use Rattle.std.proofs.Common.{string_bytes, refl, sym, ap, subst, true}
 use Rattle.clap.specs.Words.{App, Row, Text, found_of, is_simple, rows_of, subcommand_of, subcommand_rows_of, takes}
 use Rattle.clap.proofs.OnLiterals.{clap_on_literals}
 use Rattle.brokerd.specs.CommandLine.{program_app, IsMeant, IsCommandOf}

@@ -1,5 +1,5 @@
-use Rattle.std.proofs.Common.{◌∙◌, ap, sym, is_some}
-use Rattle.cubbyhole.specs.Objects.{object_key}
+use Rattle.records.specs.Words.{◌∙◌, ap, sym, is_some}
+use Rattle.cubbyhole.specs.Words.{object_key}
 use Rattle.cubbyhole.proofs.ObjectKeys.{begins}
 use Rattle.cubbyhole.proofs.ObjectsTold.{same_option}
 use Rattle.cubbyhole.proofs.OneCubbyhole.{listed_alike}

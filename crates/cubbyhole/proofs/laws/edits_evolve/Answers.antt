@@ -1,4 +1,4 @@
-use Rattle.cubbyhole.specs.SoundLaws.{write_evolves, delete_evolves, drop_owner_evolves}
+use Rattle.cubbyhole.specs.Words.{write_evolves, delete_evolves, drop_owner_evolves}
 use Rattle.cubbyhole.proofs.laws.edits_evolve.Goals as goal
 
 pub returns-clause-written : goal.returns-clause-written

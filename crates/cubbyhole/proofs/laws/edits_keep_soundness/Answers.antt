@@ -1,4 +1,4 @@
-use Rattle.cubbyhole.specs.SoundLaws.{write_sound, delete_sound, drop_owner_sound}
+use Rattle.cubbyhole.specs.Words.{write_sound, delete_sound, drop_owner_sound}
 use Rattle.cubbyhole.proofs.laws.edits_keep_soundness.Goals as goal
 
 pub returns-clause-written : goal.returns-clause-written

@@ -1,6 +1,5 @@
-use Rattle.std.proofs.Common.{◌∙◌, ap, is_some}
+use Rattle.records.specs.Words.{◌∙◌, ap, is_some, table}
 use Rattle.records.specs.declared.kind.Kind.TheVariants as kind
-use Rattle.records.specs.Table.{table}
 use Rattle.cubbyhole.proofs.ObjectsTold.{object_there}
 use Rattle.cubbyhole.proofs.reading.is_there.Goals as goal
 

@@ -1,9 +1,6 @@
-use Rattle.std.proofs.Common.{[], ap, ◌∙◌}
-use Rattle.std.proofs.lemmas.Result.{IfOk-weaker}
+use Rattle.records.specs.Words.{[], ap, ◌∙◌, IfOk-weaker, folder, children, keys_under}
 use Rattle.records.specs.declared.kind.Kind.TheVariants as kind
-use Rattle.records.specs.Children.{folder, children, keys_under}
-use Rattle.cubbyhole.specs.Cubbyhole.{paths}
-use Rattle.cubbyhole.specs.Objects.{object_key}
+use Rattle.cubbyhole.specs.Words.{paths, object_key}
 use Rattle.cubbyhole.proofs.ObjectsListed.{key_joined, paths_name}
 use Rattle.cubbyhole.proofs.reading.list.Goals as goal
 

@@ -1,8 +1,5 @@
-use Rattle.std.proofs.Common.{rules, ◌∙◌, ap, sym, None, Some}
+use Rattle.records.specs.Words.{rules, ◌∙◌, ap, sym, None, Some, cubby_row, none_of, table}
 use Rattle.records.specs.declared.kind.Kind.TheVariants as kind
-use Rattle.records.specs.RowForms.{cubby_row}
-use Rattle.records.specs.ValueLaws.{none_of}
-use Rattle.records.specs.Table.{table}
 use Rattle.cubbyhole.proofs.ObjectsTold.{object_told, object_kept}
 use Rattle.cubbyhole.proofs.reading.read.Goals as goal
 

@@ -1,13 +1,8 @@
-use Rattle.std.proofs.Common.{rules, ◌≡◌, ◌∙◌, ap, None}
+use Rattle.std.proofs.Common.{◌≡◌, rules, ◌∙◌, ap, None}
 use Rattle.std.specs.FinMap as map
-use Rattle.broker_types.specs.Text.{Text, same}
-use Rattle.broker_types.specs.Map.{without}
+use Rattle.records.specs.Words.{Text, same, without, table, table_of, without_row, Seen, on_ok_weaker, table_of-remove}
 use Rattle.records.specs.declared.kind.Kind.TheVariants as kind
-use Rattle.records.specs.Table.{table, table_of, without_row}
-use Rattle.records.specs.Transaction.{Seen}
-use Rattle.std.proofs.lemmas.Result.{on_ok_weaker}
-use Rattle.records.specs.TableLaws.{table_of-remove}
-use Rattle.cubbyhole.specs.Objects.{object_key}
+use Rattle.cubbyhole.specs.Words.{object_key}
 use Rattle.cubbyhole.proofs.Edits.{others_kept, tells_edited}
 use Rattle.cubbyhole.proofs.ObjectKeys.{key_under}
 use Rattle.cubbyhole.proofs.ObjectRows.{cubby-delete}

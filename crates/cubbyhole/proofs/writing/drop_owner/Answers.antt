@@ -1,11 +1,6 @@
-use Rattle.std.proofs.Common.{rules, ◌∙◌, [], None}
-use Rattle.std.specs.Prelude.{nat_eq}
-use Rattle.std.specs.List.{starts_with}
-use Rattle.broker_types.specs.Map.{empty}
+use Rattle.records.specs.Words.{rules, ◌∙◌, [], None, nat_eq, starts_with, empty, table, without_under, on_ok_weaker}
 use Rattle.records.specs.declared.kind.Kind.TheVariants as kind
-use Rattle.records.specs.Table.{table, without_under}
-use Rattle.std.proofs.lemmas.Result.{on_ok_weaker}
-use Rattle.cubbyhole.specs.Objects.{object_key}
+use Rattle.cubbyhole.specs.Words.{object_key}
 use Rattle.cubbyhole.proofs.Edits.{others_kept, tells_edited}
 use Rattle.cubbyhole.proofs.Filed.{under_owned}
 use Rattle.cubbyhole.proofs.ObjectRows.{cubby-drop_owner}

@@ -1,15 +1,9 @@
-use Rattle.std.proofs.Common.{rules, ◌≡◌, ◌∙◌, ap, Some}
+use Rattle.std.proofs.Common.{◌≡◌, rules, ◌∙◌, ap, Some}
 use Rattle.std.specs.FinMap as map
-use Rattle.broker_types.specs.Text.{Text, same}
-use Rattle.broker_types.specs.Map.{put}
+use Rattle.records.specs.Words.{Text, same, put, cubby_row, table, table_of, with_row, Seen, on_ok_weaker}
+use Rattle.records.specs.Words.{table_of-insert}
 use Rattle.records.specs.declared.kind.Kind.TheVariants as kind
-use Rattle.records.specs.RowForms.{cubby_row}
-use Rattle.records.specs.declared.row.Row.{Row}
-use Rattle.records.specs.Table.{table, table_of, with_row}
-use Rattle.records.specs.Transaction.{Seen}
-use Rattle.std.proofs.lemmas.Result.{on_ok_weaker}
-use Rattle.records.specs.TableLaws.{table_of-insert}
-use Rattle.cubbyhole.specs.Objects.{object_key}
+use Rattle.cubbyhole.specs.Words.{Row, object_key}
 use Rattle.cubbyhole.proofs.Edits.{others_kept, tells_edited}
 use Rattle.cubbyhole.proofs.ObjectKeys.{key_under}
 use Rattle.cubbyhole.proofs.ObjectRows.{cubby-write}

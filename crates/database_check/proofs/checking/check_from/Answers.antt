@@ -1,9 +1,7 @@
-use Rattle.std.proofs.Common.{sym, subst}
+use Rattle.records.specs.Words.{sym, subst, Rows}
 use Rattle.sqlite.specs.Files.{over_files}
 use Rattle.sqlite.specs.WalFiles.{image_at}
-use Rattle.records.specs.Transaction.{Rows}
-use Rattle.records_sql.specs.Adopted.{IsKeptIn}
-use Rattle.records_sql.specs.KeptRecords.{kept_records}
+use Rattle.records_sql.specs.Words.{IsKeptIn, kept_records}
 use Rattle.database_check.proofs.FindingLemmas.{if_sound, if_unsound, of_opened}
 use Rattle.database_check.proofs.checking.check_from.Goals as goal
 

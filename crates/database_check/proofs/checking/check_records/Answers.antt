@@ -1,9 +1,7 @@
 use Rattle.std.proofs.Common.{◌≡◌, ◌≤◌, IfOk, sym, subst, rules}
-use Rattle.std.proofs.Math.Arith.{le-zero}
+use Rattle.records.specs.Words.{le-zero, honest_before, Rows}
 use Rattle.sqlite.specs.Held.{state}
-use Rattle.records.specs.CallLaws.{honest_before}
-use Rattle.records.specs.Transaction.{Rows}
-use Rattle.records_sql.specs.SqlTable.{mismatches, seen_of}
+use Rattle.records_sql.specs.Words.{mismatches, seen_of}
 use Rattle.database_check.specs.Findings.{IfSound, IfUnsound, OpenAsCounted, OpenAsNone}
 use Rattle.database_check.proofs.checking.check_records.Goals as goal
 

@@ -1,10 +1,8 @@
-use Rattle.std.proofs.Common.{◌≡◌, ◌≤◌, ◌⊎◌, subst, rules, arith}
-use Rattle.std.specs.Prelude.{IfNone, IfSome}
+use Rattle.std.proofs.Common.{◌≡◌, ◌≤◌, ◌⊎◌, subst, rules, arith, IfNone, IfSome}
 use Rattle.sqlite.specs.Held.{state}
-use Rattle.broker_rows.specs.ClockRow.{HasNoClock}
-use Rattle.records.specs.CallLaws.{honest_before}
-use Rattle.records.specs.Transaction.{Rows}
-use Rattle.records_sql.specs.SqlTable.{mismatches, seen_of}
+use Rattle.broker_rows.specs.Words.{HasNoClock}
+use Rattle.records.specs.Words.{honest_before, Rows}
+use Rattle.records_sql.specs.Words.{mismatches, seen_of}
 use Rattle.database_check.specs.Findings.{OpenAsABroker, OpenAsNone}
 use Rattle.database_check.proofs.checking.defect_of.Goals as goal
 

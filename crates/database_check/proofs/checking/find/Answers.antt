@@ -1,6 +1,5 @@
 use Rattle.broker_types.specs.OptionLaws.{of_none, of_some}
-use Rattle.records.specs.CallLaws.{honest_before}
-use Rattle.records.specs.Transaction.{IsHonest}
+use Rattle.records.specs.Words.{honest_before, IsHonest}
 use Rattle.database_check.specs.Findings.{OpenAsNone}
 use Rattle.database_check.proofs.checking.find.Goals as goal
 

@@ -1,11 +1,6 @@
-use Rattle.std.proofs.Common.{sym, subst}
+use Rattle.records.specs.Words.{sym, subst, honest_before, IsHonest, Rows, table_of, AreUpgraded}
 use Rattle.broker_types.specs.OptionLaws.{of_none, of_some}
-use Rattle.records.specs.CallLaws.{honest_before}
-use Rattle.records.specs.Transaction.{IsHonest, Rows}
-use Rattle.records.specs.Table.{table_of}
-use Rattle.records.specs.Upgraded.{AreUpgraded}
-use Rattle.soundness.specs.Broken.{Breaks}
-use Rattle.soundness.specs.Laws.{AreOfABroker}
+use Rattle.soundness.specs.Words.{Breaks, AreOfABroker}
 use Rattle.database_check.specs.Naming.{TellsOf}
 use Rattle.database_check.proofs.FindingLemmas.{opens_as_none}
 use Rattle.database_check.proofs.checking.find_defect.Goals as goal

@@ -1,10 +1,7 @@
-use Rattle.std.proofs.Common.{inr, subst}
-use Rattle.std.specs.Prelude.{IfOk, IfNone, IfSome, ◌⊎◌}
-use Rattle.std.proofs.lemmas.Result.{IfOk-weaker}
+use Rattle.std.proofs.Common.{◌⊎◌, inr, subst, IfOk, IfNone, IfSome}
+use Rattle.records.specs.Words.{IfOk-weaker, honest_before, IsHonest, Rows}
 use Rattle.broker_types.specs.OptionLaws.{if_none_weaker}
-use Rattle.records.specs.CallLaws.{honest_before}
-use Rattle.records.specs.Transaction.{IsHonest, Rows}
-use Rattle.broker_rows.specs.ClockRow.{HasNoClock}
+use Rattle.broker_rows.specs.Words.{HasNoClock}
 use Rattle.database_check.specs.Findings.{OpenAsABroker, OpenAsNone}
 use Rattle.database_check.proofs.checking.find_if_started.Goals as goal
 

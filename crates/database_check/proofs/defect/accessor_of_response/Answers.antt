@@ -1,8 +1,5 @@
-use Rattle.std.proofs.Common.{inl, inr, refl, sym, ap, ◌∙◌, Err, Some}
-use Rattle.std.proofs.lemmas.Option.{none-some, same_Some}
-use Rattle.broker_types.specs.Broker.{Waiting}
-use Rattle.records.specs.Ranges.{IsWaitingInRange}
-use Rattle.records.specs.RowForms.{waiting_row}
+use Rattle.records.specs.Words.{inl, inr, refl, sym, ap, ◌∙◌, Err, Some, none-some, same_Some, Waiting}
+use Rattle.records.specs.Words.{IsWaitingInRange, waiting_row}
 use Rattle.database_check.specs.Naming.{visible}
 use Rattle.database_check.proofs.NamingLemmas.{unread}
 use Rattle.database_check.proofs.defect.accessor_of_response.Goals as goal

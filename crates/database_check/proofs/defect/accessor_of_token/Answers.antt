@@ -1,8 +1,5 @@
-use Rattle.std.proofs.Common.{inl, inr, refl, sym, ap, ◌∙◌, Err, Some}
-use Rattle.std.proofs.lemmas.Option.{none-some, same_Some}
-use Rattle.records.specs.Ranges.{IsTokenInRange}
-use Rattle.records.specs.RowForms.{entry_row}
-use Rattle.records.specs.TokenEntry.{TokenEntry}
+use Rattle.records.specs.Words.{inl, inr, refl, sym, ap, ◌∙◌, Err, Some, none-some, same_Some, IsTokenInRange}
+use Rattle.records.specs.Words.{entry_row, TokenEntry}
 use Rattle.database_check.specs.Naming.{visible}
 use Rattle.database_check.proofs.NamingLemmas.{damaged_unread}
 use Rattle.database_check.proofs.defect.accessor_of_token.Goals as goal

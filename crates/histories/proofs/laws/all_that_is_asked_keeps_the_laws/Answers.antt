@@ -1,6 +1,5 @@
-use Rattle.std.proofs.Common.{subst}
-use Rattle.broker_types.specs.Broker.{Broker}
-use Rattle.histories.specs.History.{AreAsked}
+use Rattle.broker_model.specs.Words.{subst, Broker}
+use Rattle.histories.specs.Words.{AreAsked}
 use Rattle.histories.proofs.laws.all_that_is_asked_keeps_the_laws.Goals as goal
 
 pub returns : goal.returns

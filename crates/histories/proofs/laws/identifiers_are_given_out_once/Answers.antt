@@ -1,5 +1,5 @@
-use Rattle.histories.proofs.GivenOut.{all_stay_used, any_gives_out_new, gives_out_new}
-use Rattle.histories.proofs.GivenOut.{no_identifier_twice, none_twice_by_any}
+use Rattle.histories.proofs.GivenOut.{all_stay_used, any_gives_out_new, gives_out_new, no_identifier_twice}
+use Rattle.histories.proofs.GivenOut.{none_twice_by_any}
 use Rattle.histories.proofs.laws.identifiers_are_given_out_once.Goals as goal
 
 pub returns-clause-since : goal.returns-clause-since

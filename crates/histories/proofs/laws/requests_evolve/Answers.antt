@@ -1,4 +1,4 @@
-use Rattle.histories.specs.KeptResponses.{unwrapped_body}
+use Rattle.histories.specs.Words.{unwrapped_body}
 use Rattle.histories.proofs.Lasting.{asked_keeps, evolved_since, kept_evolves}
 use Rattle.histories.proofs.Requests.{history_keeps}
 use Rattle.histories.proofs.laws.requests_evolve.Goals as goal

@@ -1,5 +1,5 @@
-use Rattle.std.proofs.Common.{◌∙◌, ap, sym, subst, drop}
-use Rattle.http_layer.specs.Asked.{HasNoEscape}
+use Rattle.broker_types.specs.Words.{◌∙◌, ap, sym, subst, drop}
+use Rattle.http_layer.specs.Words.{HasNoEscape}
 use Rattle.http_layer.proofs.AskedLemmas.{HasNoEscape-drop}
 use Rattle.http_layer.proofs.asking.path_of.Goals as goal
 

@@ -1,8 +1,7 @@
-use Rattle.std.proofs.Common.{◌≡◌, ◌∙◌, ap, sym, subst, Ok, Err}
-use Rattle.std.specs.Prelude.{IsUtf8}
+use Rattle.std.proofs.Common.{◌≡◌, ◌∙◌, ap, sym, subst, Ok, Err, IsUtf8}
 use Rattle.percent_encoding.specs.Iter.{decoded_bytes}
 use Rattle.percent_encoding.specs.Percent.{percent_decode}
-use Rattle.broker_types.specs.Path.{is_path, without_slash}
+use Rattle.broker_types.specs.Words.{is_path, without_slash}
 use Rattle.http_layer.proofs.AskedLemmas.{path_read-no_text, path_read-path}
 use Rattle.http_layer.proofs.asking.read_path.Goals as goal
 

@@ -1,4 +1,4 @@
-use Rattle.std.proofs.Common.{◌∙◌, ℕ, List, ap, sym, Ok, Err, Some}
+use Rattle.broker_types.specs.Words.{◌∙◌, ℕ, List, ap, sym, Ok, Err, Some}
 use Rattle.http_layer.proofs.AskedLemmas.{value_asked-no_text, value_asked-text}
 use Rattle.http_layer.proofs.asking.value_of.Goals as goal
 

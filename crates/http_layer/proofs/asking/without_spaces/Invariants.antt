@@ -1,7 +1,7 @@
 use Rattle.std.proofs.Common.{◌≡◌, length}
 use denote.Text.{Utf8}
 use denote.Shadow.{shadow}
-use Rattle.http_layer.specs.Asked.{without_spaces}
+use Rattle.http_layer.specs.Words.{without_spaces}
 use Rattle.http_layer.proofs.asking.without_spaces.Given as goal
 
 abbrev pub decreases-loop-text : goal.decreases-loop-text

@@ -1,9 +1,8 @@
 use Rattle.std.proofs.Common.{◌≡◌, ℕ, List, true, sym, ap, ◌∙◌, get_or, codes}
-use Rattle.std.proofs.lemmas.Bool.{and_from}
+use Rattle.broker_types.specs.Words.{and_from}
 use Rattle.httparse.specs.Spans.{header_bytes}
 use Rattle.httparse.specs.declared.spans.HeaderSpan.{HeaderSpan}
-use Rattle.http_layer.specs.Closing.{is_closing, lists_close}
-use Rattle.http_layer.specs.HeadParts.{same_in_any_case}
+use Rattle.http_layer.specs.Words.{is_closing, lists_close, same_in_any_case}
 use Rattle.http_layer.proofs.NamedLemmas.{list_any-map_at}
 use Rattle.http_layer.proofs.closing.asks_to_close.Goals as goal
 

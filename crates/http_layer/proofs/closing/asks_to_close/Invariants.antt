@@ -1,7 +1,7 @@
 use Rattle.std.proofs.Common.{◌≡◌, take, map, false}
-use Rattle.std.specs.List.{list_any}
+use Rattle.broker_types.specs.Words.{list_any}
 use Rattle.httparse.specs.Spans.{header_bytes}
-use Rattle.http_layer.specs.Closing.{is_closing}
+use Rattle.http_layer.specs.Words.{is_closing}
 use Rattle.http_layer.proofs.closing.asks_to_close.Given as goal
 
 abbrev pub invariant-loop-header : goal.invariant-loop-header

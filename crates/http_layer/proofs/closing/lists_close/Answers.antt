@@ -1,7 +1,6 @@
-use Rattle.std.proofs.Common.{rules, tests, ◌==◌}
-use Rattle.std.proofs.lemmas.Iterator.Splits.{YieldsList-from_slice_split}
-use Rattle.std.proofs.lemmas.Iterator.Search.{any_from_yields_List}
-use Rattle.http_layer.specs.Closing.{is_close}
+use Rattle.std.proofs.Common.{◌==◌, rules, tests}
+use Rattle.broker_types.specs.Words.{YieldsList-from_slice_split, any_from_yields_List}
+use Rattle.http_layer.specs.Words.{is_close}
 use Rattle.http_layer.proofs.closing.lists_close.Goals as goal
 
 pub returns : goal.returns

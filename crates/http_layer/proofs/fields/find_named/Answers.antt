@@ -1,11 +1,8 @@
-use Rattle.std.proofs.Common.{◌≡◌, ◌∙◌, ◌++◌, ◌∷◌, [], sym, ap, subst, map, take, get_or, List, ℕ}
-use Rattle.std.proofs.lemmas.List.{map_more}
+use Rattle.std.proofs.Common.{◌≡◌, ◌++◌, ◌∷◌, ◌∙◌, [], sym, ap, subst, map, take, get_or, List, ℕ}
+use Rattle.broker_types.specs.Words.{map_more}
 use Rattle.httparse.specs.Spans.{header_bytes}
 use Rattle.httparse.specs.declared.spans.HeaderSpan.{HeaderSpan}
-use Rattle.http_layer.specs.HeadParts.{values_named, is_named, same_in_any_case}
-use Rattle.http_layer.specs.declared.fields.Named.{Named}
-use Rattle.http_layer.specs.declared.fields.Named.TheVariants.{Several}
-use Rattle.http_layer.specs.Named.{AreNamed}
+use Rattle.http_layer.specs.Words.{values_named, is_named, same_in_any_case, Named, Several, AreNamed}
 use Rattle.http_layer.proofs.NamedLemmas.{values_named-hit, values_named-miss, AreNamed-several}
 use Rattle.http_layer.proofs.fields.find_named.Goals as goal
 use Rattle.http_layer.proofs.fields.find_named.Goals.{then-same_in_any_case+in-Absent, then-same_in_any_case+in_default}

@@ -1,7 +1,6 @@
-use Rattle.std.proofs.Common.{map, take}
+use Rattle.broker_types.specs.Words.{map, take}
 use Rattle.httparse.specs.Spans.{header_bytes}
-use Rattle.http_layer.specs.HeadParts.{values_named}
-use Rattle.http_layer.specs.Named.{AreNamed}
+use Rattle.http_layer.specs.Words.{values_named, AreNamed}
 use Rattle.http_layer.proofs.fields.find_named.Given as goal
 
 abbrev pub invariant-loop-header : goal.invariant-loop-header

@@ -1,7 +1,4 @@
-use Rattle.std.proofs.Common.{map}
-use Rattle.std.specs.Char.{to_ascii_lowercase}
-use Rattle.std.proofs.lemmas.Bool.Decides.{same_from_decides}
-use Rattle.std.proofs.lemmas.Slice.Eq.{bytes_eq-Decides}
+use Rattle.broker_types.specs.Words.{map, to_ascii_lowercase, same_from_decides, bytes_eq-Decides}
 use Rattle.http_layer.proofs.fields.same_in_any_case.Goals as goal
 
 pub returns : goal.returns

@@ -1,6 +1,6 @@
 use Rattle.std.proofs.Common.{◌≡◌, ◌+◌, drop}
-use Rattle.std.specs.List.{prefix_len}
-use Rattle.http_layer.specs.Front.{is_line_byte}
+use Rattle.broker_types.specs.Words.{prefix_len}
+use Rattle.http_layer.specs.Words.{is_line_byte}
 use Rattle.http_layer.proofs.head_end.line_bytes.Given as goal
 
 abbrev pub invariant-loop-i : goal.invariant-loop-i

@@ -1,6 +1,5 @@
-use Rattle.std.proofs.Common.{◌∙◌, ap, take, ℕ}
-use Rattle.std.proofs.lemmas.List.{take_min}
-use Rattle.http_layer.specs.Front.{longest_head}
+use Rattle.broker_types.specs.Words.{◌∙◌, ap, take, ℕ, take_min}
+use Rattle.http_layer.specs.Words.{longest_head}
 use Rattle.http_layer.proofs.head_end.window.Goals as goal
 
 pub returns : goal.returns

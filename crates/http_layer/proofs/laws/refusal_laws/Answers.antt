@@ -1,4 +1,4 @@
-use Rattle.http_layer.specs.ListedRefusalLaws.{front_refuses, ask_refuses}
+use Rattle.http_layer.specs.Words.{front_refuses, ask_refuses}
 use Rattle.http_layer.proofs.laws.refusal_laws.Goals as goal
 
 pub returns-clause-fronts : goal.returns-clause-fronts

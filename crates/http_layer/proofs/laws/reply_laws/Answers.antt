@@ -1,4 +1,4 @@
-use Rattle.http_layer.specs.ReplyLaws.{IsReply-unique, IsReply-not_empty}
+use Rattle.http_layer.specs.Words.{IsReply-unique, IsReply-not_empty}
 use Rattle.http_layer.proofs.laws.reply_laws.Goals as goal
 
 pub returns-clause-unique : goal.returns-clause-unique

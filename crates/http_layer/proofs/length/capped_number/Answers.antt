@@ -1,4 +1,4 @@
-use Rattle.std.proofs.Common.{◌∙◌, sym, ap, ◌*◌, ◌+◌, min, ℕ}
+use Rattle.std.proofs.Common.{◌*◌, ◌+◌, ◌∙◌, sym, ap, min, ℕ}
 use Rattle.http_layer.proofs.LengthLemmas.{capped_more}
 use Rattle.http_layer.proofs.length.capped_number.Goals as goal
 

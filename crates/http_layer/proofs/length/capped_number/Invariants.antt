@@ -1,7 +1,5 @@
 use Rattle.std.proofs.Common.{◌≡◌, take, min, true}
-use Rattle.std.specs.Char.{is_ascii_digit}
-use Rattle.std.specs.List.{list_all}
-use Rattle.std.specs.Str.Parse.{digits_value}
+use Rattle.broker_types.specs.Words.{is_ascii_digit, list_all, digits_value}
 use Rattle.http_layer.proofs.length.capped_number.Given as goal
 
 abbrev pub invariant-loop-b : goal.invariant-loop-b

@@ -1,6 +1,5 @@
-use Rattle.std.proofs.Common.{◌∙◌, ◌-◌, ℕ, List, [], drop, length, ap, sym, le_of_eq, Option, option_map}
-use Rattle.std.specs.Option.{option_map_or}
-use Rattle.std.proofs.lemmas.List.{take_all, length-drop}
+use Rattle.std.proofs.Common.{◌-◌, ◌∙◌, ℕ, List, [], drop, length, ap, sym, le_of_eq, Option, option_map, take_all}
+use Rattle.broker_types.specs.Words.{option_map_or, length-drop}
 use Rattle.http_layer.proofs.query.version_asked.Goals as goal
 
 abbrev version_in : Option (List ℕ) → List ℕ

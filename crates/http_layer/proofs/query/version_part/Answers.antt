@@ -1,7 +1,6 @@
-use Rattle.std.proofs.Common.{rules, tests, ◌==◌}
-use Rattle.std.proofs.lemmas.Iterator.Splits.{YieldsList-from_slice_split}
-use Rattle.std.proofs.lemmas.Iterator.Search.{find_from_yields_List}
-use Rattle.http_layer.specs.Query.{is_version_part}
+use Rattle.std.proofs.Common.{◌==◌, rules, tests}
+use Rattle.broker_types.specs.Words.{YieldsList-from_slice_split, find_from_yields_List}
+use Rattle.http_layer.specs.Words.{is_version_part}
 use Rattle.http_layer.proofs.query.version_part.Goals as goal
 
 pub returns-clause-first : goal.returns-clause-first

@@ -1,5 +1,5 @@
-use Rattle.std.proofs.Common.{◌∙◌, ◌++◌, List, ℕ, ap, sym, codes, decimal}
-use Rattle.http_layer.specs.Reply.{crlf}
+use Rattle.std.proofs.Common.{◌++◌, ◌∙◌, List, ℕ, ap, sym, codes, decimal}
+use Rattle.http_layer.specs.Words.{crlf}
 use Rattle.http_layer.proofs.ReplyLemmas.{appended_3, body_lines_other}
 use Rattle.http_layer.proofs.reply.add_body_lines.Goals as goal
 

@@ -1,7 +1,7 @@
-use Rattle.std.proofs.Common.{◌∙◌, ◌++◌, List, ℕ, ap, codes}
+use Rattle.std.proofs.Common.{◌++◌, ◌∙◌, List, ℕ, ap, codes}
 use Rattle.http.specs.StatusCode.{code_digits}
-use Rattle.broker_types.specs.Status.{status_code}
-use Rattle.http_layer.specs.Reply.{phrase_of, crlf}
+use Rattle.broker_types.specs.Words.{status_code}
+use Rattle.http_layer.specs.Words.{phrase_of, crlf}
 use Rattle.http_layer.proofs.ReplyLemmas.{appended_5}
 use Rattle.http_layer.proofs.reply.add_status_line.Goals as goal
 

@@ -1,8 +1,8 @@
-use Rattle.std.proofs.Common.{◌∙◌, ◌++◌, List, ℕ, ap, length}
+use Rattle.std.proofs.Common.{◌++◌, ◌∙◌, List, ℕ, ap, length}
 use Rattle.httpdate.specs.Date.{date_text}
-use Rattle.http_layer.specs.Reply.{crlf, cache_line, status_line, date_line, allow_line, connection_line, body_lines}
-use Rattle.http_layer.specs.Reply.{reply_body, reply_head}
-use Rattle.broker_types.specs.Answer.{response_of}
+use Rattle.http_layer.specs.Words.{crlf, cache_line, status_line, date_line, allow_line, connection_line, body_lines}
+use Rattle.http_layer.specs.Words.{reply_body, reply_head}
+use Rattle.broker_types.specs.Words.{response_of}
 use Rattle.http_layer.proofs.ReplyLemmas.{appended_7}
 use Rattle.http_layer.proofs.reply.reply_bytes.Goals as goal
 

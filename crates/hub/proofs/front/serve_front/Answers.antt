@@ -1,4 +1,4 @@
-use Rattle.std.proofs.Common.{Ok, Some, refl}
+use Rattle.broker_model.specs.Words.{Ok, Some, refl}
 use Rattle.hub.proofs.ListedLemmas.{served_listed}
 use Rattle.hub.proofs.FrontLemmas.{refusal_serves, request_serves}
 use Rattle.hub.proofs.front.serve_front.Goals as goal

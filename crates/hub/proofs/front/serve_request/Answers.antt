@@ -1,5 +1,5 @@
-use Rattle.http_layer.specs.Asked.{asked}
-use Rattle.broker_types.specs.Answer.{response_of}
+use Rattle.http_layer.specs.Words.{asked}
+use Rattle.broker_model.specs.Words.{response_of}
 use Rattle.hub.proofs.FrontLemmas.{asked_served}
 use Rattle.hub.proofs.front.serve_request.Goals as goal
 

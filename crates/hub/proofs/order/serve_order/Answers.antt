@@ -1,6 +1,5 @@
 use Rattle.std.proofs.Common.{◌≡◌, length, arith}
-use Rattle.hub.specs.Supplies.{Supplies}
-use Rattle.hub.specs.SuppliesLaws.{Supplies-append, Supplies-nil}
+use Rattle.hub.specs.Words.{Supplies, Supplies-append, Supplies-nil}
 use Rattle.hub.proofs.OrderLemmas.{lines_none, lines_on, numbers_stay}
 use Rattle.hub.proofs.order.serve_order.Goals as goal
 

@@ -1,5 +1,4 @@
-use Rattle.hub.specs.Ordering.{ServesLines}
-use Rattle.hub.specs.Supplies.{Supplies}
+use Rattle.hub.specs.Words.{ServesLines, Supplies}
 use Rattle.hub.proofs.order.serve_order.Given as goal
 
 abbrev pub invariant-loop-place : goal.invariant-loop-place

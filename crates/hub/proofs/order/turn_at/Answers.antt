@@ -1,7 +1,6 @@
 use Rattle.std.proofs.Common.{◌<◌, length, get_or, arith}
-use Rattle.std.proofs.lemmas.List.{get_or_default}
-use Rattle.hub.specs.Supplies.{Supplies}
-use Rattle.hub.specs.SuppliesLaws.{Supplies-nil}
+use Rattle.broker_model.specs.Words.{get_or_default}
+use Rattle.hub.specs.Words.{Supplies, Supplies-nil}
 use Rattle.hub.proofs.OrderLemmas.{lines_none, lines_turned}
 use Rattle.hub.proofs.order.turn_at.Goals as goal
 

@@ -1,23 +1,8 @@
-use Rattle.std.proofs.Common.{◌≡◌, ◌∙◌, ◌+◌, ℕ, List, [], ◌∷◌, ◌++◌, Result, Ok, Err, IsOk, is_ok, if◌then◌else◌, ap}
-use Rattle.std.proofs.Common.{sym, subst, inr, arith, take, refl, rules}
-use Rattle.std.proofs.Common.{Vec}
-use Rattle.std.proofs.lemmas.Bool.{false≢true}
-use Rattle.std.proofs.lemmas.List.{map_push}
-use Rattle.std.proofs.lemmas.Result.{IfErr-at_err}
-use Rattle.std.proofs.lemmas.List.Elements.{All-nil, All-push}
-use Rattle.std.specs.List.{All}
-use Rattle.broker_types.specs.Fault.{IsMemoryOrStorage}
-use Rattle.std.specs.declared.alloc.Global.{Global}
-use Rattle.records.specs.Kept.{Kept}
-use Rattle.hub.specs.ListedReplies.{IsListedReply}
-use Rattle.hub.specs.Representing.{hub_store}
-use Rattle.hub.specs.Runs.{bytes_of, Answers, TookTurns}
-use Rattle.histories.specs.History.{AreAsked, History}
-use Rattle.histories.specs.KeepsLaws.{KeepsLaws}
-use Rattle.hub.specs.Histories.{RunKeeps}
-use Rattle.hub.specs.World.{Run, World}
-use Rattle.hub.specs.declared.event.Event.{Event}
-use Rattle.hub.specs.declared.hub.Hub.{Hub}
+use Rattle.std.specs.Prelude.{◌≡◌, ◌+◌, ◌∷◌, ◌++◌, if◌then◌else◌, ℕ, List, [], Result, Ok, Err, IsOk, is_ok, take, refl}
+use Rattle.broker_model.specs.Words.{◌∙◌, ap, sym, subst, inr, arith, rules, Vec, false≢true, map_push, IfErr-at_err}
+use Rattle.broker_model.specs.Words.{All-nil, All-push, All, IsMemoryOrStorage, Global, Kept}
+use Rattle.hub.specs.Words.{IsListedReply, hub_store, bytes_of, Answers, TookTurns, RunKeeps, Run, World, Event, Hub}
+use Rattle.histories.specs.Words.{AreAsked, History, KeepsLaws}
 use Rattle.hub.proofs.AnswersLemmas.{answers_none, answers_more, answers_all, stops_at, honest_before, later_still}
 use Rattle.hub.proofs.AnswersLemmas.{turns_more, turns_stop, turns_all}
 use Rattle.hub.proofs.running.run.Goals as goal

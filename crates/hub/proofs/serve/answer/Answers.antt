@@ -1,8 +1,5 @@
-use Rattle.std.proofs.Common.{◌∙◌, Err, Ok, ap, refl}
-use Rattle.std.proofs.lemmas.Result.{err_from_is_err_and}
-use Rattle.std.proofs.KnownBytes.{Appends-trans}
-use Rattle.hub.specs.Representing.{hub_waiting}
-use Rattle.hub.specs.SuppliesLaws.{Supplies-append}
+use Rattle.broker_model.specs.Words.{◌∙◌, Err, Ok, ap, refl, err_from_is_err_and, Appends-trans}
+use Rattle.hub.specs.Words.{hub_waiting, Supplies-append}
 use Rattle.hub.proofs.ServedLemmas.{serves_err, serves_ok, serves_on}
 use Rattle.hub.proofs.ServingLemmas.{joins_nothing, measure_falls}
 use Rattle.hub.proofs.serve.answer.Goals as goal

@@ -1,9 +1,6 @@
-use Rattle.std.proofs.Common.{◌≡◌, ◌+◌, Ok, IsTrue, false, if◌then◌else◌}
-use Rattle.std.specs.Io.KnownBytes.{Appends}
-use Rattle.hub.specs.Representing.{ConnectionsRepresent, hub_waiting}
-use Rattle.hub.specs.ServedConnection.{IsAnswered, Serves}
-use Rattle.hub.specs.Supplies.{Supplies}
-use Rattle.hub.specs.World.{Connections}
+use Rattle.std.proofs.Common.{◌≡◌, ◌+◌, if◌then◌else◌, Ok, IsTrue, false}
+use Rattle.broker_model.specs.Words.{Appends}
+use Rattle.hub.specs.Words.{ConnectionsRepresent, hub_waiting, IsAnswered, Serves, Supplies, Connections}
 use Rattle.hub.proofs.serve.answer.Given as goal
 
 abbrev pub invariant-loop-more : goal.invariant-loop-more

@@ -1,13 +1,7 @@
 use Rattle.std.proofs.Common.{◌≡◌, ◌≢◌, ◌∙◌, ℕ, true, false, Err, List, [], length, nat_eq, sym, ap, append-nil, subst}
-use Rattle.std.proofs.Common.{arith}
-use Rattle.std.specs.Io.KnownBytes.{Appends}
-use Rattle.std.proofs.lemmas.Bool.{false≢true}
-use Rattle.std.proofs.lemmas.Bool.Decides.{nat_tests}
-use Rattle.std.proofs.lemmas.List.{nil_from_length}
-use Rattle.std.proofs.lemmas.Result.{err_from_is_err_and}
-use Rattle.std.proofs.KnownBytes.{Appends-nil}
-use Rattle.hub.specs.Representing.{hub_connections}
-use Rattle.hub.specs.SuppliesLaws.{Supplies-one}
+use Rattle.broker_model.specs.Words.{arith, Appends, false≢true, nat_tests, nil_from_length, err_from_is_err_and}
+use Rattle.broker_model.specs.Words.{Appends-nil}
+use Rattle.hub.specs.Words.{hub_connections, Supplies-one}
 use Rattle.hub.proofs.EndingLemmas.{answered_silent}
 use Rattle.hub.proofs.KeepsLemmas.{failed_now}
 use Rattle.hub.proofs.ServedLemmas.{serves_feeding, serves_one, serves_writing}

@@ -1,8 +1,6 @@
-use Rattle.std.proofs.Common.{◌∙◌, Err, ap, sym, inl, inr, refl, arith, rules}
-use Rattle.std.proofs.lemmas.Result.{err_from_is_err_and}
-use Rattle.std.proofs.KnownBytes.{Appends-nil, Consumes-nil}
-use Rattle.hub.specs.SuppliesLaws.{Supplies-nil}
-use Rattle.hub.specs.declared.serve.ConnectionFault.TheVariants.{Read}
+use Rattle.broker_model.specs.Words.{◌∙◌, Err, ap, sym, inl, inr, refl, arith, rules, err_from_is_err_and, Appends-nil}
+use Rattle.broker_model.specs.Words.{Consumes-nil}
+use Rattle.hub.specs.Words.{Supplies-nil, Read}
 use Rattle.hub.proofs.ServedLemmas.{serves_closing, serves_err, serves_next, serves_none, serves_ok}
 use Rattle.hub.proofs.serve.serve_connection.Goals as goal
 

@@ -1,7 +1,6 @@
 use Rattle.std.proofs.Common.{◌≡◌, ◌+◌, Ok}
-use Rattle.std.specs.Io.KnownBytes.{Appends, Consumes}
-use Rattle.hub.specs.ServedConnection.{Serves}
-use Rattle.hub.specs.Supplies.{Supplies}
+use Rattle.broker_model.specs.Words.{Appends, Consumes}
+use Rattle.hub.specs.Words.{Serves, Supplies}
 use Rattle.hub.proofs.serve.serve_connection.Given as goal
 
 abbrev pub invariant-loop : goal.invariant-loop

@@ -1,10 +1,6 @@
 use Rattle.std.proofs.Common.{◌≡◌, ◌∙◌, Err, ap, sym, subst, inl, refl, arith, rules}
-use Rattle.std.proofs.lemmas.Result.{err_from_is_err_and}
-use Rattle.std.proofs.lemmas.Bool.Decides.{nat_tests}
-use Rattle.std.specs.Io.KnownBytes.{Consumes}
-use Rattle.std.proofs.KnownBytes.{Appends-nil}
-use Rattle.hub.specs.SuppliesLaws.{Supplies-nil}
-use Rattle.hub.specs.declared.serve.ConnectionFault.TheVariants.{Read}
+use Rattle.broker_model.specs.Words.{err_from_is_err_and, nat_tests, Consumes, Appends-nil}
+use Rattle.hub.specs.Words.{Supplies-nil, Read}
 use Rattle.hub.proofs.KeepsLemmas.{failed_now}
 use Rattle.hub.proofs.KnownLemmas.{Consumes-kept}
 use Rattle.hub.proofs.ServedLemmas.{serves_closing, serves_err, serves_ok, serves_so}

@@ -1,7 +1,7 @@
-use Rattle.std.proofs.Common.{◌∙◌, ℕ, refl, sym, nat_cmp}
+use Rattle.broker_model.specs.Words.{◌∙◌, ℕ, refl, sym}
+use Rattle.std.proofs.Common.{nat_cmp}
 use Rattle.std.specs.BTreeMap.{get}
-use Rattle.hub.specs.Entries.{connections_in}
-use Rattle.hub.specs.declared.connection.Connection.TheVariants.{Closed}
+use Rattle.hub.specs.Words.{connections_in, Closed}
 use Rattle.hub.proofs.EntryLemmas.{shut_at, shut_here, shut_others, shut_unseen}
 use Rattle.hub.proofs.table.close.Goals as goal
 

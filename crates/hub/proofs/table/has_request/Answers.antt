@@ -1,8 +1,6 @@
 use Rattle.std.proofs.Common.{◌≡◌, ◌∙◌, Some, sym, ap, subst, nat_cmp}
 use Rattle.std.specs.BTreeMap.{get}
-use Rattle.hub.specs.Requests.{HasNoRequest}
-use Rattle.hub.specs.declared.entry.Entry.{Entry}
-use Rattle.hub.specs.declared.entry.Entry.TheVariants.{One}
+use Rattle.hub.specs.Words.{HasNoRequest, Entry, One}
 use Rattle.hub.proofs.EntryLemmas.{at_one}
 use Rattle.hub.proofs.RequestLemmas.{is_one, no_request_at}
 use Rattle.hub.proofs.table.has_request.Goals as goal

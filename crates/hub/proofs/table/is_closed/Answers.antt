@@ -1,6 +1,7 @@
-use Rattle.std.proofs.Common.{◌∙◌, ℕ, refl, sym, ap, nat_cmp}
+use Rattle.broker_model.specs.Words.{◌∙◌, ℕ, refl, sym, ap}
+use Rattle.std.proofs.Common.{nat_cmp}
 use Rattle.std.specs.BTreeMap.{get}
-use Rattle.hub.specs.Pending.{closed_at}
+use Rattle.hub.specs.Words.{closed_at}
 use Rattle.hub.proofs.EntryLemmas.{at_last, at_none}
 use Rattle.hub.proofs.table.is_closed.Goals as goal
 

@@ -1,4 +1,5 @@
-use Rattle.std.proofs.Common.{ℕ, nat_cmp, rules}
+use Rattle.broker_model.specs.Words.{ℕ, rules}
+use Rattle.std.proofs.Common.{nat_cmp}
 use Rattle.std.specs.BTreeMap.{get}
 use Rattle.hub.proofs.EntryLemmas.{joined}
 use Rattle.hub.proofs.table.join.Goals as goal

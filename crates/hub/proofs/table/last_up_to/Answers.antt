@@ -1,8 +1,6 @@
-use Rattle.std.proofs.Common.{◌≡◌, ℕ, ◌≤◌, false, arith, nat_cmp}
+use Rattle.std.proofs.Common.{◌≡◌, ◌≤◌, ℕ, false, arith, nat_cmp}
 use Rattle.std.specs.BTreeMap.{get}
-use Rattle.std.specs.Ordering.{is_gt}
-use Rattle.std.proofs.lemmas.Bool.Decides.{nat_tests}
-use Rattle.std.proofs.lemmas.Map.Keys.{le_from_not_gt, ge_from_not_lt}
+use Rattle.broker_model.specs.Words.{is_gt, nat_tests, le_from_not_gt, ge_from_not_lt}
 use Rattle.hub.proofs.EntryLemmas.{last_from}
 use Rattle.hub.proofs.table.last_up_to.Goals as goal
 

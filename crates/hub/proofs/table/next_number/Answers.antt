@@ -1,6 +1,6 @@
-use Rattle.std.proofs.Common.{ℕ, arith, inl, refl, nat_cmp}
+use Rattle.broker_model.specs.Words.{ℕ, arith, inl, refl, ge_from_not_lt}
+use Rattle.std.proofs.Common.{nat_cmp}
 use Rattle.std.specs.BTreeMap.{get}
-use Rattle.std.proofs.lemmas.Map.Keys.{ge_from_not_lt}
 use Rattle.hub.proofs.EntryLemmas.{at_none, next_after, no_entries, none_past, none_without_entries}
 use Rattle.hub.proofs.table.next_number.Goals as goal
 

@@ -1,13 +1,7 @@
 use Rattle.std.proofs.Common.{◌≡◌, ◌∙◌, ℕ, inl, refl, sym, subst, arith}
-use Rattle.std.proofs.lemmas.Bool.{false≢true}
-use Rattle.std.proofs.KnownBytes.{Consumes-nil}
-use Rattle.hub.specs.Links.{number_of, unsent}
-use Rattle.hub.specs.Representing.{ConnectionsRepresent}
-use Rattle.hub.specs.ServedConnection.{HasEnded, IsAnswered}
-use Rattle.hub.specs.SuppliesLaws.{Supplies-nil}
-use Rattle.hub.specs.declared.hub.Hub.{Hub}
-use Rattle.hub.specs.declared.serve.ConnectionFault.TheVariants.{Write}
-use Rattle.hub.specs.declared.turn.Turn.TheVariants.{NeedsRoom}
+use Rattle.broker_model.specs.Words.{false≢true, Consumes-nil}
+use Rattle.hub.specs.Words.{number_of, unsent, ConnectionsRepresent, HasEnded, IsAnswered, Supplies-nil, Hub, Write}
+use Rattle.hub.specs.Words.{NeedsRoom}
 use Rattle.hub.proofs.ServedLemmas.{serves_closing, serves_none}
 use Rattle.hub.proofs.ServingLemmas.{ended_at}
 use Rattle.hub.proofs.TakingLemmas.{passes_nothing, said_sending, turns_err, turns_ok, turns_so}

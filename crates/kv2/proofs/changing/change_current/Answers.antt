@@ -1,14 +1,7 @@
-use Rattle.std.proofs.Common.{◌≡◌, ◌∙◌, ◌<◌, ◌^◌, ◌||◌, true, false, Some, ap, subst, sym}
-use Rattle.std.proofs.lemmas.Result.{on_ok_weaker}
-use Rattle.records.specs.CallLaws.{honest_before}
-use Rattle.records.specs.KeyEntry.{KeyEntry}
-use Rattle.records.specs.SplitLaws.{eqb_self}
-use Rattle.records.specs.Table.{table_of}
-use Rattle.records.specs.Transaction.{Rows, IsHonest}
+use Rattle.std.proofs.Common.{◌≡◌, ◌<◌, ◌^◌, ◌||◌, ◌∙◌, true, false, Some, ap, subst, sym}
+use Rattle.records.specs.Words.{on_ok_weaker, honest_before, KeyEntry, eqb_self, table_of, Rows, IsHonest}
 use Rattle.records.specs.DigitLaws.{wide}
-use Rattle.kv2.specs.Changes.{change_of}
-use Rattle.kv2.specs.SecretRows.{KeepsOtherNames, HasVersion, current_of}
-use Rattle.kv2.specs.Versions.{is_among}
+use Rattle.kv2.specs.Words.{change_of, KeepsOtherNames, HasVersion, current_of, is_among}
 use Rattle.kv2.proofs.Others.{changed_keeps}
 use Rattle.kv2.proofs.changing.change_current.Goals as goal
 

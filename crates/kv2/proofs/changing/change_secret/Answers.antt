@@ -1,9 +1,5 @@
-use Rattle.std.proofs.Common.{OnOk, ◌∙◌, sym, subst}
-use Rattle.std.proofs.lemmas.Result.{on_ok_weaker}
-use Rattle.broker_types.specs.Text.{Text}
-use Rattle.records.specs.Table.{table_of}
-use Rattle.kv2.specs.Changes.{change_of}
-use Rattle.kv2.specs.SecretRows.{AreChanged, AreReadableVersions}
+use Rattle.records.specs.Words.{OnOk, ◌∙◌, sym, subst, on_ok_weaker, Text, table_of}
+use Rattle.kv2.specs.Words.{change_of, AreChanged, AreReadableVersions}
 use Rattle.kv2.proofs.ChangeCalls.{its_versions, versions_told}
 use Rattle.kv2.proofs.Digits.{KeyLaws}
 use Rattle.kv2.proofs.changing.change_secret.Goals as goal

@@ -1,17 +1,8 @@
 use Rattle.std.proofs.Common.{◌≡◌, ◌<◌, ◌^◌, ◌∷◌, [], None, ap, sym, subst, ◌∙◌, is_ok, arith}
-use Rattle.std.proofs.lemmas.Bool.{false≢true}
-use Rattle.std.proofs.lemmas.Result.{on_ok_weaker}
+use Rattle.records.specs.Words.{false≢true, on_ok_weaker, honest_before, IsVersionInRange, version_row, version_key}
+use Rattle.records.specs.Words.{Table, table_of, with_row, table_of-insert, IsHonest, none_of, ok_inj}
 use Rattle.records.specs.declared.kind.Kind.TheVariants as kind
-use Rattle.records.specs.CallLaws.{honest_before}
-use Rattle.records.specs.Ranges.{IsVersionInRange}
-use Rattle.records.specs.RowForms.{version_row}
-use Rattle.records.specs.Rows.{version_key}
-use Rattle.records.specs.Table.{Table, table_of, with_row}
-use Rattle.records.specs.TableLaws.{table_of-insert}
-use Rattle.records.specs.Transaction.{IsHonest}
-use Rattle.records.specs.ValueLaws.{none_of, ok_inj}
-use Rattle.kv2.specs.Changes.{change_of}
-use Rattle.kv2.specs.SecretRows.{AreChanged}
+use Rattle.kv2.specs.Words.{change_of, AreChanged}
 use Rattle.kv2.proofs.ChangeLemmas.{stays_in_range}
 use Rattle.kv2.proofs.Found.{some_is}
 use Rattle.kv2.proofs.Changed.{missing_changed, row_changed}

@@ -1,13 +1,7 @@
 use Rattle.std.proofs.Common.{◌<◌, ◌^◌, ◌==◌, ℕ, List, get_or, take, subst, sym, arith, rules}
-use Rattle.std.proofs.lemmas.List.{take_more}
-use Rattle.std.proofs.lemmas.List.Folds.{list_any_at}
-use Rattle.std.proofs.lemmas.Result.{err_from_is_err_and}
-use Rattle.records.specs.CallLaws.{honest_before}
-use Rattle.records.specs.SplitLaws.{eqb_self}
-use Rattle.records.specs.Table.{table_of}
-use Rattle.records.specs.Transaction.{IsHonest}
-use Rattle.kv2.specs.Changes.{change_of}
-use Rattle.kv2.specs.SecretRows.{AreChanged}
+use Rattle.records.specs.Words.{take_more, list_any_at, err_from_is_err_and, honest_before, eqb_self, table_of}
+use Rattle.records.specs.Words.{IsHonest}
+use Rattle.kv2.specs.Words.{change_of, AreChanged}
 use Rattle.kv2.proofs.ChangeLemmas.{twice}
 use Rattle.kv2.proofs.Changed.{changed_nothing, changed_more, read_after}
 use Rattle.kv2.proofs.changing.change_versions.Goals as goal

@@ -1,8 +1,5 @@
-use Rattle.std.proofs.Common.{false, take}
-use Rattle.records.specs.Table.{table_of}
-use Rattle.records.specs.Transaction.{IsHonest, GoesOn}
-use Rattle.kv2.specs.Changes.{change_of, IsTimely}
-use Rattle.kv2.specs.SecretRows.{AreChanged}
+use Rattle.records.specs.Words.{false, take, table_of, IsHonest, GoesOn}
+use Rattle.kv2.specs.Words.{change_of, IsTimely, AreChanged}
 use Rattle.kv2.proofs.changing.change_versions.Given as goal
 
 -- the versions so far are changed

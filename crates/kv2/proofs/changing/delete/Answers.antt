@@ -1,15 +1,7 @@
-use Rattle.std.proofs.Common.{ℕ, sym, ◌∷◌, [], subst, ◌∙◌, option_map}
-use Rattle.std.proofs.lemmas.Result.{on_ok_weaker}
-use Rattle.broker_types.specs.Map.{get}
-use Rattle.broker_types.specs.Secret.{Key}
-use Rattle.broker_types.specs.Text.{Text}
-use Rattle.records.specs.KeyEntry.{key_entry}
-use Rattle.records.specs.Parts.{of_secrets, Tells}
-use Rattle.records.specs.Table.{table, table_of}
-use Rattle.kv2.specs.SecretRows.{HasKey, IsReadableKey, AreReadableVersions, AreChanged, KeepsOtherNames}
-use Rattle.kv2.specs.SecretRows.{current_of}
-use Rattle.kv2.specs.Secrets.{secret_name, with_key}
-use Rattle.kv2.specs.Versions.{with_changed, soft_deleted}
+use Rattle.std.proofs.Common.{◌∷◌, ℕ, sym, [], subst, ◌∙◌, option_map}
+use Rattle.records.specs.Words.{on_ok_weaker, get, Key, Text, key_entry, of_secrets, Tells, table, table_of}
+use Rattle.kv2.specs.Words.{HasKey, IsReadableKey, AreReadableVersions, AreChanged, KeepsOtherNames, current_of}
+use Rattle.kv2.specs.Words.{secret_name, with_key, with_changed, soft_deleted}
 use Rattle.kv2.proofs.ChangeCalls.{its_key, its_versions, current_told}
 use Rattle.kv2.proofs.Digits.{KeyLaws}
 use Rattle.kv2.proofs.changing.delete.Goals as goal

@@ -1,6 +1,5 @@
-use Rattle.std.proofs.Common.{sym, subst}
-use Rattle.std.proofs.lemmas.Result.{IfOk-weaker}
-use Rattle.kv2.specs.InRange.{AreToldInRange}
+use Rattle.records.specs.Words.{sym, subst, IfOk-weaker}
+use Rattle.kv2.specs.Words.{AreToldInRange}
 use Rattle.kv2.proofs.DescribeCalls.{told_in_range}
 use Rattle.kv2.proofs.describing.find_versions.Goals as goal
 

@@ -1,15 +1,6 @@
-use Rattle.std.proofs.Common.{ap, sym, subst, ◌∙◌, Some, option_map, false}
-use Rattle.std.proofs.lemmas.Option.{same_Some}
-use Rattle.std.proofs.lemmas.Result.{err_from_is_err_and}
-use Rattle.broker_types.specs.Map.{get}
-use Rattle.records.specs.CallLaws.{honest_before, goes_further}
-use Rattle.records.specs.KeyEntry.{key_entry}
-use Rattle.records.specs.Table.{table_of}
-use Rattle.records.specs.Transaction.{IsHonest, Rows}
-use Rattle.records.specs.ValueLaws.{none_of}
-use Rattle.kv2.specs.InRange.{IsMetadataInRange}
-use Rattle.kv2.specs.SecretRows.{HasKey, AreVersions, IsMetadataOf}
-use Rattle.kv2.specs.Secrets.{secret_name}
+use Rattle.records.specs.Words.{ap, sym, subst, ◌∙◌, Some, option_map, false, same_Some, err_from_is_err_and, get}
+use Rattle.records.specs.Words.{honest_before, goes_further, key_entry, table_of, IsHonest, Rows, none_of}
+use Rattle.kv2.specs.Words.{IsMetadataInRange, HasKey, AreVersions, IsMetadataOf, secret_name}
 use Rattle.kv2.proofs.DescribeCalls.{key_told, describe_none, describe_some}
 use Rattle.kv2.proofs.Digits.{KeyLaws}
 use Rattle.kv2.proofs.describing.metadata.Goals as goal

@@ -1,8 +1,5 @@
 use Rattle.std.proofs.Common.{◌≡◌, ap, sym, ◌∙◌, arith, not}
-use Rattle.std.proofs.lemmas.Bool.{false≢true}
-use Rattle.std.proofs.lemmas.Option.{same_Some}
-use Rattle.std.proofs.lemmas.Slice.Eq.{bytes_eq-Decides}
-use Rattle.records.specs.Rows.{padded, version_key}
+use Rattle.records.specs.Words.{false≢true, same_Some, bytes_eq-Decides, padded, version_key}
 use Rattle.records.specs.DigitLaws.{wide}
 use Rattle.kv2.proofs.NumberTexts.{key_is, digits_are}
 use Rattle.kv2.proofs.describing.number_in.Goals.{then-number-gt-GREATEST_VERSION-via-then-number-gt-GREATEST_VERSION}

@@ -1,6 +1,4 @@
-use Rattle.std.proofs.Common.{ap, sym, ◌∙◌, Some, is_ok}
-use Rattle.std.proofs.lemmas.Bool.{false≢true}
-use Rattle.records.specs.ValueLaws.{ok_inj}
+use Rattle.records.specs.Words.{ap, sym, ◌∙◌, Some, is_ok, false≢true, ok_inj}
 use Rattle.records.specs.DigitLaws.{padded_read}
 use Rattle.kv2.proofs.describing.number_of_digits.Goals as goal
 

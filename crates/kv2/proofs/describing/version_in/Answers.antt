@@ -1,4 +1,4 @@
-use Rattle.std.proofs.Common.{sym, ◌∙◌}
+use Rattle.records.specs.Words.{sym, ◌∙◌}
 use Rattle.kv2.proofs.EntryLists.{destroyed_is}
 use Rattle.kv2.proofs.describing.version_in.Goals as goal
 

@@ -1,8 +1,6 @@
-use Rattle.std.proofs.Common.{◌≡◌, ◌++◌, ◌∷◌, [], ap, sym, subst, ◌∙◌, get_or, map, take, Err, arith}
-use Rattle.std.proofs.lemmas.List.{map_more, map_push, take_all}
-use Rattle.std.proofs.lemmas.Result.{err_from_is_err_and}
-use Rattle.kv2.specs.Metadata.{version_metadata}
-use Rattle.kv2.specs.SecretRows.{versions_prefix, AreEntriesOf}
+use Rattle.std.proofs.Common.{◌≡◌, ◌++◌, ◌∷◌, [], ap, sym, subst, ◌∙◌, get_or, map, take, Err, arith, take_all}
+use Rattle.records.specs.Words.{map_more, map_push, err_from_is_err_and}
+use Rattle.kv2.specs.Words.{version_metadata, versions_prefix, AreEntriesOf}
 use Rattle.kv2.proofs.EntryLists.{no_version, as_long, as_far, numbered_at, entry_at, one_more}
 use Rattle.kv2.proofs.describing.versions_in.Goals as goal
 

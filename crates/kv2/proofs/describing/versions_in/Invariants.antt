@@ -1,7 +1,6 @@
 use Rattle.std.proofs.Common.{◌≡◌, ℕ, List, map, take}
-use Rattle.broker_types.specs.Secret.{Version}
-use Rattle.kv2.specs.Metadata.{version_metadata}
-use Rattle.kv2.specs.SecretRows.{AreEntriesOf}
+use Rattle.records.specs.Words.{Version}
+use Rattle.kv2.specs.Words.{version_metadata, AreEntriesOf}
 use Rattle.kv2.proofs.describing.versions_in.Given as goal
 
 -- the versions so far are those of the entries so far

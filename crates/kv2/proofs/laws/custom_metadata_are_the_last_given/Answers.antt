@@ -1,5 +1,5 @@
 use Rattle.std.proofs.Common.{◌∷◌, []}
-use Rattle.kv2.specs.Versions.{soft_deleted, restored, destroyed}
+use Rattle.kv2.specs.Words.{soft_deleted, restored, destroyed}
 use Rattle.kv2.proofs.KeyHistory.{metadata_replaced, metadata_kept, versions_kept_as_they_were, metadata_stay_at_write}
 use Rattle.kv2.proofs.KeyHistory.{metadata_stay}
 use Rattle.kv2.proofs.laws.custom_metadata_are_the_last_given.Goals as goal

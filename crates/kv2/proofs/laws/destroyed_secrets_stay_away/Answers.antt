@@ -1,5 +1,5 @@
 use Rattle.std.proofs.Common.{◌∷◌, []}
-use Rattle.kv2.specs.Versions.{soft_deleted, restored, destroyed}
+use Rattle.kv2.specs.Words.{soft_deleted, restored, destroyed}
 use Rattle.kv2.proofs.KeyHistory.{write_restores_nothing, nothing_restored, nothing_brought_back, deleted_gone}
 use Rattle.kv2.proofs.KeyHistory.{restored_gone, destroyed_gone}
 use Rattle.kv2.proofs.laws.destroyed_secrets_stay_away.Goals as goal

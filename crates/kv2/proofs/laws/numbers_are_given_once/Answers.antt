@@ -1,5 +1,5 @@
 use Rattle.std.proofs.Common.{◌∷◌, []}
-use Rattle.kv2.specs.Versions.{soft_deleted, restored, destroyed}
+use Rattle.kv2.specs.Words.{soft_deleted, restored, destroyed}
 use Rattle.kv2.proofs.KeyHistory.{number_stays, number_kept, new_number}
 use Rattle.kv2.proofs.laws.numbers_are_given_once.Goals as goal
 

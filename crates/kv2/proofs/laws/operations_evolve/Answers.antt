@@ -1,4 +1,4 @@
-use Rattle.kv2.specs.SoundLaws.{secrets_evolve, settings_evolve}
+use Rattle.kv2.specs.Words.{secrets_evolve, settings_evolve}
 use Rattle.kv2.proofs.laws.operations_evolve.Goals as goal
 
 pub returns-clause-secrets : goal.returns-clause-secrets

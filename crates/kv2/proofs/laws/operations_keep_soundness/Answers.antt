@@ -1,6 +1,5 @@
-use Rattle.kv2.specs.SoundLaws.{write_sound, delete_sound, delete_versions_sound, undelete_sound, destroy_sound}
-use Rattle.kv2.specs.SoundLaws.{remove_key_sound, drop_mount_sound}
-use Rattle.kv2.specs.SoundLaws.{set_metadata_sound, set_config_sound}
+use Rattle.kv2.specs.Words.{write_sound, delete_sound, delete_versions_sound, undelete_sound, destroy_sound}
+use Rattle.kv2.specs.Words.{remove_key_sound, drop_mount_sound, set_metadata_sound, set_config_sound}
 use Rattle.kv2.proofs.laws.operations_keep_soundness.Goals as goal
 
 pub returns-clause-written : goal.returns-clause-written

@@ -1,5 +1,5 @@
 use Rattle.std.proofs.Common.{◌∷◌, []}
-use Rattle.kv2.specs.Versions.{soft_deleted, restored, destroyed}
+use Rattle.kv2.specs.Words.{soft_deleted, restored, destroyed}
 use Rattle.kv2.proofs.KeyHistory.{other_stays, others_stay, others_kept, removed_apart, dropped_apart}
 use Rattle.kv2.proofs.laws.other_keys_stay.Goals as goal
 

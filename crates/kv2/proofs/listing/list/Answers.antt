@@ -1,7 +1,5 @@
-use Rattle.std.proofs.Common.{[], ◌∙◌}
-use Rattle.records.specs.Children.{folder}
-use Rattle.broker_types.specs.Map.{keys}
-use Rattle.kv2.specs.Secrets.{secret_name}
+use Rattle.records.specs.Words.{[], ◌∙◌, folder, keys}
+use Rattle.kv2.specs.Words.{secret_name}
 use Rattle.kv2.proofs.KeysListed.{secrets_name}
 use Rattle.kv2.proofs.listing.list.Goals as goal
 

@@ -1,6 +1,4 @@
-use Rattle.std.proofs.Common.{◌∙◌, subst, sym, unwrap_or}
-use Rattle.records.specs.Ranges.{IsKeyInRange}
-use Rattle.records.specs.RowReaders.{IsWide}
+use Rattle.records.specs.Words.{◌∙◌, subst, sym, unwrap_or, IsKeyInRange, IsWide}
 use Rattle.kv2.proofs.Described.{described_in_range}
 use Rattle.kv2.proofs.own_settings.described.Goals as goal
 

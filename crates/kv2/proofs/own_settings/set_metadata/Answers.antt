@@ -1,17 +1,9 @@
-use Rattle.std.proofs.Common.{ap, sym, subst, ◌∙◌, option_map, unwrap_or, rules}
-use Rattle.std.proofs.lemmas.Result.{on_ok_weaker, err_from_is_err_and}
-use Rattle.broker_types.specs.Map.{get}
-use Rattle.broker_types.specs.Text.{Text}
+use Rattle.records.specs.Words.{ap, sym, subst, ◌∙◌, option_map, unwrap_or, rules, on_ok_weaker, err_from_is_err_and}
+use Rattle.records.specs.Words.{get, Text, honest_before, goes_further, key_entry, of_secrets, Tells, key_entry_row}
+use Rattle.records.specs.Words.{Table, table_of, with_row, table_of-insert, IsHonest}
 use Rattle.records.specs.declared.kind.Kind.TheVariants as kind
-use Rattle.records.specs.CallLaws.{honest_before, goes_further}
-use Rattle.records.specs.KeyEntry.{key_entry}
-use Rattle.records.specs.Parts.{of_secrets, Tells}
-use Rattle.records.specs.RowForms.{key_entry_row}
-use Rattle.records.specs.Table.{Table, table_of, with_row}
-use Rattle.records.specs.TableLaws.{table_of-insert}
-use Rattle.records.specs.Transaction.{IsHonest}
-use Rattle.kv2.specs.SecretRows.{HasKey, KeepsOtherNames, new_entry, described_entry, with_description}
-use Rattle.kv2.specs.Secrets.{secret_name, set_metadata}
+use Rattle.kv2.specs.Words.{HasKey, KeepsOtherNames, new_entry, described_entry, with_description, secret_name}
+use Rattle.kv2.specs.Words.{set_metadata}
 use Rattle.kv2.proofs.Described.{described_told}
 use Rattle.kv2.proofs.Others.{described_keeps}
 use Rattle.kv2.proofs.SecretsTold.{has_key}

@@ -1,8 +1,5 @@
 use Rattle.std.proofs.Common.{◌≡◌, [], drop, ap, ◌∙◌, arith}
-use Rattle.std.proofs.lemmas.List.{drop_all}
-use Rattle.records.specs.Table.{table_of}
-use Rattle.records.specs.Transaction.{IsHonest}
-use Rattle.records.specs.UnderLaws.{without_listed}
+use Rattle.records.specs.Words.{drop_all, table_of, IsHonest, without_listed}
 use Rattle.kv2.proofs.Removals.{table_of-without_upto}
 use Rattle.kv2.proofs.pruning.remove_upto.Goals as goal
 

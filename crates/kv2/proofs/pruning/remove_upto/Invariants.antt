@@ -1,6 +1,5 @@
 use Rattle.std.proofs.Common.{◌≡◌, ◌≤◌, false, drop}
-use Rattle.records.specs.Transaction.{IsHonest, GoesOn}
-use Rattle.records.specs.UnderLaws.{without_listed}
+use Rattle.records.specs.Words.{IsHonest, GoesOn, without_listed}
 use Rattle.kv2.proofs.pruning.remove_upto.Given as goal
 
 -- to remove what is left leads to the same rows

@@ -1,11 +1,7 @@
-use Rattle.std.proofs.Common.{ap, sym, subst, ◌∙◌, is_ok, Some}
-use Rattle.std.proofs.lemmas.Bool.{false≢true}
+use Rattle.records.specs.Words.{ap, sym, subst, ◌∙◌, is_ok, Some, false≢true, IsVersionInRange, version_row}
+use Rattle.records.specs.Words.{version_key, table_of}
 use Rattle.records.specs.declared.kind.Kind.TheVariants as kind
-use Rattle.records.specs.Ranges.{IsVersionInRange}
-use Rattle.records.specs.RowForms.{version_row}
-use Rattle.records.specs.Rows.{version_key}
-use Rattle.records.specs.Table.{table_of}
-use Rattle.kv2.specs.SecretRows.{HasVersion}
+use Rattle.kv2.specs.Words.{HasVersion}
 use Rattle.kv2.proofs.Found.{some_is, some_read}
 use Rattle.kv2.proofs.reading.find_version.Goals as goal
 

@@ -1,7 +1,6 @@
-use Rattle.std.proofs.Common.{◌∙◌, ap, is_some}
+use Rattle.records.specs.Words.{◌∙◌, ap, is_some, table_of}
 use Rattle.records.specs.declared.kind.Kind.TheVariants as kind
-use Rattle.records.specs.Table.{table_of}
-use Rattle.kv2.specs.Secrets.{secret_name}
+use Rattle.kv2.specs.Words.{secret_name}
 use Rattle.kv2.proofs.SecretsTold.{key_there}
 use Rattle.kv2.proofs.reading.is_there.Goals as goal
 

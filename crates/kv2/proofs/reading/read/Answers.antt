@@ -1,16 +1,8 @@
 use Rattle.std.proofs.Common.{◌<◌, ◌^◌, ap, sym, subst, ◌∙◌, arith, option_map}
-use Rattle.std.proofs.lemmas.Result.{err_from_is_err_and}
-use Rattle.records.specs.CallLaws.{honest_before, goes_further}
-use Rattle.records.specs.KeyEntry.{KeyEntry}
-use Rattle.records.specs.Table.{table_of}
-use Rattle.records.specs.Transaction.{IsHonest}
-use Rattle.records.specs.ValueLaws.{none_of}
-use Rattle.kv2.specs.SecretRows.{HasKey, HasVersion, IsReadOf}
-use Rattle.kv2.specs.Versions.{asked_number, numbered}
+use Rattle.records.specs.Words.{err_from_is_err_and, honest_before, goes_further, KeyEntry, table_of, IsHonest, none_of}
+use Rattle.records.specs.Words.{get, key_entry}
+use Rattle.kv2.specs.Words.{HasKey, HasVersion, IsReadOf, asked_number, numbered, secret_name}
 use Rattle.kv2.proofs.Digits.{KeyLaws}
-use Rattle.broker_types.specs.Map.{get}
-use Rattle.records.specs.KeyEntry.{key_entry}
-use Rattle.kv2.specs.Secrets.{secret_name}
 use Rattle.kv2.proofs.ReadCalls.{its_key, read_none, read_some}
 use Rattle.kv2.proofs.reading.read.Goals as goal
 

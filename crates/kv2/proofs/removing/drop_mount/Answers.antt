@@ -1,11 +1,7 @@
-use Rattle.std.proofs.Common.{[], ap, sym, subst, ◌∙◌}
-use Rattle.std.proofs.lemmas.Result.{on_ok_weaker}
+use Rattle.records.specs.Words.{[], ap, sym, subst, ◌∙◌, on_ok_weaker, honest_before, goes_further, of_secrets, Tells}
+use Rattle.records.specs.Words.{KeepsOthers, Table, table, table_of, without_under, IsHonest}
 use Rattle.records.specs.declared.kind.Kind.TheVariants as kind
-use Rattle.records.specs.CallLaws.{honest_before, goes_further}
-use Rattle.records.specs.Parts.{of_secrets, Tells, KeepsOthers}
-use Rattle.records.specs.Table.{Table, table, table_of, without_under}
-use Rattle.records.specs.Transaction.{IsHonest}
-use Rattle.kv2.specs.Secrets.{secret_name, drop_mount}
+use Rattle.kv2.specs.Words.{secret_name, drop_mount}
 use Rattle.kv2.proofs.Digits.{KeyLaws}
 use Rattle.kv2.proofs.Edits.{dropped_told}
 use Rattle.kv2.proofs.Others.{dropped_keeps}

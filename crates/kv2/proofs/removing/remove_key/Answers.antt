@@ -1,13 +1,7 @@
-use Rattle.std.proofs.Common.{ap, sym, subst, ◌∙◌}
-use Rattle.std.proofs.lemmas.Result.{on_ok_weaker}
+use Rattle.records.specs.Words.{ap, sym, subst, ◌∙◌, on_ok_weaker, honest_before, goes_further, of_secrets, Tells}
+use Rattle.records.specs.Words.{Table, table, table_of, without_row, without_under, table_of-remove, IsHonest}
 use Rattle.records.specs.declared.kind.Kind.TheVariants as kind
-use Rattle.records.specs.CallLaws.{honest_before, goes_further}
-use Rattle.records.specs.Parts.{of_secrets, Tells}
-use Rattle.records.specs.Table.{Table, table, table_of, without_row, without_under}
-use Rattle.records.specs.TableLaws.{table_of-remove}
-use Rattle.records.specs.Transaction.{IsHonest}
-use Rattle.kv2.specs.SecretRows.{KeepsOtherNames, versions_prefix}
-use Rattle.kv2.specs.Secrets.{secret_name, remove_key}
+use Rattle.kv2.specs.Words.{KeepsOtherNames, versions_prefix, secret_name, remove_key}
 use Rattle.kv2.proofs.Digits.{KeyLaws, name_lacks}
 use Rattle.kv2.proofs.Edits.{removed_told}
 use Rattle.kv2.proofs.Others.{removed_keeps}

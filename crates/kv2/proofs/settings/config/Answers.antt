@@ -1,9 +1,4 @@
-use Rattle.std.proofs.Common.{sym, ap, ◌∙◌, Some}
-use Rattle.broker_types.specs.Map.{get}
-use Rattle.broker_types.specs.OptionLaws.{mapped, mapped_none}
-use Rattle.records.specs.RowForms.{mount_row}
-use Rattle.records.specs.Table.{table_of}
-use Rattle.records.specs.ValueLaws.{none_of, ok_inj}
+use Rattle.records.specs.Words.{sym, ap, ◌∙◌, Some, get, mapped, mapped_none, mount_row, table_of, none_of, ok_inj}
 use Rattle.kv2.proofs.SecretsTold.{has_mount}
 use Rattle.kv2.proofs.settings.config.Goals as goal
 

@@ -1,18 +1,9 @@
 use Rattle.std.proofs.Common.{◌≡◌, None, Some, ap, sym, subst, ◌∙◌, unwrap_or, option_map, rules}
-use Rattle.std.proofs.lemmas.Result.{on_ok_weaker, err_from_is_err_and}
-use Rattle.broker_types.specs.Map.{get}
-use Rattle.broker_types.specs.Broker.{Mount}
+use Rattle.records.specs.Words.{on_ok_weaker, err_from_is_err_and, get, Mount, honest_before, goes_further, of_mounts}
+use Rattle.records.specs.Words.{Tells, mount_row, Table, table, table_of, with_row, table_of-insert, IsHonest, none_of}
 use Rattle.records.specs.declared.kind.Kind.TheVariants as kind
-use Rattle.records.specs.CallLaws.{honest_before, goes_further}
-use Rattle.records.specs.Parts.{of_mounts, Tells}
-use Rattle.records.specs.RowForms.{mount_row}
-use Rattle.records.specs.Table.{Table, table, table_of, with_row}
-use Rattle.records.specs.TableLaws.{table_of-insert}
-use Rattle.records.specs.Transaction.{IsHonest}
-use Rattle.records.specs.ValueLaws.{none_of}
-use Rattle.kv2.specs.SecretRows.{KeepsOtherMounts}
+use Rattle.kv2.specs.Words.{KeepsOtherMounts, set_config, with_settings}
 use Rattle.kv2.specs.SecretRows as rows
-use Rattle.kv2.specs.Secrets.{set_config, with_settings}
 use Rattle.kv2.proofs.Edits.{settings_told}
 use Rattle.kv2.proofs.Others.{settings_keep}
 use Rattle.kv2.proofs.SecretsTold.{has_mount}

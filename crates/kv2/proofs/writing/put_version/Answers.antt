@@ -1,10 +1,5 @@
-use Rattle.std.proofs.Common.{ap, ◌∙◌}
-use Rattle.std.proofs.lemmas.Result.{on_ok_weaker}
-use Rattle.records.specs.CallLaws.{honest_before, goes_further}
-use Rattle.records.specs.KeyEntry.{KeyEntry}
-use Rattle.records.specs.RowForms.{version_row}
-use Rattle.records.specs.Transaction.{IsHonest}
-use Rattle.kv2.specs.Versions.{new_version}
+use Rattle.records.specs.Words.{ap, ◌∙◌, on_ok_weaker, honest_before, goes_further, KeyEntry, version_row, IsHonest}
+use Rattle.kv2.specs.Words.{new_version}
 use Rattle.kv2.proofs.PutCalls.{put_by_calls}
 use Rattle.kv2.proofs.writing.put_version.Goals as goal
 

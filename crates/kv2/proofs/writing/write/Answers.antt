@@ -1,12 +1,6 @@
-use Rattle.std.proofs.Common.{sym, subst, ◌∙◌, option_map}
-use Rattle.std.specs.Prelude.{⊤}
-use Rattle.broker_types.specs.Map.{get}
-use Rattle.broker_types.specs.RequestError.{Ends}
-use Rattle.records.specs.KeyEntry.{key_entry}
-use Rattle.records.specs.Table.{table_of}
-use Rattle.kv2.specs.SecretRows.{HasKey}
+use Rattle.records.specs.Words.{sym, subst, ◌∙◌, option_map, ⊤, get, Ends, key_entry, table_of}
+use Rattle.kv2.specs.Words.{HasKey, secret_name}
 use Rattle.kv2.specs.SecretRows as rows
-use Rattle.kv2.specs.Secrets.{secret_name}
 use Rattle.kv2.proofs.Digits.{KeyLaws}
 use Rattle.kv2.proofs.SecretsTold.{has_key, has_mount}
 use Rattle.kv2.proofs.WriteCalls.{IsWritten, write_told}

@@ -1,15 +1,8 @@
 use Rattle.std.proofs.Common.{◌≢◌, None, ap, sym, subst, ◌∙◌, unwrap_or}
-use Rattle.std.proofs.lemmas.Option.{none-some}
-use Rattle.std.proofs.lemmas.Result.{err_from_is_err_and}
-use Rattle.broker_types.specs.Fault.{IsMemoryOrStorage}
-use Rattle.broker_types.specs.RequestError.{EndsOk}
-use Rattle.records.specs.CallLaws.{honest_before, goes_further, fails_alike}
-use Rattle.records.specs.KeyEntry.{KeyEntry}
-use Rattle.records.specs.Table.{Table, table, table_of}
-use Rattle.records.specs.Transaction.{Rows, IsHonest, GoesOn}
-use Rattle.kv2.specs.SecretRows.{HasKey, KeepsOtherNames, new_entry, next_entry, with_current}
+use Rattle.records.specs.Words.{none-some, err_from_is_err_and, IsMemoryOrStorage, EndsOk, honest_before, goes_further}
+use Rattle.records.specs.Words.{fails_alike, KeyEntry, Table, table, table_of, Rows, IsHonest, GoesOn}
+use Rattle.kv2.specs.Words.{HasKey, KeepsOtherNames, new_entry, next_entry, with_current, checked}
 use Rattle.kv2.specs.SecretRows as rows
-use Rattle.kv2.specs.Versions.{checked}
 use Rattle.kv2.proofs.Others.{written_keeps}
 use Rattle.kv2.proofs.WriteCalls.{IsWritten, answer_of, rows_written}
 use Rattle.kv2.proofs.writing.write_named.Goals as goal

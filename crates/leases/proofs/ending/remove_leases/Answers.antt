@@ -1,14 +1,8 @@
 use Rattle.std.proofs.Common.{◌≡◌, ◌+◌, ◌∷◌, true, false, drop, sym, ap, subst, ◌∙◌}
-use Rattle.std.specs.List.{AllByRecursion}
-use Rattle.std.proofs.lemmas.List.{drop_more}
-use Rattle.broker_types.specs.Text.{Text}
+use Rattle.records.specs.Words.{AllByRecursion, drop_more, Text, honest_before, goes_further, RowKey, is_of_kind, Seen}
+use Rattle.records.specs.Words.{IsHonest, GoesOn}
 use Rattle.records.specs.declared.kind.Kind.TheVariants as kind
-use Rattle.records.specs.declared.row.Row.{Row}
-use Rattle.records.specs.CallLaws.{honest_before, goes_further}
-use Rattle.records.specs.Kind.{RowKey, is_of_kind}
-use Rattle.records.specs.Transaction.{Seen, IsHonest, GoesOn}
-use Rattle.leases.specs.LeaseRows.{IsLeaseRow}
-use Rattle.leases.specs.Removed.{RemovesLease, RemovesEach, leases_among}
+use Rattle.leases.specs.Words.{Row, IsLeaseRow, RemovesLease, RemovesEach, leases_among}
 use Rattle.leases.proofs.ListedLeases.{among_lease, among_other}
 use Rattle.leases.proofs.ending.remove_leases.Goals as goal
 use Rattle.leases.proofs.ending.remove_leases.Goals.{then-is_lease+in_ok-remove_lease, else-is_lease}

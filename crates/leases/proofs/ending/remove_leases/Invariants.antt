@@ -1,8 +1,5 @@
-use Rattle.std.proofs.Common.{false, drop}
-use Rattle.std.specs.List.{AllByRecursion}
-use Rattle.records.specs.Transaction.{Rows, IsHonest, GoesOn}
-use Rattle.leases.specs.LeaseRows.{IsLeaseRow}
-use Rattle.leases.specs.Removed.{RemovesEach, leases_among}
+use Rattle.records.specs.Words.{false, drop, AllByRecursion, Rows, IsHonest, GoesOn}
+use Rattle.leases.specs.Words.{IsLeaseRow, RemovesEach, leases_among}
 use Rattle.leases.proofs.ending.remove_leases.Given as goal
 
 -- where what is left is taken out, all has been

@@ -1,20 +1,8 @@
 use Rattle.std.proofs.Common.{◌≡◌, ◌∙◌, ℕ, Bool, false, Some, Option, Result, Ok, ap, sym, subst}
-use Rattle.std.proofs.lemmas.Result.{err_from_is_err_and}
-use Rattle.broker_types.specs.Broker.{Broker, Role}
-use Rattle.broker_types.specs.Evolves.{IsNew}
-use Rattle.broker_types.specs.IdentifierPlaces.{lease_identifier}
-use Rattle.broker_types.specs.Refuse.{◌>>=◌}
-use Rattle.broker_types.specs.declared.refusal.Refusal.{Refusal}
-use Rattle.broker_types.specs.RequestError.{EndsOk}
-use Rattle.broker_types.specs.Text.{Text}
-use Rattle.broker_types.specs.Token.{Lease}
-use Rattle.records.specs.CallLaws.{honest_before, goes_further, fails_alike, read_fault}
-use Rattle.records.specs.Parts.{of_leases, Tells, KeepsOthers}
-use Rattle.records.specs.Table.{Table, table, table_of}
-use Rattle.records.specs.Transaction.{Rows, IsHonest, GoesOn}
-use Rattle.leases.specs.LeaseRows.{RepresentsLeases, with_issued}
-use Rattle.leases.specs.Leases.{issue}
-use Rattle.leases.specs.RoleRows.{with_lease}
+use Rattle.records.specs.Words.{err_from_is_err_and, Broker, Role, IsNew, lease_identifier, ◌>>=◌, Refusal, EndsOk}
+use Rattle.records.specs.Words.{Text, Lease, honest_before, goes_further, fails_alike, read_fault, of_leases, Tells}
+use Rattle.records.specs.Words.{KeepsOthers, Table, table, table_of, Rows, IsHonest, GoesOn}
+use Rattle.leases.specs.Words.{RepresentsLeases, with_issued, issue, with_lease}
 use Rattle.leases.specs.Roles as roles
 use Rattle.leases.proofs.issuing.creds.Goals as goal
 

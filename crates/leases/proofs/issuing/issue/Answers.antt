@@ -1,15 +1,9 @@
 use Rattle.std.proofs.Common.{◌≡◌, ap, sym, subst, ◌∙◌}
 use Rattle.std.specs.FinMap as map
-use Rattle.std.proofs.lemmas.Result.{on_ok_weaker}
-use Rattle.broker_types.specs.Token.{Lease}
+use Rattle.records.specs.Words.{on_ok_weaker, Lease, honest_before, goes_further, of_leases, Tells, KeepsOthers, Table}
+use Rattle.records.specs.Words.{table, table_of, with_row, table_of-insert, IsHonest}
 use Rattle.records.specs.declared.kind.Kind.TheVariants as kind
-use Rattle.records.specs.CallLaws.{honest_before, goes_further}
-use Rattle.records.specs.Parts.{of_leases, Tells, KeepsOthers}
-use Rattle.records.specs.Table.{Table, table, table_of, with_row}
-use Rattle.records.specs.TableLaws.{table_of-insert}
-use Rattle.records.specs.Transaction.{IsHonest}
-use Rattle.leases.specs.LeaseRows.{with_issued}
-use Rattle.leases.specs.Leases.{issue}
+use Rattle.leases.specs.Words.{with_issued, issue}
 use Rattle.leases.proofs.LeaseMade.{issued_told, issued_keeps}
 use Rattle.leases.proofs.issuing.issue.Goals as goal
 

@@ -1,11 +1,7 @@
 use Rattle.std.proofs.Common.{◌&&◌, refl, sym, subst}
-use Rattle.std.proofs.lemmas.Result.{IfOk-weaker}
-use Rattle.broker_types.specs.Text.{same}
+use Rattle.records.specs.Words.{IfOk-weaker, same, is_of_kind, table}
 use Rattle.records.specs.declared.kind.Kind.TheVariants as kind
-use Rattle.records.specs.Kind.{is_of_kind}
-use Rattle.records.specs.Table.{table}
-use Rattle.leases.specs.Endings.{is_owned}
-use Rattle.leases.specs.Removed.{leases_among, AreThoseThatEnd}
+use Rattle.leases.specs.Words.{is_owned, leases_among, AreThoseThatEnd}
 use Rattle.leases.proofs.ListedLeases.{those_passing}
 use Rattle.leases.proofs.listing.leases_of.Goals as goal
 

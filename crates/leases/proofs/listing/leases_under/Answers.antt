@@ -1,13 +1,7 @@
 use Rattle.std.proofs.Common.{◌&&◌, ◌++◌, ◌∷◌, [], ◌∙◌, nat_eq, refl, sym, ap, subst}
-use Rattle.std.specs.List.{starts_with}
-use Rattle.std.proofs.lemmas.Result.{IfOk-weaker}
+use Rattle.records.specs.Words.{starts_with, IfOk-weaker, is_of_kind, slash, table, rows_under}
 use Rattle.records.specs.declared.kind.Kind.TheVariants as kind
-use Rattle.records.specs.Kind.{is_of_kind}
-use Rattle.records.specs.Splits.{slash}
-use Rattle.records.specs.Table.{table}
-use Rattle.records.specs.Transaction.{rows_under}
-use Rattle.leases.specs.Endings.{ids_under}
-use Rattle.leases.specs.Removed.{leases_among, AreThoseThatEnd}
+use Rattle.leases.specs.Words.{ids_under, leases_among, AreThoseThatEnd}
 use Rattle.leases.proofs.ListedLeases.{those_passing}
 use Rattle.leases.proofs.listing.leases_under.Goals as goal
 

@@ -1,17 +1,9 @@
 use Rattle.std.proofs.Common.{◌≡◌, Some, refl, ap, is_ok, sym, subst, ◌∙◌}
-use Rattle.std.proofs.lemmas.Bool.{false≢true}
-use Rattle.std.proofs.lemmas.Result.{err_from_is_err_and}
-use Rattle.broker_types.specs.RequestError.{EndsOk}
-use Rattle.broker_types.specs.Refuse.{some_or}
+use Rattle.records.specs.Words.{false≢true, err_from_is_err_and, EndsOk, some_or, lease_row, table, none_of, ok_inj}
+use Rattle.records.specs.Words.{IsHonest}
 use Rattle.broker_types.specs.declared.refusal.Refusal.TheVariants as refusal
 use Rattle.broker_types.specs.declared.refusal.Reason.TheVariants as reason
-use Rattle.records.specs.declared.row.Row.{Row}
-use Rattle.records.specs.RowForms.{lease_row}
-use Rattle.records.specs.Table.{table}
-use Rattle.records.specs.ValueLaws.{none_of, ok_inj}
-use Rattle.records.specs.Transaction.{IsHonest}
-use Rattle.leases.specs.LeaseRows.{IsReadableLease}
-use Rattle.leases.specs.Leases.{times_of}
+use Rattle.leases.specs.Words.{Row, IsReadableLease, times_of}
 use Rattle.leases.proofs.LeaseFound.{find_none, find_some, at_is, at_read}
 use Rattle.leases.proofs.looking.lookup.Goals as goal
 

@@ -1,8 +1,4 @@
-use Rattle.std.proofs.Common.{is_some, ap, is_ok, sym, ◌∙◌}
-use Rattle.std.proofs.lemmas.Bool.{false≢true}
-use Rattle.std.proofs.lemmas.Result.{err_from_is_err_and}
-use Rattle.records.specs.ValueLaws.{none_of}
-use Rattle.records.specs.Table.{table}
+use Rattle.records.specs.Words.{is_some, ap, is_ok, sym, ◌∙◌, false≢true, err_from_is_err_and, none_of, table}
 use Rattle.leases.proofs.LeaseFound.{verify_told, credential_readable}
 use Rattle.leases.proofs.looking.verify.Goals as goal
 

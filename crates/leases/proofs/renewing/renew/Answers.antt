@@ -1,25 +1,14 @@
 use Rattle.std.proofs.Common.{◌≡◌, ◌∙◌, Some, Option, Ok, refl, ap, is_ok, sym, subst}
-use Rattle.std.proofs.lemmas.Bool.{false≢true}
-use Rattle.std.proofs.lemmas.Option.{same_Some}
-use Rattle.std.proofs.lemmas.Result.{err_from_is_err_and}
-use Rattle.broker_types.specs.RequestError.{EndsOk}
-use Rattle.broker_types.specs.Refuse.{◌>>=◌, some_or}
-use Rattle.broker_types.specs.Token.{Lease}
+use Rattle.records.specs.Words.{false≢true, same_Some, err_from_is_err_and, EndsOk, ◌>>=◌, some_or, Lease}
+use Rattle.records.specs.Words.{honest_before, goes_further, fails_alike, read_fault, of_leases, Tells, IsLeaseInRange}
+use Rattle.records.specs.Words.{lease_row, Table, table, table_of, with_row, table_of-insert, IsHonest, GoesOn, none_of}
+use Rattle.records.specs.Words.{ok_inj}
 use Rattle.broker_types.specs.declared.refusal.Refusal.TheVariants as refusal
 use Rattle.broker_types.specs.declared.refusal.Reason.TheVariants as reason
 use Rattle.records.specs.declared.kind.Kind.TheVariants as kind
-use Rattle.records.specs.declared.row.Row.{Row}
-use Rattle.records.specs.CallLaws.{honest_before, goes_further, fails_alike, read_fault}
-use Rattle.records.specs.Parts.{of_leases, Tells}
-use Rattle.records.specs.Ranges.{IsLeaseInRange}
-use Rattle.records.specs.RowForms.{lease_row}
-use Rattle.records.specs.Table.{Table, table, table_of, with_row}
-use Rattle.records.specs.TableLaws.{table_of-insert}
-use Rattle.records.specs.Transaction.{IsHonest, GoesOn}
-use Rattle.records.specs.ValueLaws.{none_of, ok_inj}
+use Rattle.leases.specs.Words.{Row, Held, IsLeaseAt, IsReadableLease, KeepsOtherLeases, Renewed, renewed, renewed_end}
+use Rattle.leases.specs.Words.{with_renewed}
 use Rattle.leases.specs.LeaseRows as rows
-use Rattle.leases.specs.LeaseRows.{Held, IsLeaseAt, IsReadableLease, KeepsOtherLeases}
-use Rattle.leases.specs.Leases.{Renewed, renewed, renewed_end, with_renewed}
 use Rattle.leases.proofs.LeaseFound.{find_none, find_some, at_is, at_read}
 use Rattle.leases.proofs.LeaseMade.{changed_told, renewed_keeps}
 use Rattle.leases.proofs.renewing.renew.Goals as goal

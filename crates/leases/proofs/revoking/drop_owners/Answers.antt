@@ -1,12 +1,8 @@
 use Rattle.std.proofs.Common.{◌≡◌, ◌+◌, ◌∷◌, [], false, drop, sym, ap, subst, ◌∙◌}
-use Rattle.std.proofs.lemmas.Bool.{or_left, or_right}
-use Rattle.std.proofs.lemmas.List.{drop_more, drop_all}
-use Rattle.std.proofs.lemmas.Result.{err_from_is_err_and}
-use Rattle.records.specs.CallLaws.{honest_before, goes_further, fault_then, not_damaged}
-use Rattle.records.specs.Transaction.{IsHonest, is_storage}
-use Rattle.records.specs.Table.{table}
-use Rattle.leases.specs.Endings.{EndsLeases, AreReadable, is_owned, are_owned}
-use Rattle.leases.specs.LeftLaws.{all_readable, ends_added, nothing_ends, readable_after}
+use Rattle.records.specs.Words.{or_left, or_right, drop_more, drop_all, err_from_is_err_and, honest_before}
+use Rattle.records.specs.Words.{goes_further, fault_then, not_damaged, IsHonest, is_storage, table}
+use Rattle.leases.specs.Words.{EndsLeases, AreReadable, is_owned, are_owned, all_readable, ends_added, nothing_ends}
+use Rattle.leases.specs.Words.{readable_after}
 use Rattle.leases.proofs.revoking.drop_owners.Goals as goal
 
 pub loop-token-preserved : goal.loop-token-preserved

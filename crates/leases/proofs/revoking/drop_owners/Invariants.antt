@@ -1,7 +1,5 @@
-use Rattle.std.proofs.Common.{false, drop}
-use Rattle.records.specs.Table.{Table, table}
-use Rattle.records.specs.Transaction.{IsHonest, GoesOn}
-use Rattle.leases.specs.Endings.{EndsLeases, AreReadable, are_owned}
+use Rattle.records.specs.Words.{false, drop, Table, table, IsHonest, GoesOn}
+use Rattle.leases.specs.Words.{EndsLeases, AreReadable, are_owned}
 use Rattle.leases.proofs.revoking.drop_owners.Given as goal
 
 -- where the leases of the tokens that are left end, those of all have ended

@@ -1,16 +1,7 @@
-use Rattle.std.proofs.Common.{sym, subst, ◌∙◌}
-use Rattle.std.proofs.lemmas.Result.{on_ok_weaker}
-use Rattle.records.specs.CallLaws.{honest_before, goes_further, fault_then, not_damaged, each_fault}
-use Rattle.records.specs.Table.{table, table_of}
-use Rattle.records.specs.Transaction.{Rows, IsHonest}
-use Rattle.records.specs.ValueLaws.{none_of}
-use Rattle.leases.specs.Endings.{EndsLeases, is_named}
-use Rattle.leases.specs.Leases.{revoke}
-use Rattle.leases.specs.Removed.{RemovesLease}
-use Rattle.broker_types.specs.TextLaws.{same_self}
+use Rattle.records.specs.Words.{sym, subst, ◌∙◌, on_ok_weaker, honest_before, goes_further, fault_then, not_damaged}
+use Rattle.records.specs.Words.{each_fault, table, table_of, Rows, IsHonest, none_of, same_self}
+use Rattle.leases.specs.Words.{EndsLeases, is_named, revoke, RemovesLease, revoke_leaves, all_readable}
 use Rattle.leases.proofs.Endings.{one_ended, none_ended, left_told}
-use Rattle.leases.specs.EditLaws.{revoke_leaves}
-use Rattle.leases.specs.LeftLaws.{all_readable}
 use Rattle.leases.proofs.revoking.revoke.Goals as goal
 
 -- ---- an unknown id

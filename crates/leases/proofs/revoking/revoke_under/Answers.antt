@@ -1,14 +1,8 @@
-use Rattle.std.proofs.Common.{sym, subst}
-use Rattle.std.proofs.lemmas.Result.{on_ok_weaker}
-use Rattle.records.specs.CallLaws.{honest_before, goes_further, fault_then, not_damaged, each_fault}
-use Rattle.records.specs.Table.{table, table_of}
-use Rattle.records.specs.Transaction.{Rows, IsHonest}
-use Rattle.leases.specs.Endings.{ids_under}
-use Rattle.leases.specs.Leases.{revoke_under}
-use Rattle.leases.specs.Removed.{RemovesEach, leases_among, AreThoseThatEnd}
+use Rattle.records.specs.Words.{sym, subst, on_ok_weaker, honest_before, goes_further, fault_then, not_damaged}
+use Rattle.records.specs.Words.{each_fault, table, table_of, Rows, IsHonest}
+use Rattle.leases.specs.Words.{ids_under, revoke_under, RemovesEach, leases_among, AreThoseThatEnd, under_leaves}
+use Rattle.leases.specs.Words.{all_readable}
 use Rattle.leases.proofs.Endings.{each_readable, leases_ended, left_told}
-use Rattle.leases.specs.EditLaws.{under_leaves}
-use Rattle.leases.specs.LeftLaws.{all_readable}
 use Rattle.leases.proofs.revoking.revoke_under.Goals as goal
 
 pub returns-clause-rows : goal.returns-clause-rows

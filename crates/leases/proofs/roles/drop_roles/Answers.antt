@@ -1,9 +1,7 @@
 use Rattle.std.proofs.Common.{◌≡◌, [], ◌∙◌, ap, sym, subst}
-use Rattle.std.proofs.lemmas.Result.{on_ok_weaker}
+use Rattle.records.specs.Words.{on_ok_weaker, of_roles, Tells, KeepsOthers, Table, table, without_under}
 use Rattle.records.specs.declared.kind.Kind.TheVariants as kind
-use Rattle.records.specs.Parts.{of_roles, Tells, KeepsOthers}
-use Rattle.records.specs.Table.{Table, table, without_under}
-use Rattle.leases.specs.Roles.{role_name, drop_roles}
+use Rattle.leases.specs.Words.{role_name, drop_roles}
 use Rattle.leases.proofs.RoleEdits.{dropped_keeps, dropped_told}
 use Rattle.leases.proofs.roles.drop_roles.Goals as goal
 

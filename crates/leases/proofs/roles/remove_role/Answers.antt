@@ -1,12 +1,9 @@
 use Rattle.std.proofs.Common.{◌≡◌, ◌∙◌, ap, sym, subst}
 use Rattle.std.specs.FinMap as map
-use Rattle.std.proofs.lemmas.Result.{on_ok_weaker}
-use Rattle.broker_types.specs.Text.{Text}
+use Rattle.records.specs.Words.{on_ok_weaker, Text, of_roles, Tells, KeepsOthers, Table, table, table_of, without_row}
+use Rattle.records.specs.Words.{table_of-remove}
 use Rattle.records.specs.declared.kind.Kind.TheVariants as kind
-use Rattle.records.specs.Parts.{of_roles, Tells, KeepsOthers}
-use Rattle.records.specs.Table.{Table, table, table_of, without_row}
-use Rattle.records.specs.TableLaws.{table_of-remove}
-use Rattle.leases.specs.Roles.{role_name, remove_role}
+use Rattle.leases.specs.Words.{role_name, remove_role}
 use Rattle.leases.proofs.RoleEdits.{gone_keeps, gone_told}
 use Rattle.leases.proofs.roles.remove_role.Goals as goal
 

@@ -1,16 +1,7 @@
-use Rattle.std.proofs.Common.{Some, ap, is_ok, sym, subst, ◌∙◌}
-use Rattle.std.proofs.lemmas.Bool.{false≢true}
-use Rattle.std.proofs.lemmas.Option.{same_Some}
-use Rattle.std.proofs.lemmas.Result.{err_from_is_err_and}
-use Rattle.broker_types.specs.Map.{get}
-use Rattle.broker_types.specs.OptionLaws.{mapped, mapped_none}
+use Rattle.records.specs.Words.{Some, ap, is_ok, sym, subst, ◌∙◌, false≢true, same_Some, err_from_is_err_and, get}
+use Rattle.records.specs.Words.{mapped, mapped_none, IsRoleInRange, role_in_range, role_row, table, none_of, ok_inj}
 use Rattle.records.specs.declared.kind.Kind.TheVariants as kind
-use Rattle.records.specs.Ranges.{IsRoleInRange}
-use Rattle.records.specs.RangeLaws.{role_in_range}
-use Rattle.records.specs.RowForms.{role_row}
-use Rattle.records.specs.Table.{table}
-use Rattle.records.specs.ValueLaws.{none_of, ok_inj}
-use Rattle.leases.specs.Roles.{role_name}
+use Rattle.leases.specs.Words.{role_name}
 use Rattle.leases.proofs.RoleEdits.{role_told}
 use Rattle.leases.proofs.roles.role.Goals as goal
 

@@ -1,16 +1,10 @@
 use Rattle.std.proofs.Common.{◌≡◌, true, refl, ap, sym, subst, ◌∙◌}
-use Rattle.broker_types.specs.Broker.{Broker, Role}
-use Rattle.broker_types.specs.Map.{put}
-use Rattle.broker_types.specs.Name.{is_name}
+use Rattle.records.specs.Words.{Broker, Role, put, is_name, ends_unless, of_roles, Tells, KeepsOthers, role_row, Table}
+use Rattle.records.specs.Words.{table_of, with_row, table_of-insert, with_row_keeps}
 use Rattle.broker_types.specs.declared.refusal.Refusal.TheVariants as refusal
 use Rattle.broker_types.specs.declared.refusal.Reason.TheVariants as reason
-use Rattle.broker_types.specs.RefuseLaws.{ends_unless}
 use Rattle.records.specs.declared.kind.Kind.TheVariants as kind
-use Rattle.records.specs.Parts.{of_roles, Tells, KeepsOthers}
-use Rattle.records.specs.RowForms.{role_row}
-use Rattle.records.specs.Table.{Table, table_of, with_row}
-use Rattle.records.specs.TableLaws.{table_of-insert, with_row_keeps}
-use Rattle.leases.specs.Roles.{role_name}
+use Rattle.leases.specs.Words.{role_name}
 use Rattle.leases.proofs.RoleEdits.{put_told}
 use Rattle.leases.proofs.roles.set_role.Goals as goal
 

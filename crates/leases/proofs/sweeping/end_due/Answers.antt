@@ -1,8 +1,5 @@
-use Rattle.std.proofs.lemmas.Result.{on_ok_weaker}
-use Rattle.records.specs.CallLaws.{fault_then, each_fault}
-use Rattle.records.specs.Table.{table_of}
-use Rattle.leases.specs.Endings.{has_come}
-use Rattle.leases.specs.Removed.{leases_among}
+use Rattle.records.specs.Words.{on_ok_weaker, fault_then, each_fault, table_of}
+use Rattle.leases.specs.Words.{has_come, leases_among}
 use Rattle.leases.proofs.Endings.{each_readable, leases_ended, others_after}
 use Rattle.leases.proofs.ListedLeases.{those_due}
 use Rattle.leases.proofs.sweeping.end_due.Goals as goal

@@ -1,17 +1,8 @@
-use Rattle.std.proofs.Common.{sym, subst}
-use Rattle.std.specs.Prelude.{OnOk}
-use Rattle.std.proofs.lemmas.Result.{on_ok_weaker}
-use Rattle.records.specs.CallLaws.{honest_before, goes_further, fault_then, not_damaged, each_fault}
-use Rattle.records.specs.DueRows.{AreDue}
-use Rattle.records.specs.Parts.{of_leases, KeepsOthers}
-use Rattle.records.specs.Table.{table, table_of}
-use Rattle.records.specs.Transaction.{Rows}
-use Rattle.leases.specs.Endings.{EndsLeases, AreReadable, has_come}
-use Rattle.leases.specs.Leases.{without_expired}
+use Rattle.records.specs.Words.{sym, subst, OnOk, on_ok_weaker, honest_before, goes_further, fault_then, not_damaged}
+use Rattle.records.specs.Words.{each_fault, AreDue, of_leases, KeepsOthers, table, table_of, Rows}
+use Rattle.leases.specs.Words.{EndsLeases, AreReadable, has_come, without_expired, expired_leaves, all_readable}
 use Rattle.leases.proofs.Endings.{left_told}
-use Rattle.leases.specs.EditLaws.{expired_leaves}
 use Rattle.leases.proofs.ListedLeases.{still_due}
-use Rattle.leases.specs.LeftLaws.{all_readable}
 use Rattle.leases.proofs.sweeping.sweep_leases.Goals as goal
 
 pub returns-clause-rows : goal.returns-clause-rows

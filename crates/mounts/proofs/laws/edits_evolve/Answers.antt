@@ -1,4 +1,4 @@
-use Rattle.mounts.specs.SoundLaws.{mounts_evolve}
+use Rattle.mounts.specs.Words.{mounts_evolve}
 use Rattle.mounts.proofs.laws.edits_evolve.Goals as goal
 
 pub returns : goal.returns

@@ -1,4 +1,4 @@
-use Rattle.mounts.specs.SoundLaws.{enabled_sound, disabled_sound}
+use Rattle.mounts.specs.Words.{enabled_sound, disabled_sound}
 use Rattle.mounts.proofs.laws.edits_keep_soundness.Goals as goal
 
 pub returns-clause-enabled : goal.returns-clause-enabled

@@ -1,4 +1,4 @@
-use Rattle.mounts.specs.TellLaws.{mounts_told, told_mounts}
+use Rattle.mounts.specs.Words.{mounts_told, told_mounts}
 use Rattle.mounts.proofs.laws.mounts_are_told.Goals as goal
 
 pub returns : goal.returns

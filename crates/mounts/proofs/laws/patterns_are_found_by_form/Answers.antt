@@ -1,4 +1,4 @@
-use Rattle.std.proofs.Math.Nat.{le_antisymm}
+use Rattle.records.specs.Words.{le_antisymm}
 use Rattle.mounts.proofs.FormPatterns.{found_by_form, none_by_form}
 use Rattle.mounts.proofs.laws.patterns_are_found_by_form.Goals as goal
 

@@ -1,5 +1,5 @@
-use Rattle.std.proofs.lemmas.Bool.{and_parts}
-use Rattle.mounts.specs.Patterns.{fits}
+use Rattle.records.specs.Words.{and_parts}
+use Rattle.mounts.specs.Words.{fits}
 use Rattle.mounts.proofs.TableRows.{each_route}
 use Rattle.mounts.proofs.laws.rows_are_routes.Goals as goal
 

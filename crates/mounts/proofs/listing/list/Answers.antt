@@ -1,11 +1,7 @@
 use Rattle.std.proofs.Common.{◌≡◌, sym, ap, subst, ◌∙◌, Err, codes, map, All}
-use Rattle.std.proofs.lemmas.Result.{err_from_is_err_and}
-use Rattle.broker_types.specs.Map.{entries}
-use Rattle.records.specs.declared.row.Row.{Row}
-use Rattle.records.specs.CallLaws.{not_damaged, decode_fault}
-use Rattle.records.specs.Kind.{RowKey}
+use Rattle.records.specs.Words.{err_from_is_err_and, entries, not_damaged, decode_fault, RowKey}
+use Rattle.mounts.specs.Words.{Row, IsMountRow, at_mount, placed}
 use Rattle.mounts.specs.declared.mount_type.MountType.TheVariants as mount
-use Rattle.mounts.specs.MountRows.{IsMountRow, at_mount, placed}
 use Rattle.mounts.proofs.MountLists.{listed_is, rows_are, each_in_range}
 use Rattle.mounts.proofs.listing.list.Goals as goal
 

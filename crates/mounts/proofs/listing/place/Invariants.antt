@@ -1,6 +1,5 @@
 use Rattle.std.proofs.Common.{◌≡◌, ◌+◌, drop}
-use Rattle.broker_types.specs.Text.{text_cmp}
-use Rattle.records.specs.KeyPlaces.{rank, is_met}
+use Rattle.records.specs.Words.{text_cmp, rank, is_met}
 use Rattle.mounts.proofs.listing.place.Given as goal
 
 -- the mounts so far are below the name

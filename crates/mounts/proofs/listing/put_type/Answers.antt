@@ -1,9 +1,7 @@
 use Rattle.std.proofs.Common.{◌≡◌, true, false, set, slice_index_or, sym, ap, ◌∙◌, arith}
 use Rattle.std.specs.FinMap.{put}
 use Rattle.std.specs.List.{insert}
-use Rattle.broker_types.specs.Text.{Text, text_cmp}
-use Rattle.records.specs.KeyPlaces.{rank, is_met}
-use Rattle.records.specs.PlaceLaws.{rank_bound, met_bound, set_put, insert_put}
+use Rattle.records.specs.Words.{Text, text_cmp, rank, is_met, rank_bound, met_bound, set_put, insert_put}
 use Rattle.mounts.proofs.listing.put_type.Goals as goal
 
 pub index_mut-found-requires : goal.index_mut-found-requires

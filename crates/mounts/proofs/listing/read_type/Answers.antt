@@ -1,4 +1,4 @@
-use Rattle.broker_types.specs.Broker.{Mount}
+use Rattle.records.specs.Words.{Mount}
 use Rattle.mounts.proofs.listing.read_type.Goals as goal
 
 pub returns-clause-readable : goal.returns-clause-readable

@@ -1,14 +1,7 @@
-use Rattle.std.proofs.Common.{◌≡◌, ◌<◌, sym, ap, subst, ◌∙◌, take, get_or, is_ok, Err, arith}
-use Rattle.std.proofs.lemmas.Bool.{false≢true}
-use Rattle.std.proofs.lemmas.List.{take_more, take_all}
-use Rattle.std.proofs.lemmas.List.Elements.{All-push, All-same}
-use Rattle.std.proofs.lemmas.Result.{err_from_is_err_and}
-use Rattle.records.specs.declared.row.Row.{Row}
-use Rattle.records.specs.Kind.{RowKey}
-use Rattle.records.specs.RowForms.{mount_row}
-use Rattle.records.specs.ValueLaws.{ok_inj}
-use Rattle.mounts.specs.MountRows.{IsMountRow, placed}
-use Rattle.mounts.specs.Types.{type_of}
+use Rattle.std.proofs.Common.{◌≡◌, ◌<◌, sym, ap, subst, ◌∙◌, take, get_or, is_ok, Err, arith, take_all}
+use Rattle.records.specs.Words.{false≢true, take_more, All-push, All-same, err_from_is_err_and, RowKey, mount_row}
+use Rattle.records.specs.Words.{ok_inj}
+use Rattle.mounts.specs.Words.{Row, IsMountRow, placed, type_of}
 use Rattle.mounts.proofs.MountLists.{none, within_mounts, row_at, one_placed}
 use Rattle.mounts.proofs.listing.read_types.Goals as goal
 

@@ -1,9 +1,6 @@
 use Rattle.std.proofs.Common.{◌≡◌, List, map, take, All}
-use Rattle.broker_types.specs.Text.{Text}
-use Rattle.broker_types.specs.Broker.{Mount}
-use Rattle.records.specs.Ranges.{IsMountInRange}
-use Rattle.mounts.specs.MountRows.{IsMountRow, at_mount, in_places}
-use Rattle.mounts.specs.Mounts.{typed}
+use Rattle.records.specs.Words.{Text, Mount, IsMountInRange}
+use Rattle.mounts.specs.Words.{IsMountRow, at_mount, in_places, typed}
 use Rattle.mounts.proofs.listing.read_types.Given as goal
 
 -- the types of the mounts so far, whose rows were read

@@ -1,17 +1,10 @@
 use Rattle.std.proofs.Common.{◌≡◌, sym, ap, ◌∙◌, not, true, Bool, false, is_some, rules}
-use Rattle.std.specs.List.{list_any}
-use Rattle.broker_types.specs.Map.{get, without}
-use Rattle.broker_types.specs.Text.{same}
+use Rattle.records.specs.Words.{list_any, get, without, same, ends_unless, honest_before, mount_row, table_of}
+use Rattle.records.specs.Words.{without_row, table_of-remove}
 use Rattle.broker_types.specs.declared.refusal.Refusal.TheVariants as refusal
 use Rattle.broker_types.specs.declared.refusal.Reason.TheVariants as reason
-use Rattle.broker_types.specs.RefuseLaws.{ends_unless}
 use Rattle.records.specs.declared.kind.Kind.TheVariants as kind
-use Rattle.records.specs.CallLaws.{honest_before}
-use Rattle.records.specs.RowForms.{mount_row}
-use Rattle.records.specs.Table.{table_of, without_row}
-use Rattle.records.specs.TableLaws.{table_of-remove}
-use Rattle.mounts.specs.MountRows.{AreMounts}
-use Rattle.mounts.specs.Mounts.{fixed_names}
+use Rattle.mounts.specs.Words.{AreMounts, fixed_names}
 use Rattle.mounts.proofs.MountEdits.{others_gone, mounts_gone, some_mapped}
 use Rattle.mounts.proofs.mounting.disable.Goals as goal
 

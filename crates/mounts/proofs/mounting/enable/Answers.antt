@@ -1,15 +1,8 @@
 use Rattle.std.proofs.Common.{◌≡◌, ◌<◌, ◌^◌, sym, ap, subst, ◌∙◌, is_some, Ok, Bool, false, lit<, rules}
-use Rattle.broker_types.specs.Broker.{Mount}
-use Rattle.broker_types.specs.Map.{get, put}
+use Rattle.records.specs.Words.{Mount, get, put, honest_before, IsMountInRange, mount_row, table_of, with_row}
+use Rattle.records.specs.Words.{table_of-insert}
 use Rattle.records.specs.declared.kind.Kind.TheVariants as kind
-use Rattle.records.specs.CallLaws.{honest_before}
-use Rattle.records.specs.Ranges.{IsMountInRange}
-use Rattle.records.specs.RowForms.{mount_row}
-use Rattle.records.specs.Table.{table_of, with_row}
-use Rattle.records.specs.TableLaws.{table_of-insert}
-use Rattle.mounts.specs.MountRows.{AreMounts}
-use Rattle.mounts.specs.Mounts.{new_mount}
-use Rattle.mounts.specs.SoundLaws.{new_mount_is}
+use Rattle.mounts.specs.Words.{AreMounts, new_mount, new_mount_is}
 use Rattle.mounts.proofs.MountEdits.{ends_then, others_put, mounts_put, some_mapped}
 use Rattle.mounts.proofs.mounting.enable.Goals as goal
 

@@ -1,10 +1,6 @@
-use Rattle.std.proofs.Common.{◌≡◌, refl, ap, ◌∙◌, List, [], ◌∷◌, Bool, rules, tests}
-use Rattle.std.specs.Prelude.{◌||◌}
-use Rattle.std.specs.List.{list_any}
-use Rattle.std.proofs.lemmas.Iterator.{YieldsList-from_slice}
-use Rattle.std.proofs.lemmas.Iterator.Search.{any_from_yields_List}
-use Rattle.mounts.specs.RouteRow.{RouteRow, shown, rows_in}
-use Rattle.mounts.specs.Route.{asks_sudo, row_asks_sudo, cut, fixed_rows}
+use Rattle.std.proofs.Common.{◌≡◌, ◌∷◌, ◌||◌, refl, ap, ◌∙◌, List, [], Bool, rules, tests}
+use Rattle.records.specs.Words.{list_any, YieldsList-from_slice, any_from_yields_List}
+use Rattle.mounts.specs.Words.{RouteRow, shown, rows_in, asks_sudo, row_asks_sudo, cut, fixed_rows}
 use Rattle.mounts.specs.declared.table.RouteRow as code
 use Rattle.mounts.proofs.routing.asks_sudo.Goals as goal
 

@@ -1,6 +1,5 @@
-use Rattle.std.proofs.Common.{sym, ap, [], unwrap_or, Option, arith}
-use Rattle.broker_types.specs.Text.{Text}
-use Rattle.mounts.specs.CutLaws.{cut_none, cut_some}
+use Rattle.records.specs.Words.{sym, ap, [], unwrap_or, Option, arith, Text}
+use Rattle.mounts.specs.Words.{cut_none, cut_some}
 use Rattle.mounts.proofs.routing.cut.Goals as goal
 
 pub returns-in-Some-clause-name : goal.returns-in-Some-clause-name

@@ -1,10 +1,6 @@
-use Rattle.std.proofs.Common.{sym, ap, ◌∙◌, drop, length}
-use Rattle.std.specs.Prelude.{Bool, ◌&&◌, nat_eq}
-use Rattle.std.specs.List.{starts_with}
-use Rattle.std.proofs.lemmas.Bool.{false_from_ne_true}
-use Rattle.records.specs.PrefixLaws.{begins_with, begun}
-use Rattle.broker_types.specs.Text.{Text}
-use Rattle.mounts.specs.Forms.{Ending, form_of, is_ending}
+use Rattle.std.proofs.Common.{◌&&◌, sym, ap, ◌∙◌, drop, length, Bool, nat_eq}
+use Rattle.records.specs.Words.{starts_with, false_from_ne_true, begins_with, begun, Text}
+use Rattle.mounts.specs.Words.{Ending, form_of, is_ending}
 use Rattle.mounts.proofs.routing.has_form.Goals as goal
 
 -- whether a path is a text and what stands behind it

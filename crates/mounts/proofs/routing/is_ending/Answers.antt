@@ -1,14 +1,8 @@
-use Rattle.std.proofs.Common.{refl, sym, ap, ◌∙◌, arith, length}
-use Rattle.std.specs.Prelude.{◌≡◌, ◌==◌, ◌&&◌, ◌||◌, ℕ, suc, [], ◌∷◌, Bool, true, false, not, nat_eq, if◌then◌else◌}
-use Rattle.std.specs.Prelude.{Some}
-use Rattle.std.specs.List.{starts_with}
-use Rattle.std.proofs.lemmas.Bool.Decides.{nat_tests}
-use Rattle.std.proofs.lemmas.Str.Pattern.{starts_text}
-use Rattle.broker_types.specs.Text.{Text}
-use Rattle.records.specs.Splits.{slash, split_once, lacks}
-use Rattle.records.specs.ValueLaws.{none_of}
-use Rattle.mounts.specs.CutLaws.{cut_none, cut_some}
-use Rattle.mounts.specs.Forms.{nothing, segment, segments, form_of, form_from, is_ending, open_brace, star}
+use Rattle.std.proofs.Common.{◌≡◌, ◌==◌, ◌&&◌, ◌||◌, ◌∷◌, if◌then◌else◌, refl, sym, ap, ◌∙◌, arith, length, ℕ, suc, []}
+use Rattle.records.specs.Words.{Bool, true, false, not, nat_eq, Some, starts_with, nat_tests, starts_text, Text, slash}
+use Rattle.records.specs.Words.{split_once, lacks, none_of}
+use Rattle.mounts.specs.Words.{cut_none, cut_some, nothing, segment, segments, form_of, form_from, is_ending}
+use Rattle.mounts.specs.Words.{open_brace, star}
 use Rattle.mounts.proofs.routing.is_ending.Goals as goal
 
 not_zero : (n : ℕ) → (suc n == 0) ≡ false

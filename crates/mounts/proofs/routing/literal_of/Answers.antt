@@ -1,7 +1,5 @@
-use Rattle.std.proofs.Common.{sym, ap, Option, arith}
-use Rattle.broker_types.specs.Text.{Text}
-use Rattle.mounts.specs.CutLaws.{cut_none, cut_some}
-use Rattle.mounts.specs.Forms.{form_from}
+use Rattle.records.specs.Words.{sym, ap, Option, arith, Text}
+use Rattle.mounts.specs.Words.{cut_none, cut_some, form_from}
 use Rattle.mounts.proofs.routing.literal_of.Goals as goal
 
 pub returns-in-Some : goal.returns-in-Some

@@ -1,9 +1,5 @@
-use Rattle.std.proofs.Common.{sym, ap, ◌∙◌, drop, length, [], if◌then◌else◌}
-use Rattle.std.specs.Prelude.{nat_eq}
-use Rattle.std.specs.List.{starts_with}
-use Rattle.std.proofs.lemmas.Bool.{false_from_ne_true}
-use Rattle.records.specs.PrefixLaws.{begins_with, begun}
-use Rattle.broker_types.specs.Text.{Text}
+use Rattle.std.proofs.Common.{if◌then◌else◌, sym, ap, ◌∙◌, drop, length, [], nat_eq}
+use Rattle.records.specs.Words.{starts_with, false_from_ne_true, begins_with, begun, Text}
 use Rattle.mounts.proofs.routing.parameter.Goals as goal
 
 -- what follows a text in a path, by whether the path begins with it

@@ -1,14 +1,6 @@
 use Rattle.std.proofs.Common.{◌≡◌, arith, sym, ap, subst, ◌∙◌, Err, true, option_map, rules}
-use Rattle.std.proofs.lemmas.Result.{err_from_is_err_and}
-use Rattle.broker_types.specs.Map.{get}
-use Rattle.records.specs.CallLaws.{fault_then, not_damaged}
-use Rattle.records.specs.Table.{table}
-use Rattle.records.specs.ValueLaws.{none_of}
-use Rattle.mounts.specs.FoundLaws.{bytes_of_rest}
-use Rattle.mounts.specs.Forms.{are_bytes}
-use Rattle.mounts.specs.MountRows.{IsKnownAt}
-use Rattle.mounts.specs.Route.{cut, route_by}
-use Rattle.mounts.specs.RouteTable.{route_rows}
+use Rattle.records.specs.Words.{err_from_is_err_and, get, fault_then, not_damaged, table, none_of}
+use Rattle.mounts.specs.Words.{bytes_of_rest, are_bytes, IsKnownAt, cut, route_by, route_rows}
 use Rattle.mounts.proofs.RouteSteps.{ends_refused, ends_found, route_none, route_some, within_none, within_some}
 use Rattle.mounts.proofs.Parameters.{parameter_is_path, are_bytes_from}
 use Rattle.mounts.proofs.PathParts.{IsRest, rest_of}

@@ -1,11 +1,5 @@
-use Rattle.std.proofs.Common.{sym, ap, subst, ◌∙◌, Err, Some, is_ok, rules}
-use Rattle.std.proofs.lemmas.Bool.{false≢true}
-use Rattle.std.proofs.lemmas.Option.{same_Some}
-use Rattle.std.proofs.lemmas.Result.{err_from_is_err_and}
-use Rattle.broker_types.specs.Broker.{Mount}
-use Rattle.records.specs.Ranges.{IsMountInRange}
-use Rattle.records.specs.Table.{table}
-use Rattle.records.specs.ValueLaws.{none_of}
+use Rattle.records.specs.Words.{sym, ap, subst, ◌∙◌, Err, Some, is_ok, rules, false≢true, same_Some}
+use Rattle.records.specs.Words.{err_from_is_err_and, Mount, IsMountInRange, table, none_of}
 use Rattle.mounts.proofs.MountReads.{not_read}
 use Rattle.mounts.proofs.routing.type_of.Goals as goal
 

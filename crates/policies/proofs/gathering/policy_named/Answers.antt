@@ -1,13 +1,6 @@
-use Rattle.std.proofs.Common.{ap, sym, ◌∙◌, subst, Err, Some, is_some, is_ok, rules}
-use Rattle.std.proofs.lemmas.Bool.{false≢true}
-use Rattle.std.proofs.lemmas.Option.{same_Some}
-use Rattle.std.proofs.lemmas.Result.{err_from_is_err_and}
-use Rattle.broker_types.specs.Map.{get}
-use Rattle.broker_types.specs.Sound.{IsShortText}
-use Rattle.records.specs.CallLaws.{not_damaged, decode_fault}
-use Rattle.records.specs.Table.{table}
-use Rattle.policies.specs.PolicyLaws.{one_policy}
-use Rattle.policies.specs.PolicyRows.{IsPolicyAt}
+use Rattle.records.specs.Words.{ap, sym, ◌∙◌, subst, Err, Some, is_some, is_ok, rules, false≢true, same_Some}
+use Rattle.records.specs.Words.{err_from_is_err_and, get, IsShortText, not_damaged, decode_fault, table}
+use Rattle.policies.specs.Words.{one_policy, IsPolicyAt}
 use Rattle.policies.proofs.PoliciesGathered.{unread_named}
 use Rattle.policies.proofs.PolicyTold.{short_texts, not_read}
 use Rattle.policies.proofs.gathering.policy_named.Goals as goal

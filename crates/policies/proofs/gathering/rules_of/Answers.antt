@@ -1,13 +1,7 @@
-use Rattle.std.proofs.Common.{◌≡◌, ap, sym, ◌∙◌, Err, false, get_or, flat_map, arith, rules}
-use Rattle.std.proofs.lemmas.List.{take_all}
-use Rattle.std.proofs.lemmas.List.Elements.{All-same}
-use Rattle.std.proofs.lemmas.Result.{err_from_is_err_and}
-use Rattle.broker_types.specs.Text.{Text}
-use Rattle.records.specs.CallLaws.{fault_then, honest_before, goes_further}
-use Rattle.records.specs.Table.{table}
-use Rattle.records.specs.Transaction.{IsHonest}
-use Rattle.policies.specs.Grants.{rules_named}
-use Rattle.policies.specs.PolicyRows.{IsReadable}
+use Rattle.std.proofs.Common.{◌≡◌, ap, sym, ◌∙◌, Err, false, get_or, flat_map, arith, rules, take_all}
+use Rattle.records.specs.Words.{All-same, err_from_is_err_and, Text, fault_then, honest_before, goes_further, table}
+use Rattle.records.specs.Words.{IsHonest}
+use Rattle.policies.specs.Words.{rules_named, IsReadable}
 use Rattle.policies.proofs.PoliciesGathered.{told_at, one_more_read, one_more, one_unread}
 use Rattle.policies.proofs.gathering.rules_of.Goals as goal
 

@@ -1,10 +1,6 @@
 use Rattle.std.proofs.Common.{◌≡◌, ◌++◌, drop, take, flat_map, false, All}
-use Rattle.broker_types.specs.Map.{Map}
-use Rattle.broker_types.specs.Text.{Text}
-use Rattle.records.specs.Table.{table}
-use Rattle.records.specs.Transaction.{IsHonest, GoesOn}
-use Rattle.policies.specs.Grants.{rules_named}
-use Rattle.policies.specs.PolicyRows.{ArePoliciesAt, IsReadable}
+use Rattle.records.specs.Words.{Map, Text, table, IsHonest, GoesOn}
+use Rattle.policies.specs.Words.{rules_named, ArePoliciesAt, IsReadable}
 use Rattle.policies.proofs.gathering.rules_of.Given as goal
 
 -- the rules of the policies so far and those to come; the rows so far were read

@@ -1,11 +1,7 @@
 use Rattle.std.proofs.Common.{◌≡◌, sym, ap, ◌∙◌, not, Ok, rules}
-use Rattle.broker_types.specs.Map.{without}
-use Rattle.broker_types.specs.Refuse.{unless}
+use Rattle.records.specs.Words.{without, unless, table_of, without_row, table_of-remove}
 use Rattle.records.specs.declared.kind.Kind.TheVariants as kind
-use Rattle.records.specs.Table.{table_of, without_row}
-use Rattle.records.specs.TableLaws.{table_of-remove}
-use Rattle.policies.specs.Policies.{fixed, may_delete}
-use Rattle.policies.specs.PolicyRows.{ArePolicies}
+use Rattle.policies.specs.Words.{fixed, may_delete, ArePolicies}
 use Rattle.policies.proofs.PolicyEdits.{ends_then, others_gone, policies_gone}
 use Rattle.policies.proofs.keeping.delete.Goals as goal
 

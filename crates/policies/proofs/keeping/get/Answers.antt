@@ -1,8 +1,4 @@
-use Rattle.std.proofs.Common.{sym, ◌∙◌, Option}
-use Rattle.broker_types.specs.Map.{get}
-use Rattle.broker_types.specs.Text.{Text}
-use Rattle.records.specs.CallLaws.{not_damaged, fault_then, each_fault}
-use Rattle.records.specs.Table.{table}
+use Rattle.records.specs.Words.{sym, ◌∙◌, Option, get, Text, not_damaged, fault_then, each_fault, table}
 use Rattle.policies.proofs.PolicyTold.{text_told, short_texts, each_ok}
 use Rattle.policies.proofs.keeping.get.Goals as goal
 

@@ -1,7 +1,4 @@
-use Rattle.std.proofs.Common.{ap, sym, ◌∙◌, Err, is_ok, rules}
-use Rattle.std.proofs.lemmas.Bool.{false≢true}
-use Rattle.std.proofs.lemmas.Result.{err_from_is_err_and}
-use Rattle.records.specs.Table.{table}
+use Rattle.records.specs.Words.{ap, sym, ◌∙◌, Err, is_ok, rules, false≢true, err_from_is_err_and, table}
 use Rattle.policies.proofs.PolicyTold.{not_read}
 use Rattle.policies.proofs.keeping.kept_text.Goals as goal
 

@@ -1,11 +1,7 @@
 use Rattle.std.proofs.Common.{◌≡◌, ap, ◌∙◌, rules}
-use Rattle.broker_types.specs.Map.{put}
+use Rattle.records.specs.Words.{put, policy_row, table_of, with_row, table_of-insert}
 use Rattle.records.specs.declared.kind.Kind.TheVariants as kind
-use Rattle.records.specs.RowForms.{policy_row}
-use Rattle.records.specs.Table.{table_of, with_row}
-use Rattle.records.specs.TableLaws.{table_of-insert}
-use Rattle.policies.specs.Policies.{may_set}
-use Rattle.policies.specs.PolicyRows.{ArePolicies}
+use Rattle.policies.specs.Words.{may_set, ArePolicies}
 use Rattle.policies.proofs.PolicyEdits.{ends_then, others_put, policies_put}
 use Rattle.policies.proofs.keeping.set.Goals as goal
 

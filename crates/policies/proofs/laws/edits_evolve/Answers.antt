@@ -1,4 +1,4 @@
-use Rattle.policies.specs.SoundLaws.{policies_evolve}
+use Rattle.policies.specs.Words.{policies_evolve}
 use Rattle.policies.proofs.laws.edits_evolve.Goals as goal
 
 pub returns : goal.returns

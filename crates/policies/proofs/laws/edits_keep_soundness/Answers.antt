@@ -1,4 +1,4 @@
-use Rattle.policies.specs.SoundLaws.{set_sound, deleted_sound}
+use Rattle.policies.specs.Words.{set_sound, deleted_sound}
 use Rattle.policies.proofs.laws.edits_keep_soundness.Goals as goal
 
 pub returns-clause-set : goal.returns-clause-set

@@ -1,12 +1,9 @@
 use lib.Utf8.{encode}
-use Rattle.std.specs.Str.{is_utf8, chars}
-use Rattle.std.proofs.Common.{refl}
+use Rattle.records.specs.Words.{is_utf8, chars, refl, same}
 use Rattle.json.specs.Json.{value}
 use Rattle.json.specs.Lex.{lex, punctuate}
 use Rattle.json.specs.Text.{content}
-use Rattle.broker_types.specs.Text.{same}
-use Rattle.policies.specs.Allows.{allows}
-use Rattle.policies.specs.PolicyTexts.{policy_of, pattern_of, words_of, paths_of}
+use Rattle.policies.specs.Words.{allows, policy_of, pattern_of, words_of, paths_of}
 use Rattle.policies.proofs.laws.examples.Goals as goal
 
 pub returns-clause-denies_one : goal.returns-clause-denies_one

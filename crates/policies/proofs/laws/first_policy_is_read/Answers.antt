@@ -1,4 +1,4 @@
-use Rattle.policies.specs.PolicyLaws.{first_policy}
+use Rattle.policies.specs.Words.{first_policy}
 use Rattle.policies.proofs.laws.first_policy_is_read.Goals as goal
 
 pub returns : goal.returns

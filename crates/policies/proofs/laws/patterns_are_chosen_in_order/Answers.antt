@@ -1,5 +1,5 @@
-use Rattle.policies.proofs.PatternsChosen.{is_longest, exact_first, folder_first, then_path}
-use Rattle.policies.proofs.PatternsChosen.{chosen_named, prefix_found, own_path}
+use Rattle.policies.proofs.PatternsChosen.{is_longest, exact_first, folder_first, then_path, chosen_named, prefix_found}
+use Rattle.policies.proofs.PatternsChosen.{own_path}
 use Rattle.policies.proofs.laws.patterns_are_chosen_in_order.Goals as goal
 
 pub returns-clause-exact : goal.returns-clause-exact

@@ -1,4 +1,4 @@
-use Rattle.policies.specs.TellLaws.{policies_told, told_policies}
+use Rattle.policies.specs.Words.{policies_told, told_policies}
 use Rattle.policies.proofs.laws.policies_are_told.Goals as goal
 
 pub returns : goal.returns

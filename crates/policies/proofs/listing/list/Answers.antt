@@ -1,7 +1,5 @@
-use Rattle.std.proofs.Common.{ap, sym, ◌∙◌, List, map}
-use Rattle.records.specs.declared.row.Row.{Row}
-use Rattle.records.specs.Kind.{RowKey}
-use Rattle.policies.specs.PolicyRows.{all_names}
+use Rattle.records.specs.Words.{ap, sym, ◌∙◌, List, map, RowKey}
+use Rattle.policies.specs.Words.{Row, all_names}
 use Rattle.policies.proofs.PoliciesListed.{rows_named, listed_is}
 use Rattle.policies.proofs.listing.list.Goals as goal
 

@@ -1,5 +1,5 @@
-use Rattle.std.proofs.Common.{◌≡◌, ◌++◌, drop, if◌then◌else◌}
-use Rattle.policies.specs.PolicyRows.{with_name}
+use Rattle.std.proofs.Common.{◌≡◌, ◌++◌, if◌then◌else◌, drop}
+use Rattle.policies.specs.Words.{with_name}
 use Rattle.policies.proofs.listing.with_name.Given as goal
 
 -- what is to come, as it is where the name is in

@@ -1,8 +1,4 @@
-use Rattle.std.proofs.Common.{lit<, sym, ◌∙◌}
-use Rattle.std.proofs.lemmas.Bool.{false_from_ne_true}
-use Rattle.std.proofs.lemmas.Str.Pattern.{strip_suffix_char}
-use Rattle.broker_types.specs.Text.{same}
-use Rattle.broker_types.specs.TextLaws.{same_true}
+use Rattle.records.specs.Words.{lit<, sym, ◌∙◌, false_from_ne_true, strip_suffix_char, same, same_true}
 use Rattle.policies.proofs.PlaceLemmas.{same_snoc}
 use Rattle.policies.proofs.pattern.is_with_slash.Goals as goal
 

@@ -1,8 +1,8 @@
-use Rattle.std.proofs.Common.{sym, ap, ◌∙◌, ◌+◌, drop, get_or}
-use Rattle.std.proofs.lemmas.List.{at_drop_more}
+use Rattle.std.proofs.Common.{◌+◌, sym, ap, ◌∙◌, drop, get_or}
+use Rattle.records.specs.Words.{at_drop_more}
 use Rattle.serde_json.specs.View.{view, items_view}
-use Rattle.api_json.specs.Kinds.{each_item}
-use Rattle.policies.specs.PolicyTexts.{word}
+use Rattle.api_json.specs.Words.{each_item}
+use Rattle.policies.specs.Words.{word}
 use Rattle.api_json.proofs.Gathering.{one_more}
 use Rattle.policies.proofs.reading.each_word.Goals as goal
 

@@ -1,8 +1,8 @@
 use Rattle.std.proofs.Common.{◌≡◌, drop}
 use Rattle.serde_json.specs.View.{items_view}
-use Rattle.api_json.specs.Kinds.{each_item}
+use Rattle.api_json.specs.Words.{each_item}
 use Rattle.api_json.proofs.Gathering.{onto}
-use Rattle.policies.specs.PolicyTexts.{word}
+use Rattle.policies.specs.Words.{word}
 use Rattle.policies.proofs.reading.each_word.Given as goal
 
 abbrev pub invariant-loop-item : goal.invariant-loop-item

@@ -1,7 +1,7 @@
-use Rattle.std.proofs.Common.{sym, ap, ◌∙◌, string_bytes}
+use Rattle.records.specs.Words.{sym, ap, ◌∙◌, string_bytes}
 use Rattle.serde_json.specs.View.{view, members_view}
 use Rattle.api_json.proofs.Gathering.{one_more}
-use Rattle.policies.specs.PolicyTexts.{rule_in, rules_in}
+use Rattle.policies.specs.Words.{rule_in, rules_in}
 use Rattle.policies.proofs.reading.rules_in.Goals as goal
 
 pub loop-pattern-preserved : goal.loop-pattern-preserved

@@ -1,9 +1,6 @@
 use Rattle.std.proofs.Common.{◌≡◌, ◌==◌, ◌++◌, ◌∷◌, [], ap, sym, ◌∙◌, length, arith}
-use Rattle.std.specs.List.{position_or_len}
-use Rattle.std.proofs.lemmas.Str.Pattern.{split_once_first}
-use Rattle.records.specs.Splits.{slash}
+use Rattle.records.specs.Words.{position_or_len, split_once_first, slash, IfOk-weaker}
 use Rattle.records.proofs.ChildLemmas.{child-whole, child-folder}
-use Rattle.std.proofs.lemmas.Result.{IfOk-weaker}
 use Rattle.records.proofs.children.child_of.Goals as goal
 
 pub returns-in-None : goal.returns-in-None

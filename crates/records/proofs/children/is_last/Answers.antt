@@ -1,6 +1,4 @@
-use Rattle.std.proofs.Common.{ap, ◌∙◌}
-use Rattle.broker_types.specs.Text.{same}
-use Rattle.records.specs.Children.{is_text}
+use Rattle.records.specs.Words.{ap, ◌∙◌, same, is_text}
 use Rattle.records.proofs.children.is_last.Goals as goal
 
 pub returns-in-Some : goal.returns-in-Some

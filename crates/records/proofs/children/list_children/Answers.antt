@@ -1,9 +1,6 @@
 use Rattle.std.proofs.Common.{◌≡◌, ◌<◌, ◌-◌, false, [], List, length, slice_get, Some, refl, sym, ap, arith, ◌∙◌, rules}
-use Rattle.std.specs.Prelude.{take, string_bytes}
-use Rattle.broker_types.specs.Text.{Text}
-use Rattle.records.specs.CallLaws.{honest_before, goes_further}
-use Rattle.records.specs.Children.{children, keys_under, push_each}
-use Rattle.records.specs.Transaction.{rows_from}
+use Rattle.records.specs.Words.{take, string_bytes, Text, honest_before, goes_further, children, keys_under, push_each}
+use Rattle.records.specs.Words.{rows_from}
 use Rattle.records.proofs.ChildWalk.{children_from, found_in, from_start, keys_of, walk_ends, walk_goes_on}
 use Rattle.records.proofs.ChildrenNamed.{named_children}
 use Rattle.records.proofs.ListedKeys.{listed_children}

@@ -1,7 +1,5 @@
-use Rattle.std.proofs.Common.{◌≡◌, [], false}
-use Rattle.std.specs.Prelude.{string_bytes}
-use Rattle.records.specs.Children.{push_each}
-use Rattle.records.specs.Transaction.{IsHonest, GoesOn, rows_under}
+use Rattle.std.proofs.Common.{◌≡◌, [], false, string_bytes}
+use Rattle.records.specs.Words.{push_each, IsHonest, GoesOn, rows_under}
 use Rattle.records.proofs.ChildWalk.{children_from, found_in, keys_of}
 use Rattle.records.proofs.children.list_children.Given as goal
 

@@ -1,7 +1,5 @@
 use Rattle.std.proofs.Common.{◌≡◌, ◌==◌, ◌++◌, ◌∷◌, ◌+◌, [], ap, sym, ◌∙◌, length, arith, append_assoc}
-use Rattle.std.specs.List.{position_or_len, before_first}
-use Rattle.std.proofs.lemmas.Str.Pattern.{split_once_first}
-use Rattle.records.specs.Splits.{slash}
+use Rattle.records.specs.Words.{position_or_len, before_first, split_once_first, slash}
 use Rattle.records.proofs.ChildLemmas.{past-whole, past-folder}
 use Rattle.records.proofs.children.past_child.Goals as goal
 

@@ -1,7 +1,5 @@
 use Rattle.std.proofs.Common.{◌≡◌, ◌++◌, ap, ◌∙◌}
-use Rattle.std.proofs.lemmas.Option.{none-some, same_Some}
-use Rattle.std.proofs.lemmas.Result.{IfOk-weaker}
-use Rattle.records.specs.Children.{past}
+use Rattle.records.specs.Words.{none-some, same_Some, IfOk-weaker, past}
 use Rattle.records.proofs.children.past_last.Goals as goal
 
 pub returns-in-None : goal.returns-in-None

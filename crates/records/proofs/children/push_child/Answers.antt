@@ -1,10 +1,7 @@
-use Rattle.std.proofs.Common.{ap, sym, ◌∙◌, drop, length}
-use Rattle.std.specs.Prelude.{map}
-use Rattle.std.proofs.lemmas.Bool.{false_from_ne_true}
-use Rattle.records.specs.Children.{push_each, push_once, child}
+use Rattle.records.specs.Words.{ap, sym, ◌∙◌, drop, length, map, false_from_ne_true, push_each, push_once, child}
+use Rattle.records.specs.Words.{begins_with, begun}
 use Rattle.records.proofs.ChildLemmas.{below_one, below_none}
 use Rattle.records.proofs.children.push_child.Goals as goal
-use Rattle.records.specs.PrefixLaws.{begins_with, begun}
 
 pub returns-in_ok-push_once : goal.returns-in_ok-push_once
 returns-in_ok-push_once c =

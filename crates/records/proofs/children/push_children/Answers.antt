@@ -1,9 +1,5 @@
 use Rattle.std.proofs.Common.{◌≡◌, ◌+◌, ◌∷◌, [], sym, ap, ◌∙◌, drop, map}
-use Rattle.std.proofs.lemmas.List.{drop_all, drop_more}
-use Rattle.broker_types.specs.Text.{Text}
-use Rattle.records.specs.declared.row.Row.{Row}
-use Rattle.records.specs.Kind.{RowKey}
-use Rattle.records.specs.Children.{child, below, push_each}
+use Rattle.records.specs.Words.{drop_all, drop_more, Text, Row, RowKey, child, below, push_each}
 use Rattle.records.proofs.ChildLemmas.{push_more}
 use Rattle.records.proofs.children.push_children.Goals as goal
 

@@ -1,5 +1,5 @@
 use Rattle.std.proofs.Common.{◌≡◌, drop, map}
-use Rattle.records.specs.Children.{child, below, push_each}
+use Rattle.records.specs.Words.{child, below, push_each}
 use Rattle.records.proofs.children.push_children.Given as goal
 
 -- to add the children of the keys that are left leads to the same names

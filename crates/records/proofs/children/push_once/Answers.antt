@@ -1,6 +1,5 @@
-use Rattle.std.proofs.Common.{◌≡◌, ◌-◌, ◌++◌, ◌∷◌, [], true, false, length, ap, sym, ◌∙◌}
-use Rattle.std.specs.Prelude.{if◌then◌else◌, slice_get, string_bytes}
-use Rattle.records.specs.Children.{is_text}
+use Rattle.std.specs.Prelude.{◌≡◌, ◌-◌, ◌++◌, ◌∷◌, if◌then◌else◌, [], true, false, length, slice_get, string_bytes}
+use Rattle.records.specs.Words.{ap, sym, ◌∙◌, is_text}
 use Rattle.records.proofs.children.push_once.Goals as goal
 
 pub returns-then-is_last : goal.returns-then-is_last

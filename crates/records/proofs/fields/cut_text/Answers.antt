@@ -1,5 +1,4 @@
-use Rattle.std.proofs.Common.{arith, sym, subst, ◌∙◌}
-use Rattle.std.specs.Prelude.{IsUtf8}
+use Rattle.records.specs.Words.{arith, sym, subst, ◌∙◌, IsUtf8}
 use Rattle.records.proofs.FieldReads.{cut_short, cut_bad, cut_whole}
 use Rattle.records.proofs.fields.cut_text.Goals as goal
 

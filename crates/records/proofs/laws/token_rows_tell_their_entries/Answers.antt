@@ -1,4 +1,4 @@
-use Rattle.records.specs.RowLaws.{entry_row-injective}
+use Rattle.records.specs.Words.{entry_row-injective}
 use Rattle.records.proofs.laws.token_rows_tell_their_entries.Goals as goal
 
 pub returns : goal.returns

@@ -1,7 +1,4 @@
-use Rattle.records.specs.DigitLaws.{version_of_digits-padded, digits_are}
-use Rattle.records.specs.SecretNameLaws.{name_lacks}
-use Rattle.records.specs.Splits.{line_feed}
-use Rattle.records.specs.SplitLaws.{split-lacking}
+use Rattle.records.specs.Words.{version_of_digits-padded, digits_are, name_lacks, line_feed, split-lacking}
 use Rattle.records.proofs.DigitOrder.{padded_order}
 use Rattle.records.proofs.laws.versions_have_keys.Goals as goal
 

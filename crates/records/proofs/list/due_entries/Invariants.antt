@@ -1,7 +1,5 @@
 use Rattle.std.proofs.Common.{◌≡◌, ◌++◌, drop, filter}
-use Rattle.records.specs.Kind.{RowKey}
-use Rattle.records.specs.DueRows.{is_due}
-use Rattle.records.specs.declared.row.Row.{Row}
+use Rattle.records.specs.Words.{RowKey, is_due, Row}
 use Rattle.records.proofs.list.due_entries.Given as goal
 
 -- what is taken so far and what is to be taken

@@ -1,5 +1,4 @@
-use Rattle.std.proofs.Common.{rules, take, ap, ◌∙◌}
-use Rattle.std.proofs.lemmas.Fn.{filter_same}
+use Rattle.records.specs.Words.{rules, take, ap, ◌∙◌, filter_same}
 use Rattle.records.proofs.list.keep_from.Goals as goal
 
 pub returns : goal.returns

@@ -1,5 +1,4 @@
-use Rattle.std.proofs.Common.{rules}
-use Rattle.std.proofs.lemmas.Fn.{filter_same}
+use Rattle.records.specs.Words.{rules, filter_same}
 use Rattle.records.proofs.list.keep_upto.Goals as goal
 
 pub returns : goal.returns

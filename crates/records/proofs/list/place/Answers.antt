@@ -1,9 +1,5 @@
 use Rattle.std.proofs.Common.{◌≡◌, ◌+◌, ◌∷◌, Greater, arith, false, true, suc, sym, ap, ◌∙◌, drop}
-use Rattle.std.specs.Ordering.{match_ordering}
-use Rattle.std.proofs.lemmas.List.{drop_more}
-use Rattle.records.specs.declared.row.Row.{Row}
-use Rattle.records.specs.Kind.{RowKey, key_cmp}
-use Rattle.records.specs.KeyPlaces.{rank, is_met}
+use Rattle.records.specs.Words.{match_ordering, drop_more, Row, RowKey, key_cmp, rank, is_met}
 use Rattle.records.proofs.list.place.Goals as goal
 
 pub loop-i-preserved : goal.loop-i-preserved

@@ -1,9 +1,4 @@
-use Rattle.std.proofs.Common.{rules}
-use Rattle.std.specs.Ordering.{is_lt}
-use Rattle.std.proofs.lemmas.List.Sorted.{answers_always}
-use Rattle.records.specs.Kind.{RowKey}
-use Rattle.records.specs.DueRows.{due_cmp}
-use Rattle.records.specs.declared.row.Row.{Row}
+use Rattle.records.specs.Words.{rules, is_lt, answers_always, RowKey, due_cmp, Row}
 use Rattle.records.proofs.DueLemmas.{due_total, weak}
 use Rattle.records.proofs.list.sort_by_due.Goals as goal
 

@@ -1,6 +1,5 @@
-use Rattle.std.proofs.Common.{◌≡◌, ◌++◌, drop}
-use Rattle.std.specs.Prelude.{All}
-use Rattle.records.specs.Spelling.{items}
+use Rattle.std.proofs.Common.{◌≡◌, ◌++◌, drop, All}
+use Rattle.records.specs.Words.{items}
 use Rattle.records.proofs.list_field.push_items.Given as goal
 
 -- what is written and what is to be written

@@ -1,5 +1,4 @@
-use Rattle.std.proofs.Common.{arith}
-use Rattle.std.proofs.lemmas.Result.{err_from_is_err_and}
+use Rattle.records.specs.Words.{arith, err_from_is_err_and}
 use Rattle.records.proofs.ListReads.{list_begun, list_uncounted, list_more, list_cut, list_read}
 use Rattle.records.proofs.list_field.read_items.Goals as goal
 

@@ -1,8 +1,5 @@
 use Rattle.std.proofs.Common.{◌≡◌, [], drop, ap, ◌∙◌, arith}
-use Rattle.std.proofs.lemmas.List.{drop_all}
-use Rattle.records.specs.Table.{table_of}
-use Rattle.records.specs.Transaction.{IsHonest}
-use Rattle.records.specs.UnderLaws.{without_listed, table_of-without_under}
+use Rattle.records.specs.Words.{drop_all, table_of, IsHonest, without_listed, table_of-without_under}
 use Rattle.records.proofs.removal.remove_under.Goals as goal
 
 pub returns-clause-rows : goal.returns-clause-rows

@@ -1,6 +1,5 @@
 use Rattle.std.proofs.Common.{◌≡◌, ◌≤◌, false, drop}
-use Rattle.records.specs.Transaction.{IsHonest, GoesOn}
-use Rattle.records.specs.UnderLaws.{without_listed}
+use Rattle.records.specs.Words.{IsHonest, GoesOn, without_listed}
 use Rattle.records.proofs.removal.remove_under.Given as goal
 
 -- to take out what is left leads to the same rows

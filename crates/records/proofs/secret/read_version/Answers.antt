@@ -1,9 +1,5 @@
-use Rattle.std.proofs.Common.{refl, sym, ◌∙◌}
-use Rattle.std.proofs.lemmas.Bool.{eqb-true, false≢true}
-use Rattle.std.proofs.lemmas.List.{nil_from_length}
-use Rattle.std.proofs.lemmas.Result.{err_from_is_err_and}
-use Rattle.records.specs.ConversionLaws.{VersionFields, HasNone, version_converts}
-use Rattle.records.specs.KeyEntry.{secret_in}
+use Rattle.records.specs.Words.{refl, sym, ◌∙◌, eqb-true, false≢true, nil_from_length, err_from_is_err_and}
+use Rattle.records.specs.Words.{VersionFields, HasNone, version_converts, secret_in}
 use Rattle.records.proofs.RowReads.{something_left, reads_record, reads_no_record, narrow_read, narrow_refused}
 use Rattle.records.proofs.RowReads.{narrow_none}
 use Rattle.records.proofs.secret.read_version.Goals.{else-is_destroyed-via-then-is_destroyed+else-not-is_empty}

@@ -1,7 +1,5 @@
-use Rattle.std.proofs.Common.{◌≡◌, drop}
-use Rattle.std.specs.Prelude.{option_map}
-use Rattle.broker_types.specs.Sound.{is_ascending}
-use Rattle.records.specs.Ascending.{ascends_after}
+use Rattle.std.proofs.Common.{◌≡◌, drop, option_map}
+use Rattle.records.specs.Words.{is_ascending, ascends_after}
 use Rattle.records.proofs.token_lists.ascends.Given as goal
 
 -- so far they ascend

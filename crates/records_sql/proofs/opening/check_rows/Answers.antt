@@ -1,8 +1,6 @@
-use Rattle.std.proofs.Common.{None, subst}
-use Rattle.records_sql.specs.Numbered.{AreNumbered}
-use Rattle.std.proofs.lemmas.Result.{on_ok_weaker}
+use Rattle.records.specs.Words.{None, subst, on_ok_weaker, on_ok}
+use Rattle.records_sql.specs.Words.{AreNumbered}
 use Rattle.sqlite.specs.Held.{state}
-use Rattle.records.specs.CallLaws.{on_ok}
 use Rattle.records_sql.proofs.AdoptLemmas.{adopted, unchanged}
 use Rattle.records_sql.proofs.opening.check_rows.Goals as goal
 

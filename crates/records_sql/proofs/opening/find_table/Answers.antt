@@ -1,5 +1,4 @@
-use Rattle.std.proofs.Common.{sym, refl, ◌∙◌}
-use Rattle.std.proofs.lemmas.Result.{on_ok_weaker}
+use Rattle.records.specs.Words.{sym, refl, ◌∙◌, on_ok_weaker}
 use Rattle.sqlite.specs.Held.{state}
 use Rattle.sqlite_rules.proofs.ViewLemmas.{on_ok_both}
 use Rattle.records_sql.proofs.AdoptLemmas.{kept_as_found, made_new}

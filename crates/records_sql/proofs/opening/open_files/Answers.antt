@@ -1,4 +1,4 @@
-use Rattle.std.proofs.Common.{ℕ, Bool, cond, List, ap₂, subst}
+use Rattle.records.specs.Words.{ℕ, Bool, cond, List, ap₂, subst}
 use Rattle.sqlite_disk.specs.Events.{Event, replay}
 use Rattle.sqlite.specs.Recovery.{Image}
 use Rattle.sqlite.specs.Files.{file_state}

@@ -1,4 +1,4 @@
-use Rattle.std.proofs.Common.{refl}
+use Rattle.records.specs.Words.{refl}
 use Rattle.records_sql.proofs.NumberLemmas.{next_numbered}
 use Rattle.records_sql.proofs.reading.check_numbers.Goals as goal
 

@@ -1,5 +1,5 @@
-use Rattle.std.proofs.Common.{None, drop}
-use Rattle.records_sql.specs.Numbered.{AreNumbered}
+use Rattle.records.specs.Words.{None, drop}
+use Rattle.records_sql.specs.Words.{AreNumbered}
 use Rattle.records_sql.proofs.reading.check_numbers.Given as goal
 
 -- what is to be read decides

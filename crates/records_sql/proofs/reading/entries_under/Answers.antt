@@ -1,6 +1,4 @@
-use Rattle.std.proofs.Common.{rules, ap, ◌∙◌, filter, nat_eq}
-use Rattle.std.specs.List.{starts_with}
-use Rattle.std.proofs.lemmas.Fn.{filter_same}
+use Rattle.records.specs.Words.{rules, ap, ◌∙◌, filter, nat_eq, starts_with, filter_same}
 use Rattle.records_sql.proofs.reading.entries_under.Goals as goal
 
 pub returns-clause-entries : goal.returns-clause-entries

@@ -1,5 +1,4 @@
-use Rattle.std.proofs.Common.{sym, ap, ◌∙◌}
-use Rattle.std.specs.Ordering.{is_lt}
+use Rattle.records.specs.Words.{sym, ap, ◌∙◌, is_lt}
 use Rattle.records_sql.proofs.BoundLemmas.{later_second, later_first}
 use Rattle.records_sql.proofs.reading.later.Goals as goal
 

@@ -1,5 +1,4 @@
-use Rattle.std.proofs.Common.{rules}
-use Rattle.std.proofs.lemmas.Fn.{filter_same}
+use Rattle.records.specs.Words.{rules, filter_same}
 use Rattle.records_sql.proofs.row_memory.forget.Goals as goal
 
 pub returns-clause-others : goal.returns-clause-others

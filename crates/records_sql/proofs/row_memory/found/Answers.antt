@@ -1,7 +1,6 @@
 use Rattle.std.proofs.Common.{◌≡◌, Option, sym, subst, ◌∙◌}
-use Rattle.std.specs.FinMap.{get}
-use Rattle.records.specs.declared.row.Row.{Row}
-use Rattle.records.specs.Kind.{RowKey}
+use Rattle.records.specs.Words.{get, RowKey}
+use Rattle.records_sql.specs.Words.{Row}
 use Rattle.records_sql.proofs.AgreeLemmas.{found_at}
 use Rattle.records_sql.proofs.row_memory.found.Goals as goal
 

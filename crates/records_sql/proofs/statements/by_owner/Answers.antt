@@ -1,4 +1,4 @@
-use Rattle.records_sql.specs.Texts.{owner_text, key_params}
+use Rattle.records_sql.specs.Words.{owner_text, key_params}
 use Rattle.records_sql.proofs.StateLemmas.{query_fails, shown_ok}
 use Rattle.records_sql.proofs.GetLemmas.{owner_reads}
 use Rattle.records_sql.proofs.statements.by_owner.Goals as goal

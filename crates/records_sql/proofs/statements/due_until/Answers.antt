@@ -1,4 +1,4 @@
-use Rattle.records_sql.specs.Texts.{due_text, due_params}
+use Rattle.records_sql.specs.Words.{due_text, due_params}
 use Rattle.records_sql.proofs.StateLemmas.{query_fails, shown_ok}
 use Rattle.records_sql.proofs.GetLemmas.{due_reads}
 use Rattle.records_sql.proofs.statements.due_until.Goals as goal

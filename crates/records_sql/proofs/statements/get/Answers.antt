@@ -1,4 +1,4 @@
-use Rattle.records_sql.specs.Texts.{get_text, key_params}
+use Rattle.records_sql.specs.Words.{get_text, key_params}
 use Rattle.records_sql.proofs.StateLemmas.{query_fails, shown_ok}
 use Rattle.records_sql.proofs.GetLemmas.{get_reads, asks}
 use Rattle.records_sql.proofs.statements.get.Goals as goal

@@ -1,5 +1,5 @@
-use Rattle.std.specs.Option.{option_copied}
-use Rattle.records_sql.specs.Texts.{under_text, under_params}
+use Rattle.records.specs.Words.{option_copied}
+use Rattle.records_sql.specs.Words.{under_text, under_params}
 use Rattle.records_sql.proofs.StateLemmas.{query_fails, shown_ok}
 use Rattle.records_sql.proofs.GetLemmas.{under_reads}
 use Rattle.records_sql.proofs.statements.under.Goals as goal

@@ -1,4 +1,4 @@
-use Rattle.records_sql.specs.Texts.{upto_text, upto_params}
+use Rattle.records_sql.specs.Words.{upto_text, upto_params}
 use Rattle.records_sql.proofs.StateLemmas.{query_fails, shown_ok}
 use Rattle.records_sql.proofs.GetLemmas.{upto_reads}
 use Rattle.records_sql.proofs.statements.under_upto.Goals as goal

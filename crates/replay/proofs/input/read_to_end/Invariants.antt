@@ -1,5 +1,5 @@
 use Rattle.std.proofs.Common.{◌≡◌, ◌+◌}
-use Rattle.std.specs.Io.KnownBytes.{Consumes}
+use Rattle.records.specs.Words.{Consumes}
 use Rattle.replay.proofs.input.read_to_end.Given as goal
 
 abbrev pub invariant-loop : goal.invariant-loop

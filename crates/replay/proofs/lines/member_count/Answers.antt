@@ -1,5 +1,4 @@
-use Rattle.std.proofs.Common.{◌∙◌, Option, ap}
-use Rattle.std.specs.Option.{option_map_or}
+use Rattle.records.specs.Words.{◌∙◌, Option, ap, option_map_or}
 use Rattle.serde_json.specs.Data.{Members}
 use Rattle.serde_json.specs.Events.{members_len}
 use Rattle.replay.proofs.LineLemmas.{length-members}

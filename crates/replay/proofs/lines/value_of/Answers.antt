@@ -1,5 +1,5 @@
-use Rattle.std.proofs.Common.{◌∙◌, ap, sym, None, if◌then◌else◌, Bool, false, IsTrue}
-use Rattle.std.proofs.lemmas.Str.{is_utf8-from_IsUtf8}
+use Rattle.std.proofs.Common.{if◌then◌else◌, ◌∙◌, ap, sym, None, Bool, false, IsTrue}
+use Rattle.records.specs.Words.{is_utf8-from_IsUtf8}
 use Rattle.serde_json.specs.Read.{read}
 use Rattle.replay.proofs.LineLemmas.{refused_line}
 use Rattle.replay.proofs.lines.value_of.Goals as goal

@@ -1,6 +1,5 @@
 use Rattle.std.proofs.Common.{◌≡◌, ◌∙◌, true, sym, ap}
-use Rattle.std.specs.Char.{is_ascii_hexdigit}
-use Rattle.std.specs.List.{list_all}
+use Rattle.records.specs.Words.{is_ascii_hexdigit, list_all}
 use Rattle.replay.proofs.LineLemmas.{word_of-digits}
 use Rattle.replay.proofs.lines.word_of.Goals as goal
 

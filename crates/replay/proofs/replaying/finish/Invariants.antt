@@ -1,7 +1,5 @@
-use Rattle.std.proofs.Common.{take}
-use Rattle.std.specs.Io.KnownBytes.{Appends}
-use Rattle.std.specs.List.{concat}
-use Rattle.hub.specs.Runs.{bytes_of}
+use Rattle.records.specs.Words.{take, Appends, concat}
+use Rattle.hub.specs.Words.{bytes_of}
 use Rattle.replay.proofs.replaying.finish.Given as goal
 
 abbrev pub invariant-loop-reply : goal.invariant-loop-reply

@@ -1,4 +1,4 @@
-use Rattle.std.proofs.Common.{Some, refl}
+use Rattle.records.specs.Words.{Some, refl}
 use Rattle.std.proofs.KnownBytes.{Appends-nil}
 use Rattle.broker_sql.specs.HonestLaws.{always_honest}
 use Rattle.replay.specs.Replays.{told}

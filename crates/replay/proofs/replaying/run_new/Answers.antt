@@ -1,7 +1,5 @@
-use Rattle.std.specs.Prelude.{⊤}
-use Rattle.std.proofs.Common.{Some, Err, slice_index, sym, ap, subst, inl, inr}
+use Rattle.records.specs.Words.{⊤, Some, Err, slice_index, sym, ap, subst, inl, inr, first_broker}
 use Rattle.std.proofs.KnownBytes.{Appends-nil}
-use Rattle.broker_types.specs.First.{first_broker}
 use Rattle.replay.specs.Exits.{EndsBy, HasEqualWords}
 use Rattle.replay.specs.Replays.{started, told}
 use Rattle.replay.proofs.ExitLemmas.{ends_by_start, ends_weaker, no_early_end}

@@ -1,9 +1,6 @@
 use Rattle.std.proofs.Common.{◌≡◌, ◌⊎◌, inl, inr, List, ℕ, Vec, Global, refl, subst}
-use Rattle.std.specs.Io.KnownBytes.{Appends}
-use Rattle.std.specs.List.{concat}
-use Rattle.broker_types.specs.Fault.{fault_number}
-use Rattle.hub.specs.World.{Run}
-use Rattle.hub.specs.Runs.{bytes_of}
+use Rattle.records.specs.Words.{Appends, concat, fault_number}
+use Rattle.hub.specs.Words.{Run, bytes_of}
 use Rattle.hub.specs.declared.event.Event.{Event}
 use Rattle.replay.specs.Replays.{IsUnfaulted, StopsRun}
 use Rattle.replay.specs.declared.replaying.Exit.{Exit}

@@ -1,5 +1,4 @@
-use Rattle.std.proofs.Common.{suc, length, option_map}
-use Rattle.std.specs.Option.{option_map_or}
+use Rattle.records.specs.Words.{suc, length, option_map, option_map_or}
 use Rattle.replay.specs.Lines.{lines_left}
 use Rattle.replay.proofs.ScriptLemmas.{ReadSoFar}
 use Rattle.replay.proofs.script.read_script.Given as goal

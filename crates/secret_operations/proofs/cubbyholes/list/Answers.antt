@@ -1,12 +1,7 @@
-use Rattle.std.proofs.Common.{arith, None, Some, Ok, refl, ap, sym, ◌∙◌}
-use Rattle.api_json.specs.Objects.{keys_object}
-use Rattle.api_json.specs.Reply.{plain_reply}
-use Rattle.broker_types.specs.Names.{names_of}
-use Rattle.broker_types.specs.Operation.{reply}
-use Rattle.records.specs.Parts.{of_cubbyholes}
-use Rattle.broker_model.specs.parts.Lists.{are_none}
+use Rattle.broker_model.specs.Words.{arith, None, Some, Ok, refl, ap, sym, ◌∙◌, keys_object, plain_reply, names_of}
+use Rattle.broker_model.specs.Words.{reply, of_cubbyholes, are_none}
 use Rattle.cubbyhole.specs.Cubbyhole as cubbyhole
-use Rattle.broker_rows.specs.RepresentingLaws.{caller_len, still_represented, tells_part}
+use Rattle.broker_rows.specs.Words.{caller_len, still_represented, tells_part}
 use Rattle.secret_operations.proofs.CubbyholeAnswers.{none_by_number, acts_listed, acts_unlisted}
 use Rattle.secret_operations.proofs.cubbyholes.list.Goals as goal
 

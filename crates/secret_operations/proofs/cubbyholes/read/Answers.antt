@@ -1,15 +1,6 @@
-use Rattle.std.proofs.Common.{None, Some, Ok, Err, ap, refl, sym, ◌∙◌}
-use Rattle.std.proofs.lemmas.Result.{err_from_is_err_and}
-use Rattle.api_json.specs.Reply.{plain_reply}
-use Rattle.broker_types.specs.Names.{names_of}
-use Rattle.broker_types.specs.Operation.{reply, plainly}
-use Rattle.broker_types.specs.Text.{Text}
-use Rattle.records.specs.Parts.{of_cubbyholes}
-use Rattle.records.specs.ValueLaws.{none_of}
-use Rattle.cubbyhole.specs.Cubbyhole.{object_at}
-use Rattle.broker_model.specs.Forms.{forms}
-use Rattle.broker_rows.specs.RepresentingLaws.{caller_len, still_represented, tells_part}
-use Rattle.broker_rows.specs.OperatingLaws.{acts_found, acts_absent}
+use Rattle.broker_model.specs.Words.{None, Some, Ok, Err, ap, refl, sym, ◌∙◌, err_from_is_err_and, plain_reply}
+use Rattle.broker_model.specs.Words.{names_of, reply, plainly, Text, of_cubbyholes, none_of, object_at, forms}
+use Rattle.broker_rows.specs.Words.{caller_len, still_represented, tells_part, acts_found, acts_absent}
 use Rattle.secret_operations.proofs.cubbyholes.read.Goals as goal
 
 pub returns-in_err-object-clause-told : goal.returns-in_err-object-clause-told

@@ -1,5 +1,5 @@
-use Rattle.std.proofs.Common.{refl}
-use Rattle.broker_rows.specs.RepresentingLaws.{caller_len, everything, tells_part}
+use Rattle.broker_model.specs.Words.{refl}
+use Rattle.broker_rows.specs.Words.{caller_len, everything, tells_part}
 use Rattle.secret_operations.proofs.CubbyholeAnswers.{represents-write}
 use Rattle.secret_operations.proofs.cubbyholes.write.Goals as goal
 

@@ -1,6 +1,5 @@
 use Rattle.std.proofs.Common.{◌≡◌, Some, true, refl, sym, subst}
-use Rattle.broker_types.specs.Name.{is_mount_name}
-use Rattle.broker_model.specs.parts.Place.{Place}
+use Rattle.broker_model.specs.Words.{is_mount_name, Place}
 use Rattle.secret_operations.proofs.issued.act_on_issued.Goals as goal
 
 pub returns-in-SetRole-clause-told : goal.returns-in-SetRole-clause-told

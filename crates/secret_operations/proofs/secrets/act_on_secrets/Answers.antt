@@ -1,8 +1,6 @@
 use Rattle.std.proofs.Common.{◌≡◌, true, ap, sym, subst}
-use Rattle.broker_types.specs.Name.{is_mount_name}
-use Rattle.broker_types.specs.Path.{is_path}
-use Rattle.broker_model.specs.parts.Place.{Place}
-use Rattle.broker_rows.specs.Context.{Context}
+use Rattle.broker_model.specs.Words.{is_mount_name, is_path, Place}
+use Rattle.broker_rows.specs.Words.{Context}
 use Rattle.secret_operations.specs.Paths.{needs_path}
 use Rattle.secret_operations.proofs.secrets.act_on_secrets.Goals as goal
 

@@ -1,5 +1,5 @@
 use Rattle.std.proofs.Common.{◌≡◌, ◌++◌, ◌∙◌, List, ℕ, ap, append_assoc, codes, decimal, string_bytes, sym, rules}
-use Rattle.broker_types.specs.Time.{time_text}
+use Rattle.records.specs.Words.{time_text}
 use Rattle.server.specs.LogLine.{asked_text}
 use Rattle.server.proofs.log_line.log_line.Goals as goal
 

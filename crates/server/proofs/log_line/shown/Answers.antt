@@ -1,5 +1,5 @@
-use Rattle.std.proofs.Common.{◌≡◌, ◌<◌, [], ◌∷◌, ◌++◌, ◌∙◌, List, ℕ, ap, length, slice_range, sym, arith, rules}
-use Rattle.std.proofs.lemmas.Bool.Decides.{nat_tests}
+use Rattle.std.proofs.Common.{◌≡◌, ◌<◌, ◌∷◌, ◌++◌, [], ◌∙◌, List, ℕ, ap, length, slice_range, sym, arith, rules}
+use Rattle.records.specs.Words.{nat_tests}
 use Rattle.server.specs.LogLine.{shown_segment}
 use Rattle.server.proofs.LogLemmas.{at_other, at_slash}
 use Rattle.server.proofs.log_line.shown.Goals as goal

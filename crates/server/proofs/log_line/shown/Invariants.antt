@@ -1,4 +1,4 @@
-use Rattle.std.proofs.Common.{◌≡◌, ◌≤◌, [], ◌++◌, drop, slice_range}
+use Rattle.std.proofs.Common.{◌≡◌, ◌≤◌, ◌++◌, [], drop, slice_range}
 use Rattle.server.specs.LogLine.{shown_path}
 use Rattle.server.proofs.log_line.shown.Given as goal
 

@@ -1,5 +1,5 @@
-use Rattle.std.proofs.Common.{Ok}
-use Rattle.hub.specs.SuppliesLaws.{Supplies-nil}
+use Rattle.records.specs.Words.{Ok}
+use Rattle.hub.specs.Words.{Supplies-nil}
 use Rattle.server.proofs.ServingLemmas.{lawful, leaves_none, seen_all, seen_below}
 use Rattle.server.proofs.serving.serve.Goals as goal
 

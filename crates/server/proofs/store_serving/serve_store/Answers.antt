@@ -1,9 +1,7 @@
 use Rattle.std.proofs.Common.{◌≡◌, ◌∙◌, Err, IsTrue, None, ap, sym, subst}
-use Rattle.std.proofs.lemmas.Result.{err_from_is_err_and}
-use Rattle.broker_types.specs.declared.fault.Fault.TheVariants.{Memory, Storage}
-use Rattle.records.specs.Kept.{Kept}
-use Rattle.broker_rows.specs.Representing.{Represents}
-use Rattle.hub.specs.World.{new_world}
+use Rattle.records.specs.Words.{err_from_is_err_and, Memory, Storage, Kept}
+use Rattle.broker_rows.specs.Words.{Represents}
+use Rattle.hub.specs.Words.{new_world}
 use Rattle.server.specs.Noting.{store_of}
 use Rattle.server.proofs.store_serving.serve_store.Goals as goal
 

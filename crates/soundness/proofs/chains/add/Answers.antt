@@ -1,10 +1,6 @@
-use Rattle.std.proofs.Common.{◌++◌, ◌∷◌, [], refl, sym, ◌∙◌, ap, subst, inr}
-use Rattle.std.specs.Prelude.{All}
-use Rattle.std.proofs.lemmas.List.Elements.{All-push}
-use Rattle.std.proofs.lemmas.Option.{MatchOption-at_none}
-use Rattle.broker_types.specs.Identifier.{id}
-use Rattle.soundness.specs.SoundRows.{Ends}
-use Rattle.soundness.specs.Visiting.{IsAbove}
+use Rattle.std.proofs.Common.{◌++◌, ◌∷◌, [], refl, sym, ◌∙◌, ap, subst, inr, All}
+use Rattle.broker_model.specs.Words.{All-push, MatchOption-at_none, id}
+use Rattle.soundness.specs.Words.{Ends, IsAbove}
 use Rattle.soundness.proofs.ChainLemmas.{each_ends_more}
 use Rattle.soundness.proofs.RootedLemmas.{token_there, adds_token}
 use Rattle.soundness.proofs.chains.add.Goals as goal

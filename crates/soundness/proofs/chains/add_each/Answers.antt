@@ -1,9 +1,5 @@
-use Rattle.std.proofs.Common.{ℕ, sym, subst, ap, ◌∙◌, get_or, below_more}
-use Rattle.std.proofs.lemmas.List.{get_or_default}
-use Rattle.records.specs.declared.row.Row.{Row}
-use Rattle.records.specs.Kind.{RowKey}
-use Rattle.soundness.specs.Chains.{HasWordOf}
-use Rattle.soundness.specs.SoundRows.{Ends}
+use Rattle.broker_model.specs.Words.{ℕ, sym, subst, ap, ◌∙◌, get_or, below_more, get_or_default, Row, RowKey}
+use Rattle.soundness.specs.Words.{HasWordOf, Ends}
 use Rattle.soundness.proofs.RootedLemmas.{adds_further}
 use Rattle.soundness.proofs.chains.add_each.Goals as goal
 

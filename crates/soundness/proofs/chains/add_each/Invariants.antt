@@ -1,11 +1,6 @@
-use Rattle.std.proofs.Common.{ℕ, ◌<◌, get_or}
-use Rattle.std.specs.Prelude.{All}
-use Rattle.records.specs.declared.row.Row.{Row}
-use Rattle.records.specs.Kind.{RowKey}
-use Rattle.records.specs.Table.{Table}
-use Rattle.soundness.specs.Chains.{HasWordOf, OnlyAdds}
-use Rattle.soundness.specs.SoundRows.{Ends}
-use Rattle.soundness.specs.Visiting.{EachEnds, IsAbove}
+use Rattle.std.proofs.Common.{◌<◌, ℕ, get_or, All}
+use Rattle.broker_model.specs.Words.{Row, RowKey, Table}
+use Rattle.soundness.specs.Words.{HasWordOf, OnlyAdds, Ends, EachEnds, IsAbove}
 use Rattle.soundness.proofs.chains.add_each.Given as goal
 
 -- chains end as before

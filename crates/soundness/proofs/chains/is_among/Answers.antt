@@ -1,4 +1,4 @@
-use Rattle.std.proofs.lemmas.Option.{MatchOption-at_none}
+use Rattle.broker_model.specs.Words.{MatchOption-at_none}
 use Rattle.soundness.proofs.RootedLemmas.{token_of_root}
 use Rattle.soundness.proofs.chains.is_among.Goals as goal
 

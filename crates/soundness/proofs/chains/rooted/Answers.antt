@@ -1,17 +1,8 @@
-use Rattle.std.proofs.Common.{rules, ◌<◌, ◌++◌, ◌∷◌, [], length, get_or, sym, ◌∙◌, subst, refl, arith, inl}
-use Rattle.std.specs.Prelude.{All, Contains}
-use Rattle.std.proofs.lemmas.List.Elements.{All-push, All-nil, Contains-push}
-use Rattle.std.proofs.lemmas.List.{get_or_default}
-use Rattle.broker_types.specs.Text.{Text}
+use Rattle.std.proofs.Common.{◌<◌, ◌++◌, ◌∷◌, rules, [], length, get_or, sym, ◌∙◌, subst, refl, arith, inl, All}
+use Rattle.broker_model.specs.Words.{Contains, All-push, All-nil, Contains-push, get_or_default, Text, Row}
+use Rattle.broker_model.specs.Words.{honest_before, RowKey, table_of, IsHonest, rows_owned}
 use Rattle.records.specs.declared.kind.Kind.TheVariants as kind
-use Rattle.records.specs.declared.row.Row.{Row}
-use Rattle.records.specs.CallLaws.{honest_before}
-use Rattle.records.specs.Kind.{RowKey}
-use Rattle.records.specs.Table.{table_of}
-use Rattle.records.specs.Transaction.{IsHonest, rows_owned}
-use Rattle.soundness.specs.Chains.{HasWordOf}
-use Rattle.soundness.specs.SoundRows.{Ends}
-use Rattle.soundness.specs.Visiting.{IsAbove}
+use Rattle.soundness.specs.Words.{HasWordOf, Ends, IsAbove}
 use Rattle.soundness.proofs.ChainLemmas.{children_end, none_ends}
 use Rattle.soundness.proofs.RootedLemmas.{each_found, none_queued, one_more_done, still_queued}
 use Rattle.soundness.proofs.chains.rooted.Goals as goal

@@ -1,9 +1,6 @@
-use Rattle.std.proofs.Common.{◌≡◌, ◌-◌, ◌^◌, false}
-use Rattle.std.specs.Prelude.{[], All, Contains}
-use Rattle.records.specs.Table.{table_of}
-use Rattle.records.specs.Transaction.{IsHonest, GoesOn}
-use Rattle.soundness.specs.Chains.{AreQueued}
-use Rattle.soundness.specs.Visiting.{EachEnds, IsAbove}
+use Rattle.std.proofs.Common.{◌≡◌, ◌-◌, ◌^◌, false, [], All, Contains}
+use Rattle.broker_model.specs.Words.{table_of, IsHonest, GoesOn}
+use Rattle.soundness.specs.Words.{AreQueued, EachEnds, IsAbove}
 use Rattle.soundness.proofs.RootedLemmas.{AreDone}
 use Rattle.soundness.proofs.chains.rooted.Given as goal
 

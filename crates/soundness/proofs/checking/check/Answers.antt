@@ -1,4 +1,4 @@
-use Rattle.records.specs.CallLaws.{honest_before}
+use Rattle.broker_model.specs.Words.{honest_before}
 use Rattle.soundness.proofs.AnswerLemmas.{from_true}
 use Rattle.soundness.proofs.WalkLemmas.{checked}
 use Rattle.soundness.proofs.checking.check.Goals as goal

@@ -1,7 +1,5 @@
-use Rattle.std.proofs.Common.{sym, ◌∙◌, subst}
-use Rattle.soundness.specs.RowRules.{IsCredentialOf}
-use Rattle.records.specs.Table.{table_of}
-use Rattle.broker_types.specs.Text.{Text}
+use Rattle.broker_model.specs.Words.{sym, ◌∙◌, subst, table_of, Text}
+use Rattle.soundness.specs.Words.{IsCredentialOf}
 use Rattle.soundness.proofs.ReadLemmas.{credential_unread, credential_of_owner, fails, is_error}
 use Rattle.soundness.proofs.credentials.credential.Goals as goal
 

@@ -1,14 +1,9 @@
 use Rattle.std.proofs.Common.{◌≡◌, ◌<◌, ◌≤◌, None, not, refl, sym, ap, ◌∙◌, subst}
-use Rattle.broker_types.specs.Text.{Text}
-use Rattle.broker_types.specs.Token.{Lease}
-use Rattle.records.specs.CallLaws.{honest_before}
-use Rattle.records.specs.Table.{table_of}
+use Rattle.broker_model.specs.Words.{Text, Lease, honest_before, table_of, MatchOption-at_none, err_from_is_err_and}
 use Rattle.soundness.proofs.AnswerLemmas.{from_true}
 use Rattle.soundness.proofs.TextLemmas.{id_of}
-use Rattle.std.proofs.lemmas.Option.{MatchOption-at_none}
 use Rattle.soundness.proofs.ReadLemmas.{lease_unread, fails, absent, above}
 use Rattle.records.specs.declared.kind.Kind.TheVariants as kind
-use Rattle.std.proofs.lemmas.Result.{err_from_is_err_and}
 use Rattle.soundness.proofs.Readings.{read_both, read_fails}
 use Rattle.soundness.proofs.credentials.lease.Goals as goal
 

@@ -1,5 +1,4 @@
-use Rattle.std.proofs.Common.{sym, ◌∙◌}
-use Rattle.std.proofs.lemmas.Option.{none-some, same_Some, MatchOption-at_none}
+use Rattle.broker_model.specs.Words.{sym, ◌∙◌, none-some, same_Some, MatchOption-at_none}
 use Rattle.soundness.proofs.lookups.current_version.Goals as goal
 
 pub returns-in_default-clause-whole : goal.returns-in_default-clause-whole

@@ -1,11 +1,7 @@
-use Rattle.std.proofs.Common.{Some, sym, ◌∙◌, ap, ◌≡◌, refl}
-use Rattle.broker_types.specs.TextLaws.{same_true}
-use Rattle.records.specs.RowForms.{accessor_row}
+use Rattle.std.proofs.Common.{◌≡◌, Some, sym, ◌∙◌, ap, refl}
+use Rattle.broker_model.specs.Words.{same_true, accessor_row, false≢true, none-some, same_Some, Row}
 use Rattle.soundness.proofs.AnswerLemmas.{on_true, from_true}
-use Rattle.std.proofs.lemmas.Bool.{false≢true}
-use Rattle.std.proofs.lemmas.Option.{none-some, same_Some}
-use Rattle.records.specs.declared.row.Row.{Row}
-use Rattle.soundness.specs.RowRules.{Named}
+use Rattle.soundness.specs.Words.{Named}
 use Rattle.soundness.proofs.BrokenLemmas.{named_one}
 use Rattle.soundness.proofs.ReadLemmas.{accessor_unread, same_of}
 use Rattle.soundness.proofs.lookups.is_named.Goals as goal

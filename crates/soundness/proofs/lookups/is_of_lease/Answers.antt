@@ -1,9 +1,6 @@
-use Rattle.std.proofs.Common.{Some, sym, ◌∙◌, ap, ◌≡◌, refl}
-use Rattle.broker_types.specs.TextLaws.{same_true}
-use Rattle.records.specs.RowForms.{credential_row}
+use Rattle.std.proofs.Common.{◌≡◌, Some, sym, ◌∙◌, ap, refl}
+use Rattle.broker_model.specs.Words.{same_true, credential_row, none-some, same_Some, Row}
 use Rattle.soundness.proofs.AnswerLemmas.{on_true}
-use Rattle.std.proofs.lemmas.Option.{none-some, same_Some}
-use Rattle.records.specs.declared.row.Row.{Row}
 use Rattle.soundness.proofs.ReadLemmas.{credential_unread, same_of}
 use Rattle.soundness.proofs.lookups.is_of_lease.Goals as goal
 

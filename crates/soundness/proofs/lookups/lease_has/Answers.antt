@@ -1,9 +1,6 @@
-use Rattle.std.proofs.Common.{Some, sym, ◌∙◌, ap, refl}
-use Rattle.broker_types.specs.TextLaws.{same_true}
-use Rattle.broker_types.specs.Token.{Lease}
+use Rattle.broker_model.specs.Words.{Some, sym, ◌∙◌, ap, refl, same_true, Lease, none-some, same_Some}
+use Rattle.broker_model.specs.Words.{lease_row-injective}
 use Rattle.soundness.proofs.AnswerLemmas.{on_true}
-use Rattle.std.proofs.lemmas.Option.{none-some, same_Some}
-use Rattle.records.specs.RowLaws.{lease_row-injective}
 use Rattle.soundness.proofs.ReadLemmas.{lease_unread, same_of}
 use Rattle.soundness.proofs.lookups.lease_has.Goals as goal
 

@@ -1,11 +1,7 @@
-use Rattle.std.proofs.Common.{Some, sym, ◌∙◌, ap, ◌≡◌, refl}
-use Rattle.broker_types.specs.TextLaws.{same_true}
-use Rattle.broker_types.specs.Broker.{Waiting}
+use Rattle.std.proofs.Common.{◌≡◌, Some, sym, ◌∙◌, ap, refl}
+use Rattle.broker_model.specs.Words.{same_true, Waiting, none-some, same_Some, IsWaitingInRange, waiting_row}
+use Rattle.broker_model.specs.Words.{waiting_row-injective}
 use Rattle.soundness.proofs.AnswerLemmas.{on_true}
-use Rattle.std.proofs.lemmas.Option.{none-some, same_Some}
-use Rattle.records.specs.Ranges.{IsWaitingInRange}
-use Rattle.records.specs.RowForms.{waiting_row}
-use Rattle.records.specs.RowLaws.{waiting_row-injective}
 use Rattle.soundness.proofs.ReadLemmas.{unread, same_of}
 use Rattle.soundness.proofs.lookups.response_has.Goals as goal
 

@@ -1,10 +1,6 @@
 use Rattle.std.proofs.Common.{◌≡◌, Some, sym, ◌∙◌, ap}
-use Rattle.std.proofs.lemmas.Option.{MatchOption-at_some, none-some, same_Some, MatchOption-at_none}
-use Rattle.broker_types.specs.TextLaws.{same_true}
-use Rattle.records.specs.Ranges.{IsTokenInRange}
-use Rattle.records.specs.RowForms.{entry_row}
-use Rattle.records.specs.RowLaws.{entry_row-injective}
-use Rattle.records.specs.TokenEntry.{TokenEntry}
+use Rattle.broker_model.specs.Words.{MatchOption-at_some, none-some, same_Some, MatchOption-at_none, same_true}
+use Rattle.broker_model.specs.Words.{IsTokenInRange, entry_row, entry_row-injective, TokenEntry}
 use Rattle.soundness.proofs.AnswerLemmas.{on_true}
 use Rattle.soundness.proofs.ReadLemmas.{same_of}
 use Rattle.soundness.proofs.lookups.token_has.Goals as goal

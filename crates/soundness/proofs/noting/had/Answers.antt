@@ -1,6 +1,6 @@
 use Rattle.std.proofs.Common.{◌≡◌, sym, ◌∙◌}
-use Rattle.broker_types.specs.Identifier.{id}
-use Rattle.soundness.specs.Visiting.{noted}
+use Rattle.broker_model.specs.Words.{id}
+use Rattle.soundness.specs.Words.{noted}
 use Rattle.soundness.proofs.NotingLemmas.{adds_as}
 use Rattle.soundness.proofs.noting.had.Goals as goal
 

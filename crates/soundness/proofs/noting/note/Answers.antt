@@ -1,7 +1,5 @@
-use Rattle.std.proofs.Common.{ap, ◌∙◌, cond, Some}
-use Rattle.std.specs.Ordering.{nat_cmp, is_eq}
-use Rattle.broker_types.specs.Text.{Text}
-use Rattle.soundness.specs.Visiting.{noted}
+use Rattle.broker_model.specs.Words.{ap, ◌∙◌, cond, Some, nat_cmp, is_eq, Text}
+use Rattle.soundness.specs.Words.{noted}
 use Rattle.soundness.proofs.NotingLemmas.{note_adds}
 use Rattle.soundness.proofs.noting.note.Goals as goal
 

@@ -1,9 +1,6 @@
-use Rattle.std.proofs.Common.{subst, sym}
-use Rattle.records.specs.declared.kind.Kind.{Kind}
+use Rattle.broker_model.specs.Words.{subst, sym, Kind}
 use Rattle.records.specs.declared.kind.Kind.TheVariants as kind
-use Rattle.soundness.specs.Broken.{HasIdentifier}
-use Rattle.soundness.specs.Notes.{AddsOnly}
-use Rattle.soundness.specs.Visiting.{Finds, noted}
+use Rattle.soundness.specs.Words.{HasIdentifier, AddsOnly, Finds, noted}
 use Rattle.soundness.proofs.NotingLemmas.{adds_of_kind}
 use Rattle.soundness.proofs.noting.note_identifier.Goals as goal
 

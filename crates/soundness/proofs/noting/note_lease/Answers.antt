@@ -1,10 +1,7 @@
 use Rattle.std.proofs.Common.{◌≡◌, ◌∙◌, sym, subst}
-use Rattle.broker_types.specs.IdentifierPlaces.{lease_identifier}
-use Rattle.broker_types.specs.Sound.{IsIdentifier, IsLeaseId}
+use Rattle.broker_model.specs.Words.{lease_identifier, IsIdentifier, IsLeaseId, table}
 use Rattle.records.specs.declared.kind.Kind.TheVariants as kind
-use Rattle.records.specs.Table.{table}
-use Rattle.soundness.specs.Notes.{StopsNoting}
-use Rattle.soundness.specs.Visiting.{noted}
+use Rattle.soundness.specs.Words.{StopsNoting, noted}
 use Rattle.soundness.proofs.NotingLemmas.{adds_as, finds_as, lease_identified, shows_as, stops_as}
 use Rattle.soundness.proofs.noting.note_lease.Goals as goal
 

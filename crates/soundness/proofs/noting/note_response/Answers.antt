@@ -1,10 +1,6 @@
-use Rattle.std.proofs.Common.{subst}
-use Rattle.broker_types.specs.Broker.{Waiting}
-use Rattle.broker_types.specs.OptionLaws.{of_none}
-use Rattle.records.specs.Table.{table_of}
+use Rattle.broker_model.specs.Words.{subst, Waiting, of_none, table_of}
 use Rattle.records.specs.declared.kind.Kind.TheVariants as kind
-use Rattle.soundness.specs.SoundRows.{IsHad}
-use Rattle.soundness.specs.Visiting.{noted}
+use Rattle.soundness.specs.Words.{IsHad, noted}
 use Rattle.soundness.proofs.noting.note_response.Goals as goal
 
 pub returns-in-None-clause-had : goal.returns-in-None-clause-had

@@ -1,6 +1,6 @@
 use Rattle.std.proofs.Common.{◌≡◌, ◌∙◌, ap}
-use Rattle.broker_types.specs.TokenText.{token_text}
-use Rattle.soundness.specs.Visiting.{noted}
+use Rattle.broker_model.specs.Words.{token_text}
+use Rattle.soundness.specs.Words.{noted}
 use Rattle.soundness.proofs.NotingLemmas.{adds_as, finds_as}
 use Rattle.soundness.proofs.noting.note_token.Goals as goal
 

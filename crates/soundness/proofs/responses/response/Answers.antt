@@ -1,9 +1,5 @@
 use Rattle.std.proofs.Common.{◌≡◌, refl, sym, ◌∙◌, ap, subst, arith}
-use Rattle.broker_types.specs.Broker.{Waiting}
-use Rattle.broker_types.specs.Sound.{IsPathText}
-use Rattle.records.specs.Ranges.{IsWaitingInRange}
-use Rattle.records.specs.RowForms.{waiting_row}
-use Rattle.records.specs.Table.{table_of}
+use Rattle.broker_model.specs.Words.{Waiting, IsPathText, IsWaitingInRange, waiting_row, table_of}
 use Rattle.soundness.proofs.ReadLemmas.{unread, fails}
 use Rattle.records.specs.declared.kind.Kind.TheVariants as kind
 use Rattle.soundness.proofs.responses.response.Goals as goal

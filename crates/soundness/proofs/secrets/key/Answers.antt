@@ -1,10 +1,7 @@
 use Rattle.std.proofs.Common.{◌≡◌, true, sym, ap, ◌∙◌}
-use Rattle.std.proofs.lemmas.Bool.{false≢true}
-use Rattle.std.proofs.lemmas.Option.{MatchOption-at_some, MatchOption-at_none}
-use Rattle.records.specs.KeyEntry.{KeyEntry}
-use Rattle.records.specs.Ranges.{IsKeyInRange}
-use Rattle.records.specs.RowForms.{key_entry_row}
-use Rattle.soundness.specs.Texts.{are_fit}
+use Rattle.broker_model.specs.Words.{false≢true, MatchOption-at_some, MatchOption-at_none, KeyEntry, IsKeyInRange}
+use Rattle.broker_model.specs.Words.{key_entry_row}
+use Rattle.soundness.specs.Words.{are_fit}
 use Rattle.soundness.proofs.AnswerLemmas.{from_true, fit_metadata}
 use Rattle.soundness.proofs.ReadLemmas.{fails}
 use Rattle.soundness.proofs.secrets.key.Goals as goal

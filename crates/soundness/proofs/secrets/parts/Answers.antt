@@ -1,8 +1,5 @@
 use Rattle.std.proofs.Common.{◌≡◌, sym, ◌∙◌, arith}
-use Rattle.std.proofs.lemmas.Bool.{false≢true}
-use Rattle.std.proofs.lemmas.Slice.Eq.{bytes_eq-Decides}
-use Rattle.records.specs.Rows.{version_key}
-use Rattle.records.specs.DigitLaws.{padded_read}
+use Rattle.broker_model.specs.Words.{false≢true, bytes_eq-Decides, version_key, padded_read}
 use Rattle.soundness.proofs.ReadLemmas.{ok_err}
 use Rattle.soundness.proofs.VersionLemmas.{no_version, version_halves, half_lacks}
 use Rattle.soundness.proofs.secrets.parts.Goals as goal

@@ -1,13 +1,8 @@
-use Rattle.std.proofs.Common.{refl, sym, ◌≡◌, ◌≤◌, ℕ, Some, Bor, ap, ◌∙◌, subst}
-use Rattle.std.proofs.lemmas.Option.{MatchOption-at_some, MatchOption-at_none}
-use Rattle.broker_types.specs.Secret.{Version}
-use Rattle.broker_types.specs.Text.{Text}
+use Rattle.std.proofs.Common.{◌≡◌, ◌≤◌, refl, sym, ℕ, Some, Bor, ap, ◌∙◌, subst}
+use Rattle.broker_model.specs.Words.{MatchOption-at_some, MatchOption-at_none, Version, Text, KeyEntry, IsKeyInRange}
+use Rattle.broker_model.specs.Words.{IsVersionInRange, key_entry_row, version_row, table_of}
 use Rattle.records.specs.declared.kind.Kind.TheVariants as kind
-use Rattle.records.specs.KeyEntry.{KeyEntry}
-use Rattle.records.specs.Ranges.{IsKeyInRange, IsVersionInRange}
-use Rattle.records.specs.RowForms.{key_entry_row, version_row}
-use Rattle.records.specs.Table.{table_of}
-use Rattle.soundness.specs.Broken.{IsVersionKey}
+use Rattle.soundness.specs.Words.{IsVersionKey}
 use Rattle.soundness.proofs.AnswerLemmas.{from_true, positive}
 use Rattle.soundness.proofs.ReadLemmas.{unread, fails}
 use Rattle.soundness.proofs.secrets.version.Goals as goal

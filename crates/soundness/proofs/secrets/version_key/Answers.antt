@@ -1,5 +1,5 @@
 use Rattle.std.proofs.Common.{◌+◌, ◌-◌, ◌++◌, replicate, ap, ◌∙◌}
-use Rattle.records.specs.DigitLaws.{zeros_more}
+use Rattle.broker_model.specs.Words.{zeros_more}
 use Rattle.soundness.proofs.secrets.version_key.Goals as goal
 
 pub loop-place-preserved : goal.loop-place-preserved

@@ -1,6 +1,4 @@
-use Rattle.std.proofs.Common.{refl}
-use Rattle.broker_types.specs.Sound.{IsMoment}
-use Rattle.records.specs.RowForms.{clock_row}
+use Rattle.broker_model.specs.Words.{refl, IsMoment, clock_row}
 use Rattle.soundness.proofs.ReadLemmas.{unread}
 use Rattle.soundness.proofs.settings.clock.Goals as goal
 

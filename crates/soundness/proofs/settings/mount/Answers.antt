@@ -1,7 +1,4 @@
-use Rattle.std.proofs.Common.{refl, sym, ◌∙◌}
-use Rattle.std.proofs.lemmas.Bool.{false≢true}
-use Rattle.records.specs.Ranges.{IsMountInRange}
-use Rattle.records.specs.RowForms.{mount_row}
+use Rattle.broker_model.specs.Words.{refl, sym, ◌∙◌, false≢true, IsMountInRange, mount_row}
 use Rattle.soundness.proofs.ReadLemmas.{unread}
 use Rattle.soundness.proofs.settings.mount.Goals as goal
 

@@ -1,6 +1,4 @@
-use Rattle.std.proofs.Common.{refl}
-use Rattle.broker_types.specs.Sound.{IsShortText}
-use Rattle.records.specs.RowForms.{policy_row}
+use Rattle.broker_model.specs.Words.{refl, IsShortText, policy_row}
 use Rattle.soundness.proofs.ReadLemmas.{unread, fails}
 use Rattle.soundness.proofs.settings.policy.Goals as goal
 

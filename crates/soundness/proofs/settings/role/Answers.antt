@@ -1,6 +1,4 @@
-use Rattle.std.proofs.Common.{refl}
-use Rattle.records.specs.Ranges.{IsRoleInRange}
-use Rattle.records.specs.RowForms.{role_row}
+use Rattle.broker_model.specs.Words.{refl, IsRoleInRange, role_row}
 use Rattle.soundness.proofs.ReadLemmas.{unread, fails}
 use Rattle.soundness.proofs.settings.role.Goals as goal
 

@@ -1,7 +1,5 @@
 use Rattle.soundness.proofs.AnswerLemmas.{from_true}
-use Rattle.std.proofs.Common.{refl}
-use Rattle.std.specs.Prelude.{⊤}
-use Rattle.records.specs.RowForms.{used_row}
+use Rattle.broker_model.specs.Words.{refl, ⊤, used_row}
 use Rattle.soundness.proofs.ReadLemmas.{unread, fails}
 use Rattle.soundness.proofs.settings.used.Goals as goal
 

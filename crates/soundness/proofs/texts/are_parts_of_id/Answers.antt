@@ -1,4 +1,4 @@
-use Rattle.std.proofs.Common.{sym, ◌∙◌}
+use Rattle.broker_model.specs.Words.{sym, ◌∙◌}
 use Rattle.soundness.proofs.AnswerLemmas.{on_true, from_true}
 use Rattle.soundness.proofs.texts.are_parts_of_id.Goals as goal
 

@@ -1,4 +1,4 @@
-use Rattle.std.proofs.Common.{arith}
+use Rattle.broker_model.specs.Words.{arith}
 use Rattle.soundness.proofs.TextLemmas.{cut_result, cut_exact}
 use Rattle.soundness.proofs.texts.cut.Goals as goal
 

@@ -1,5 +1,5 @@
 use Rattle.soundness.proofs.TextLemmas.{identified}
-use Rattle.std.proofs.lemmas.Option.{MatchOption-at_none}
+use Rattle.broker_model.specs.Words.{MatchOption-at_none}
 use Rattle.soundness.proofs.texts.is_identifier.Goals as goal
 
 pub returns-in-Some-clause-sound : goal.returns-in-Some-clause-sound

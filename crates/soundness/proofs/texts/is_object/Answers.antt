@@ -1,15 +1,9 @@
-use Rattle.std.proofs.Common.{sym, ◌∙◌, ap}
-use Rattle.std.specs.Prelude.{option_map, is_some}
-use Rattle.broker_types.specs.Text.{same}
-use Rattle.api_json.specs.Json.{tree}
-use Rattle.api_json.specs.Parsed.{data_of}
+use Rattle.broker_model.specs.Words.{sym, ◌∙◌, ap, option_map, is_some, same, tree, data_of, false≢true, none-some}
+use Rattle.broker_model.specs.Words.{same_Some, is_utf8-from_IsUtf8}
 use Rattle.soundness.proofs.AnswerLemmas.{on_true}
 use Rattle.soundness.proofs.TextLemmas.{printed_object}
-use Rattle.std.proofs.lemmas.Bool.{false≢true}
-use Rattle.std.proofs.lemmas.Option.{none-some, same_Some}
 use Rattle.serde_json.specs.Find.{as_object}
 use Rattle.serde_json.specs.Written.{compact_text}
-use Rattle.std.proofs.lemmas.Str.{is_utf8-from_IsUtf8}
 use Rattle.soundness.proofs.TextWhole.{object_read}
 use Rattle.soundness.proofs.texts.is_object.Goals as goal
 

@@ -1,7 +1,4 @@
-use Rattle.std.proofs.Common.{sym, ◌∙◌, ap}
-use Rattle.std.proofs.lemmas.Bool.{false≢true}
-use Rattle.std.proofs.lemmas.Slice.Eq.{bytes_eq-Decides}
-use Rattle.broker_types.specs.Path.{is_path}
+use Rattle.broker_model.specs.Words.{sym, ◌∙◌, ap, false≢true, bytes_eq-Decides, is_path}
 use Rattle.soundness.proofs.TextWhole.{path_whole}
 use Rattle.soundness.proofs.texts.is_path.Goals as goal
 

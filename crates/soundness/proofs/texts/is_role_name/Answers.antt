@@ -1,9 +1,6 @@
-use Rattle.std.proofs.Common.{sym, ◌∙◌, ap}
+use Rattle.broker_model.specs.Words.{sym, ◌∙◌, ap, is_name, is_mount_name, false≢true, mount_no_slash}
 use Rattle.soundness.proofs.AnswerLemmas.{on_true}
 use Rattle.soundness.proofs.TextLemmas.{name_parts}
-use Rattle.broker_types.specs.Name.{is_name, is_mount_name}
-use Rattle.std.proofs.lemmas.Bool.{false≢true}
-use Rattle.records.specs.SecretNameLaws.{mount_no_slash}
 use Rattle.soundness.proofs.TextWhole.{cut_somewhere, cut_there, role_parts}
 use Rattle.soundness.proofs.texts.is_role_name.Goals as goal
 

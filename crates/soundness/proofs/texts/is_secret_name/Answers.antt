@@ -1,10 +1,6 @@
-use Rattle.std.proofs.Common.{sym, ◌∙◌, ap, subst}
+use Rattle.broker_model.specs.Words.{sym, ◌∙◌, ap, subst, is_mount_name, IsPathText, false≢true, mount_no_slash}
 use Rattle.soundness.proofs.AnswerLemmas.{on_true, from_true}
 use Rattle.soundness.proofs.TextLemmas.{name_parts}
-use Rattle.broker_types.specs.Name.{is_mount_name}
-use Rattle.broker_types.specs.Sound.{IsPathText}
-use Rattle.std.proofs.lemmas.Bool.{false≢true}
-use Rattle.records.specs.SecretNameLaws.{mount_no_slash}
 use Rattle.soundness.proofs.TextWhole.{cut_somewhere, cut_there, secret_parts}
 use Rattle.soundness.proofs.texts.is_secret_name.Goals as goal
 

@@ -1,8 +1,5 @@
-use Rattle.std.proofs.Common.{◌≡◌, sym, ◌∙◌, ap}
-use Rattle.std.specs.Prelude.{◌++◌, ◌∷◌, codes, drop}
-use Rattle.std.proofs.Math.Seq.{drop-append-add}
-use Rattle.records.specs.Splits.{slash, split_once}
-use Rattle.records.specs.SplitLaws.{split-lacking}
+use Rattle.std.proofs.Common.{◌≡◌, ◌++◌, ◌∷◌, sym, ◌∙◌, ap, codes, drop}
+use Rattle.broker_model.specs.Words.{drop-append-add, slash, split_once, split-lacking}
 use Rattle.soundness.proofs.texts.issued.Goals as goal
 
 pub returns-clause-whole : goal.returns-clause-whole

@@ -1,12 +1,8 @@
+use Rattle.std.proofs.Common.{◌≡◌, sym, ◌∙◌, ap, subst}
 use Rattle.soundness.proofs.AnswerLemmas.{from_true}
 use Rattle.soundness.proofs.TextLemmas.{parts_of, issued_parts, lease_id_of}
-use Rattle.std.proofs.Common.{◌≡◌, sym, ◌∙◌, ap, subst}
-use Rattle.std.proofs.lemmas.Bool.{false≢true}
-use Rattle.std.proofs.lemmas.Option.{none-some, same_Some}
-use Rattle.records.specs.SecretNameLaws.{name_no_slash, mount_no_slash}
-use Rattle.broker_types.specs.Name.{is_name, is_mount_name}
-use Rattle.broker_types.specs.Sound.{IsIdentifier}
-use Rattle.broker_types.specs.Text.{Text}
+use Rattle.broker_model.specs.Words.{false≢true, none-some, same_Some, name_no_slash, mount_no_slash, is_name}
+use Rattle.broker_model.specs.Words.{is_mount_name, IsIdentifier, Text}
 use Rattle.soundness.proofs.TextWhole.{cut_somewhere, cut_there, lease_parts}
 use Rattle.soundness.proofs.texts.lease_identifier.Goals as goal
 

@@ -1,10 +1,5 @@
-use Rattle.std.proofs.Common.{sym, ◌∙◌, ap}
-use Rattle.std.specs.Int.{to_be_bytes, w128}
-use Rattle.std.proofs.lemmas.Bool.{false≢true}
-use Rattle.std.proofs.lemmas.Slice.Eq.{bytes_eq-Decides}
+use Rattle.broker_model.specs.Words.{sym, ◌∙◌, ap, to_be_bytes, w128, false≢true, bytes_eq-Decides, id, reads_back}
 use Rattle.uuid.specs.Text.{parsed}
-use Rattle.broker_types.specs.Identifier.{id}
-use Rattle.broker_types.specs.IdentifierLaws.{reads_back}
 use Rattle.soundness.proofs.TextWhole.{word_back}
 use Rattle.soundness.proofs.texts.word_of.Goals as goal
 

@@ -1,7 +1,5 @@
-use Rattle.std.proofs.Common.{subst, refl, sym}
-use Rattle.broker_types.specs.Text.{Text}
-use Rattle.records.specs.Table.{table_of}
-use Rattle.soundness.specs.RowRules.{IsNamedBy}
+use Rattle.broker_model.specs.Words.{subst, refl, sym, Text, table_of}
+use Rattle.soundness.specs.Words.{IsNamedBy}
 use Rattle.soundness.proofs.AnswerLemmas.{from_true}
 use Rattle.soundness.proofs.ReadLemmas.{accessor_unread, fails}
 use Rattle.soundness.proofs.tokens.accessor.Goals as goal

@@ -1,10 +1,7 @@
-use Rattle.std.proofs.Common.{◌≡◌, None, ◌++◌, ◌∷◌, ap, ◌∙◌, subst, refl, sym}
-use Rattle.broker_types.specs.Text.{Text}
-use Rattle.records.specs.Splits.{slash}
-use Rattle.records.specs.Table.{table_of}
+use Rattle.std.proofs.Common.{◌≡◌, ◌++◌, ◌∷◌, None, ap, ◌∙◌, subst, refl, sym}
+use Rattle.broker_model.specs.Words.{Text, slash, table_of, IsPathText}
 use Rattle.soundness.proofs.AnswerLemmas.{from_true}
 use Rattle.soundness.proofs.TextLemmas.{path_at}
-use Rattle.broker_types.specs.Sound.{IsPathText}
 use Rattle.soundness.proofs.TextWhole.{same_rest}
 use Rattle.soundness.proofs.ReadLemmas.{object_unread, fails}
 use Rattle.records.specs.declared.kind.Kind.TheVariants as kind

@@ -1,18 +1,10 @@
 use Rattle.std.proofs.Common.{◌≡◌, true, sym, ◌∙◌, ap}
-use Rattle.std.specs.List.{list_all}
-use Rattle.std.proofs.lemmas.Option.{MatchOption-at_some, MatchOption-at_none}
-use Rattle.broker_types.specs.Name.{is_name}
-use Rattle.records.specs.CallLaws.{honest_before}
-use Rattle.records.specs.Ranges.{IsTokenInRange}
-use Rattle.records.specs.RowForms.{entry_row}
-use Rattle.records.specs.Table.{table_of}
-use Rattle.records.specs.TokenEntry.{TokenEntry}
+use Rattle.broker_model.specs.Words.{list_all, MatchOption-at_some, MatchOption-at_none, is_name, honest_before}
+use Rattle.broker_model.specs.Words.{IsTokenInRange, entry_row, table_of, TokenEntry, false≢true, err_from_is_err_and}
 use Rattle.soundness.proofs.AnswerLemmas.{from_true, all_from}
-use Rattle.std.proofs.lemmas.Bool.{false≢true}
 use Rattle.soundness.proofs.BrokenLemmas.{list_all_from}
 use Rattle.soundness.proofs.ReadLemmas.{fails}
 use Rattle.records.specs.declared.kind.Kind.TheVariants as kind
-use Rattle.std.proofs.lemmas.Result.{err_from_is_err_and}
 use Rattle.soundness.proofs.Readings.{read_both, read_fails}
 use Rattle.soundness.proofs.tokens.token.Goals as goal
 

@@ -1,12 +1,5 @@
-use Rattle.std.proofs.Common.{refl, ◌∙◌}
-use Rattle.broker_types.specs.OptionLaws.{of_none, of_some}
-use Rattle.records.specs.CallLaws.{honest_before}
-use Rattle.records.specs.Table.{table_of}
-use Rattle.soundness.specs.declared.trouble.Rule.{Rule}
-use Rattle.soundness.specs.declared.visiting.Notes.{Notes}
-use Rattle.soundness.specs.Broken.{BreaksAt, HasIdentifier, IsKeyOf}
-use Rattle.soundness.specs.Notes.{StopsNoting}
-use Rattle.soundness.specs.Visiting.{noted}
+use Rattle.broker_model.specs.Words.{refl, ◌∙◌, of_none, of_some, honest_before, table_of}
+use Rattle.soundness.specs.Words.{Rule, Notes, BreaksAt, HasIdentifier, IsKeyOf, StopsNoting, noted}
 use Rattle.soundness.proofs.NotingLemmas.{identifier_breaks, if_none_always, origin_breaks, row_spared}
 use Rattle.soundness.proofs.WalkLemmas.{row_passed}
 use Rattle.soundness.proofs.visiting.visit.Goals as goal

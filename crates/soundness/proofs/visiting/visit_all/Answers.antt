@@ -1,7 +1,4 @@
-use Rattle.std.proofs.Common.{get_or}
-use Rattle.std.proofs.lemmas.Result.{IfOk-weaker}
-use Rattle.broker_types.specs.OptionLaws.{if_none_weaker}
-use Rattle.records.specs.Table.{table_of}
+use Rattle.broker_model.specs.Words.{get_or, IfOk-weaker, if_none_weaker, table_of}
 use Rattle.soundness.proofs.BrokenWalk.{kinds_apart}
 use Rattle.soundness.proofs.WalkLemmas.{KindPassed, all_kinds, each_kind}
 use Rattle.soundness.proofs.visiting.visit_all.Goals as goal

@@ -1,10 +1,5 @@
-use Rattle.std.proofs.Common.{◌≢◌, ◌∙◌, ap, refl, subst, false, arith, rules}
-use Rattle.std.specs.Prelude.{All}
-use Rattle.std.proofs.lemmas.List.{take_all}
-use Rattle.records.specs.declared.row.Row.{Row}
-use Rattle.records.specs.Kind.{RowKey}
-use Rattle.records.specs.CallLaws.{honest_before, goes_further}
-use Rattle.records.specs.Table.{table_of}
+use Rattle.std.proofs.Common.{◌≢◌, ◌∙◌, ap, refl, subst, false, arith, rules, All, take_all}
+use Rattle.broker_model.specs.Words.{Row, RowKey, honest_before, goes_further, table_of}
 use Rattle.soundness.proofs.BrokenWalk.{entry_breaks, entry_frees, entry_keeps}
 use Rattle.soundness.proofs.NotingLemmas.{spares_none}
 use Rattle.soundness.proofs.WalkLemmas.{Passed, entry_more, notes_stay}

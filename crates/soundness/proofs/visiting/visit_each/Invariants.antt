@@ -1,11 +1,6 @@
-use Rattle.std.proofs.Common.{◌≡◌, ◌≢◌, ◌≤◌, ◌<◌, ℕ, false, take, length, get_or}
-use Rattle.std.specs.Prelude.{All}
-use Rattle.records.specs.declared.row.Row.{Row}
-use Rattle.records.specs.Kind.{RowKey}
-use Rattle.records.specs.Table.{table_of}
-use Rattle.records.specs.Transaction.{IsHonest, GoesOn}
-use Rattle.soundness.specs.Notes.{CanBeVisited, GoesOnFrom, IsEntry, IsFresh, Spares}
-use Rattle.soundness.specs.Visiting.{EachEnds, IsPassed, noted}
+use Rattle.std.proofs.Common.{◌≡◌, ◌≢◌, ◌≤◌, ◌<◌, ℕ, false, take, length, get_or, All}
+use Rattle.broker_model.specs.Words.{Row, RowKey, table_of, IsHonest, GoesOn}
+use Rattle.soundness.specs.Words.{CanBeVisited, GoesOnFrom, IsEntry, IsFresh, Spares, EachEnds, IsPassed, noted}
 use Rattle.soundness.proofs.visiting.visit_each.Given as goal
 
 -- the rows so far have passed

@@ -1,18 +1,12 @@
 use Rattle.std.proofs.Common.{◌≡◌, ◌≢◌, ◌<◌, ◌-◌, [], List, length, slice_get, Some, refl, sym, ap, ◌∙◌, subst, false}
-use Rattle.std.proofs.Common.{rules, arith}
-use Rattle.std.specs.Prelude.{All, take, string_bytes}
-use Rattle.broker_types.specs.Text.{Text}
-use Rattle.records.specs.declared.row.Row.{Row}
-use Rattle.records.specs.CallLaws.{honest_before, goes_further}
-use Rattle.records.specs.Kind.{RowKey}
-use Rattle.records.specs.Table.{table_of}
-use Rattle.records.specs.Transaction.{rows_from}
+use Rattle.broker_model.specs.Words.{rules, arith, take, string_bytes, Text, Row, honest_before, goes_further, RowKey}
+use Rattle.broker_model.specs.Words.{table_of, rows_from, err_from_is_err_and}
+use Rattle.std.specs.Prelude.{All}
 use Rattle.soundness.proofs.BrokenWalk.{IsFreshFrom, page_breaks, page_frees, page_keeps}
 use Rattle.soundness.proofs.NotingLemmas.{spares_none}
 use Rattle.soundness.proofs.PageLemmas.{none_below, pages_end, pages_go_on}
 use Rattle.soundness.proofs.PageOrder.{last_row}
 use Rattle.soundness.proofs.WalkLemmas.{Passed, PassedBelow, notes_stay, page_more}
-use Rattle.std.proofs.lemmas.Result.{err_from_is_err_and}
 use Rattle.soundness.proofs.Readings.{read_so_far, read_on, read_both, read_fails}
 use Rattle.soundness.proofs.visiting.visit_kind.Goals as goal
 

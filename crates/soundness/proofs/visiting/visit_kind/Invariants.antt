@@ -1,9 +1,6 @@
-use Rattle.std.proofs.Common.{◌≡◌, ◌≢◌, false}
-use Rattle.std.specs.Prelude.{string_bytes}
-use Rattle.records.specs.Table.{table_of}
-use Rattle.records.specs.Transaction.{IsHonest, GoesOn}
-use Rattle.soundness.specs.Notes.{GoesOnFrom, IsFreshKind, Spares}
-use Rattle.soundness.specs.Visiting.{EachEnds, noted}
+use Rattle.std.proofs.Common.{◌≡◌, ◌≢◌, false, string_bytes}
+use Rattle.broker_model.specs.Words.{table_of, IsHonest, GoesOn}
+use Rattle.soundness.specs.Words.{GoesOnFrom, IsFreshKind, Spares, EachEnds, noted}
 use Rattle.soundness.proofs.BrokenWalk.{IsFreshFrom}
 use Rattle.soundness.proofs.PageLemmas.{ArePassedBelow}
 use Rattle.soundness.proofs.visiting.visit_kind.Given as goal

@@ -1,8 +1,6 @@
-use Rattle.std.proofs.Common.{◌∙◌, refl, subst, false, arith, rules}
+use Rattle.broker_model.specs.Words.{◌∙◌, refl, subst, false, arith, rules, take_all, honest_before, goes_further}
+use Rattle.broker_model.specs.Words.{table_of}
 use Rattle.std.specs.Prelude.{All}
-use Rattle.std.proofs.lemmas.List.{take_all}
-use Rattle.records.specs.CallLaws.{honest_before, goes_further}
-use Rattle.records.specs.Table.{table_of}
 use Rattle.soundness.proofs.BrokenWalk.{kind_breaks, kind_frees, kind_stays_true}
 use Rattle.soundness.proofs.WalkLemmas.{KindPassed, kind_more, notes_stay}
 use Rattle.soundness.proofs.visiting.visit_kinds.Goals as goal

@@ -1,10 +1,6 @@
-use Rattle.std.proofs.Common.{◌≡◌, ◌≤◌, ◌<◌, ℕ, false, take, length, get_or}
-use Rattle.std.specs.Prelude.{All}
-use Rattle.records.specs.declared.kind.Kind.{Kind}
-use Rattle.records.specs.Table.{table_of}
-use Rattle.records.specs.Transaction.{IsHonest, GoesOn}
-use Rattle.soundness.specs.Notes.{AreApart, AreTrue, GoesOnFrom, IsFreshKind}
-use Rattle.soundness.specs.Visiting.{EachEnds, ArePassed, noted}
+use Rattle.std.proofs.Common.{◌≡◌, ◌≤◌, ◌<◌, ℕ, false, take, length, get_or, All}
+use Rattle.broker_model.specs.Words.{Kind, table_of, IsHonest, GoesOn}
+use Rattle.soundness.specs.Words.{AreApart, AreTrue, GoesOnFrom, IsFreshKind, EachEnds, ArePassed, noted}
 use Rattle.soundness.proofs.visiting.visit_kinds.Given as goal
 
 -- the rows of the kinds so far have passed

@@ -1,4 +1,4 @@
-use Rattle.std.proofs.Common.{sym}
+use Rattle.broker_model.specs.Words.{sym}
 use Rattle.system_operations.proofs.acl_policies.act_on_policies.Goals as goal
 
 pub returns-in-Set-clause-told : goal.returns-in-Set-clause-told

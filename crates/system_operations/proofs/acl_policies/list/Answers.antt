@@ -1,9 +1,5 @@
-use Rattle.std.proofs.Common.{None, ap, ◌∙◌}
-use Rattle.api_json.specs.Objects.{keys_object}
-use Rattle.api_json.specs.Reply.{plain_reply}
-use Rattle.broker_types.specs.Names.{names_of}
-use Rattle.broker_types.specs.Operation.{reply}
-use Rattle.broker_rows.specs.RepresentingLaws.{policies_there, still_represented}
+use Rattle.broker_model.specs.Words.{None, ap, ◌∙◌, keys_object, plain_reply, names_of, reply}
+use Rattle.broker_rows.specs.Words.{policies_there, still_represented}
 use Rattle.system_operations.proofs.acl_policies.list.Goals as goal
 
 pub returns-clause-told : goal.returns-clause-told

@@ -1,9 +1,6 @@
-use Rattle.std.proofs.Common.{Err, ap, ◌∙◌}
-use Rattle.std.proofs.lemmas.Result.{err_from_is_err_and}
-use Rattle.api_json.specs.KeptBodies.{is_object}
+use Rattle.broker_model.specs.Words.{Err, ap, ◌∙◌, err_from_is_err_and, is_object, deleted_sound}
 use Rattle.policies.specs.Policies as policies
-use Rattle.policies.specs.SoundLaws.{deleted_sound}
-use Rattle.broker_rows.specs.RepresentingLaws.{policies_there}
+use Rattle.broker_rows.specs.Words.{policies_there}
 use Rattle.system_operations.proofs.AclPolicyAnswers.{acts_changed, acts_refused}
 use Rattle.system_operations.proofs.acl_policies.remove.Goals as goal
 

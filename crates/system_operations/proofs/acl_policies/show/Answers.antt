@@ -1,15 +1,6 @@
-use Rattle.std.proofs.Common.{None, Ok, Err, ap, sym, ◌∙◌}
-use Rattle.std.proofs.lemmas.Result.{err_from_is_err_and}
-use Rattle.api_json.specs.KeptBodies.{is_object}
-use Rattle.api_json.specs.Objects.{policy_object}
-use Rattle.api_json.specs.Reply.{plain_reply}
-use Rattle.broker_types.specs.Names.{names_of}
-use Rattle.broker_types.specs.Operation.{reply, plainly}
-use Rattle.broker_types.specs.Text.{Text}
-use Rattle.records.specs.ValueLaws.{none_of}
-use Rattle.policies.specs.Policies.{text_of}
-use Rattle.broker_rows.specs.RepresentingLaws.{policies_there, still_represented}
-use Rattle.broker_rows.specs.OperatingLaws.{acts_found, acts_absent}
+use Rattle.broker_model.specs.Words.{None, Ok, Err, ap, sym, ◌∙◌, err_from_is_err_and, is_object, policy_object}
+use Rattle.broker_model.specs.Words.{plain_reply, names_of, reply, plainly, Text, none_of, text_of}
+use Rattle.broker_rows.specs.Words.{policies_there, still_represented, acts_found, acts_absent}
 use Rattle.system_operations.proofs.acl_policies.show.Goals as goal
 
 pub returns-in_err-text-clause-told : goal.returns-in_err-text-clause-told

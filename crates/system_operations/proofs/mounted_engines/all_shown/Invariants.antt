@@ -1,5 +1,5 @@
 use Rattle.std.proofs.Common.{◌≡◌, map, take}
-use Rattle.broker_model.specs.parts.Mounts.{shown_mount}
+use Rattle.broker_model.specs.Words.{shown_mount}
 use Rattle.system_operations.proofs.mounted_engines.all_shown.Given as goal
 
 -- the mounts so far are shown

@@ -1,13 +1,7 @@
-use Rattle.std.proofs.Common.{Err, ap, subst, ◌∙◌}
-use Rattle.std.specs.Prelude.{is_some, if◌then◌else◌}
-use Rattle.std.proofs.lemmas.Result.{err_from_is_err_and}
-use Rattle.broker_types.specs.Map.{get}
-use Rattle.broker_types.specs.Operation.{nothing, plainly}
-use Rattle.broker_types.specs.RequestError.{EndsOk}
+use Rattle.std.proofs.Common.{if◌then◌else◌, Err, ap, subst, ◌∙◌, is_some}
+use Rattle.broker_model.specs.Words.{err_from_is_err_and, get, nothing, plainly, EndsOk, honest_before, without_kept}
 use Rattle.mounts.specs.Mounts as mounts
-use Rattle.records.specs.CallLaws.{honest_before}
-use Rattle.broker_model.specs.parts.Mounts.{without_kept}
-use Rattle.broker_rows.specs.RepresentingLaws.{mounts_there}
+use Rattle.broker_rows.specs.Words.{mounts_there}
 use Rattle.system_operations.proofs.MountAnswers.{IsDisabled, acts_refused, acts_absent, is_gone, acts_disabled}
 use Rattle.system_operations.proofs.mounted_engines.disable.Goals as goal
 

@@ -1,9 +1,5 @@
-use Rattle.kv2.specs.Secrets.{drop_mount}
-use Rattle.leases.specs.Roles.{drop_roles}
-use Rattle.records.specs.CallLaws.{honest_before, on_both}
-use Rattle.records.specs.Parts.{of_secrets, of_roles}
-use Rattle.broker_model.specs.Forms.{forms}
-use Rattle.broker_rows.specs.RepresentingLaws.{tells_part}
+use Rattle.broker_model.specs.Words.{drop_mount, drop_roles, honest_before, on_both, of_secrets, of_roles, forms}
+use Rattle.broker_rows.specs.Words.{tells_part}
 use Rattle.system_operations.proofs.MountAnswers.{represents-no_secrets, represents-no_roles, represents-no_leases}
 use Rattle.system_operations.proofs.MountAnswers.{leases_there}
 use Rattle.system_operations.proofs.mounted_engines.drop_kept.Goals as goal

@@ -1,13 +1,8 @@
 use Rattle.std.proofs.Common.{◌≡◌, Err, ap, subst, ◌∙◌}
-use Rattle.std.proofs.lemmas.Result.{err_from_is_err_and}
-use Rattle.broker_types.specs.Operation.{nothing, plainly}
-use Rattle.broker_types.specs.RequestError.{EndsOk, EndsErr}
+use Rattle.broker_model.specs.Words.{err_from_is_err_and, nothing, plainly, EndsOk, EndsErr, AreMounts, enabled_sound}
+use Rattle.broker_model.specs.Words.{table_of, forms}
 use Rattle.mounts.specs.Mounts as mounts
-use Rattle.mounts.specs.MountRows.{AreMounts}
-use Rattle.mounts.specs.SoundLaws.{enabled_sound}
-use Rattle.records.specs.Table.{table_of}
-use Rattle.broker_model.specs.Forms.{forms}
-use Rattle.broker_rows.specs.RepresentingLaws.{mounts_there}
+use Rattle.broker_rows.specs.Words.{mounts_there}
 use Rattle.system_operations.proofs.MountAnswers.{acts_enabled, acts_refused}
 use Rattle.system_operations.proofs.mounted_engines.enable.Goals as goal
 

@@ -1,11 +1,6 @@
-use Rattle.std.proofs.Common.{None, Err, map, ap, ◌∙◌}
-use Rattle.std.proofs.lemmas.Result.{err_from_is_err_and}
-use Rattle.api_json.specs.Objects.{mounts_object}
-use Rattle.api_json.specs.Reply.{plain_reply}
-use Rattle.broker_types.specs.Names.{names_of}
-use Rattle.broker_types.specs.Operation.{reply}
-use Rattle.broker_model.specs.parts.Mounts.{shown_mount}
-use Rattle.broker_rows.specs.RepresentingLaws.{mounts_there, still_represented}
+use Rattle.broker_model.specs.Words.{None, Err, map, ap, ◌∙◌, err_from_is_err_and, mounts_object, plain_reply, names_of}
+use Rattle.broker_model.specs.Words.{reply, shown_mount}
+use Rattle.broker_rows.specs.Words.{mounts_there, still_represented}
 use Rattle.system_operations.proofs.mounted_engines.list.Goals as goal
 
 pub returns-in_err-mounts-clause-told : goal.returns-in_err-mounts-clause-told

@@ -1,4 +1,4 @@
-use Rattle.std.proofs.Common.{sym}
+use Rattle.broker_model.specs.Words.{sym}
 use Rattle.system_operations.proofs.responses.act_on_wrappings.Goals as goal
 
 pub returns-in-Unwrap-Some-clause-told : goal.returns-in-Unwrap-Some-clause-told

@@ -1,14 +1,6 @@
-use Rattle.std.specs.Prelude.{Err, None}
-use Rattle.std.proofs.Common.{ap, sym, ◌∙◌}
-use Rattle.std.proofs.lemmas.Result.{err_from_is_err_and}
-use Rattle.api_json.specs.Objects.{waiting_object}
-use Rattle.api_json.specs.Reply.{plain_reply}
-use Rattle.broker_types.specs.Broker.{Waiting}
-use Rattle.broker_types.specs.Names.{names_of}
-use Rattle.broker_types.specs.Operation.{reply, plainly}
-use Rattle.records.specs.ValueLaws.{none_of}
-use Rattle.broker_model.specs.parts.Wrappings.{FoundResponse, shown_response}
-use Rattle.broker_rows.specs.RepresentingLaws.{represents_waiting, still_represented}
+use Rattle.broker_model.specs.Words.{Err, None, ap, sym, ◌∙◌, err_from_is_err_and, waiting_object, plain_reply, Waiting}
+use Rattle.broker_model.specs.Words.{names_of, reply, plainly, none_of, FoundResponse, shown_response}
+use Rattle.broker_rows.specs.Words.{represents_waiting, still_represented}
 use Rattle.system_operations.proofs.ResponseAnswers.{acts_on_found, acts_on_none}
 use Rattle.system_operations.proofs.responses.look_up.Goals as goal
 

@@ -1,23 +1,9 @@
-use Rattle.std.specs.Prelude.{◌≡◌, ℕ, List, None, length}
-use Rattle.std.proofs.Common.{ap, arith, get_or, subst, sym, ◌∙◌}
-use Rattle.broker_types.specs.IdentifierLaws.{id-length}
-use Rattle.broker_types.specs.Map.{get}
-use Rattle.broker_types.specs.Names.{names_of}
-use Rattle.broker_types.specs.OptionLaws.{mapped, mapped_none}
-use Rattle.broker_types.specs.IdentifierPlaces.{token_identifier}
-use Rattle.broker_types.specs.Text.{Text}
-use Rattle.broker_types.specs.UsedLaws.{first_new}
-use Rattle.records.specs.CallLaws.{honest_before}
-use Rattle.records.specs.Parts.{Tells, of_waiting}
-use Rattle.records.specs.RowForms.{used_row}
-use Rattle.records.specs.Table.{table_of, with_row}
-use Rattle.records.specs.TableLaws.{table_of-injective}
-use Rattle.records.specs.ValueLaws.{none_of}
+use Rattle.std.proofs.Common.{◌≡◌, ℕ, List, None, length, ap, arith, get_or, subst, sym, ◌∙◌}
+use Rattle.broker_model.specs.Words.{id-length, get, names_of, mapped, mapped_none, token_identifier, Text, first_new}
+use Rattle.broker_model.specs.Words.{honest_before, Tells, of_waiting, used_row, table_of, with_row, table_of-injective}
+use Rattle.broker_model.specs.Words.{none_of, with_moved, moved, rewrap}
 use Rattle.records.specs.declared.kind.Kind.TheVariants as kind
-use Rattle.wrapping.specs.WaitingRows.{with_moved}
-use Rattle.wrapping.specs.Wrapping.{moved, rewrap}
-use Rattle.broker_rows.specs.Context.{Context}
-use Rattle.broker_rows.specs.RepresentingLaws.{represents_waiting, still_represented}
+use Rattle.broker_rows.specs.Words.{Context, represents_waiting, still_represented}
 use Rattle.system_operations.proofs.ResponseRows.{printed, represents_moved, second_new}
 use Rattle.system_operations.proofs.responses.move_response.Goals as goal
 

@@ -1,17 +1,7 @@
-use Rattle.std.specs.Prelude.{◌≡◌, Err, None}
-use Rattle.std.proofs.Common.{ap, subst, sym, ◌∙◌}
-use Rattle.std.proofs.lemmas.Result.{err_from_is_err_and}
-use Rattle.broker_types.specs.Identifier.{id}
-use Rattle.api_json.specs.Reply.{wrap_reply}
-use Rattle.broker_types.specs.Names.{names_of}
-use Rattle.broker_types.specs.Operation.{reply}
-use Rattle.broker_types.specs.TokenText.{token_text}
-use Rattle.broker_types.specs.declared.reply.Reply.{Reply}
-use Rattle.records.specs.ValueLaws.{none_of}
-use Rattle.wrapping.specs.Wrapping.{moved}
-use Rattle.broker_model.specs.Order.{wrap_info}
-use Rattle.broker_model.specs.parts.Wrappings.{rewrapped}
-use Rattle.broker_rows.specs.Context.{Context}
+use Rattle.std.proofs.Common.{◌≡◌, Err, None, ap, subst, sym, ◌∙◌}
+use Rattle.broker_model.specs.Words.{err_from_is_err_and, id, wrap_reply, names_of, reply, token_text, Reply, none_of}
+use Rattle.broker_model.specs.Words.{moved, wrap_info, rewrapped}
+use Rattle.broker_rows.specs.Words.{Context}
 use Rattle.broker_rows.specs.declared.answered.Answered.TheVariants.{Given}
 use Rattle.system_operations.specs.Rewrapping.{IsMoved}
 use Rattle.system_operations.proofs.ResponseAnswers.{acts_on_found, acts_on_none}

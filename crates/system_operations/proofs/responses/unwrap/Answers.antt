@@ -1,13 +1,6 @@
-use Rattle.std.specs.Prelude.{Err}
-use Rattle.std.proofs.Common.{ap, sym, ◌∙◌}
-use Rattle.std.proofs.lemmas.Result.{err_from_is_err_and}
-use Rattle.broker_types.specs.Broker.{Waiting}
-use Rattle.broker_types.specs.Map.{get}
-use Rattle.broker_types.specs.Operation.{kept_text}
-use Rattle.broker_types.specs.OptionLaws.{mapped, mapped_none}
-use Rattle.records.specs.ValueLaws.{none_of}
-use Rattle.broker_model.specs.parts.Wrappings.{handed_out}
-use Rattle.broker_rows.specs.RepresentingLaws.{represents_dropped, represents_waiting, still_represented}
+use Rattle.broker_model.specs.Words.{Err, ap, sym, ◌∙◌, err_from_is_err_and, Waiting, get, kept_text, mapped}
+use Rattle.broker_model.specs.Words.{mapped_none, none_of, handed_out}
+use Rattle.broker_rows.specs.Words.{represents_dropped, represents_waiting, still_represented}
 use Rattle.broker_rows.specs.declared.answered.Answered.TheVariants.{Kept}
 use Rattle.system_operations.proofs.ResponseAnswers.{acts_on_found, acts_on_none}
 use Rattle.system_operations.proofs.responses.unwrap.Goals as goal

@@ -1,4 +1,4 @@
-use Rattle.std.proofs.Common.{sym}
+use Rattle.broker_model.specs.Words.{sym}
 use Rattle.system_operations.proofs.token_leases.act_on_leases.Goals as goal
 
 pub returns-in-Revoke-clause-told : goal.returns-in-Revoke-clause-told

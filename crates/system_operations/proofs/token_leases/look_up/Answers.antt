@@ -1,15 +1,8 @@
-use Rattle.std.specs.Prelude.{◌≡◌, Err, None, ⊤}
-use Rattle.std.proofs.Common.{ap, refl, subst, sym, ◌∙◌}
-use Rattle.std.proofs.lemmas.Result.{err_from_is_err_and}
-use Rattle.api_json.specs.Objects.{lease_object}
-use Rattle.api_json.specs.Reply.{plain_reply}
-use Rattle.broker_types.specs.Names.{names_of}
-use Rattle.broker_types.specs.Operation.{reply}
-use Rattle.broker_types.specs.RequestError.{EndsErr}
-use Rattle.leases.specs.Leases.{Times, lookup}
-use Rattle.broker_model.specs.Forms.{forms}
-use Rattle.broker_rows.specs.Context.{Context}
-use Rattle.broker_rows.specs.RepresentingLaws.{represents_leases}
+use Rattle.std.proofs.Common.{◌≡◌, Err, None, ap, refl, subst, sym, ◌∙◌}
+use Rattle.broker_model.specs.Words.{⊤, err_from_is_err_and, lease_object, plain_reply, names_of, reply, EndsErr, Times}
+use Rattle.broker_model.specs.Words.{forms}
+use Rattle.leases.specs.Leases.{lookup}
+use Rattle.broker_rows.specs.Words.{Context, represents_leases}
 use Rattle.system_operations.proofs.LeaseAnswers.{acts_refused, acts_shown, shown_of, with_refusal}
 use Rattle.system_operations.proofs.token_leases.look_up.Goals as goal
 

@@ -1,16 +1,8 @@
-use Rattle.std.specs.Prelude.{◌≡◌, ◌-◌, [], Err, None, Ok}
-use Rattle.std.proofs.Common.{ap, refl, subst, sym, ◌∙◌}
-use Rattle.std.proofs.lemmas.Result.{err_from_is_err_and}
-use Rattle.broker_types.specs.Identifier.{id}
-use Rattle.api_json.specs.Reply.{lease_reply}
-use Rattle.broker_types.specs.Names.{names_of}
-use Rattle.broker_types.specs.RequestError.{EndsErr}
+use Rattle.std.proofs.Common.{◌≡◌, ◌-◌, [], Err, None, Ok, ap, refl, subst, sym, ◌∙◌}
+use Rattle.broker_model.specs.Words.{err_from_is_err_and, id, lease_reply, names_of, EndsErr, forms}
 use Rattle.leases.specs.Leases as leases
-use Rattle.broker_model.specs.Forms.{forms}
 use Rattle.broker_model.specs.parts.Leases as part
-use Rattle.broker_rows.specs.Context.{Context}
-use Rattle.broker_rows.specs.Operating.{Performs}
-use Rattle.broker_rows.specs.RepresentingLaws.{represents_leases}
+use Rattle.broker_rows.specs.Words.{Context, Performs, represents_leases}
 use Rattle.broker_rows.specs.declared.answered.Answered.TheVariants.{Given}
 use Rattle.system_operations.proofs.LeaseAnswers.{acts_refused, acts_renewed, renewed_of}
 use Rattle.system_operations.proofs.token_leases.renew.Goals as goal

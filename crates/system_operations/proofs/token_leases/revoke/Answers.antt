@@ -1,11 +1,7 @@
-use Rattle.std.proofs.Common.{Err, ap, refl, ◌∙◌}
-use Rattle.std.proofs.lemmas.Result.{err_from_is_err_and}
-use Rattle.broker_types.specs.Map.{without}
+use Rattle.broker_model.specs.Words.{Err, ap, refl, ◌∙◌, err_from_is_err_and, without, shows_in_leases, forms}
 use Rattle.leases.specs.StaysSoundLaws.{revoke_sound}
 use Rattle.leases.specs.Leases.{revoke}
-use Rattle.leases.specs.SoundLaws.{shows_in_leases}
-use Rattle.broker_model.specs.Forms.{forms}
-use Rattle.broker_rows.specs.RepresentingLaws.{represents_leases}
+use Rattle.broker_rows.specs.Words.{represents_leases}
 use Rattle.system_operations.proofs.LeaseAnswers.{acts_ended}
 use Rattle.system_operations.proofs.token_leases.revoke.Goals as goal
 

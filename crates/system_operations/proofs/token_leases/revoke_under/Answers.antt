@@ -1,12 +1,7 @@
-use Rattle.std.specs.Prelude.{not}
-use Rattle.std.proofs.Common.{Err, ap, refl, ◌∙◌}
-use Rattle.std.proofs.lemmas.Result.{err_from_is_err_and}
-use Rattle.broker_types.specs.Map.{keep}
-use Rattle.leases.specs.StaysSoundLaws.{revoke_under_sound}
-use Rattle.leases.specs.Leases.{is_under, revoke_under}
-use Rattle.leases.specs.SoundLaws.{shows_in_leases}
-use Rattle.broker_model.specs.Forms.{forms}
-use Rattle.broker_rows.specs.RepresentingLaws.{represents_leases}
+use Rattle.broker_model.specs.Words.{not, Err, ap, refl, ◌∙◌, err_from_is_err_and, keep, revoke_under_sound}
+use Rattle.broker_model.specs.Words.{revoke_under, shows_in_leases, forms}
+use Rattle.leases.specs.Leases.{is_under}
+use Rattle.broker_rows.specs.Words.{represents_leases}
 use Rattle.system_operations.proofs.LeaseAnswers.{acts_ended}
 use Rattle.system_operations.proofs.token_leases.revoke_under.Goals as goal
 

@@ -1,5 +1,5 @@
-use Rattle.std.proofs.Common.{◌∙◌, [], ◌∷◌, ◌++◌, sym, ap, subst, arith}
-use Rattle.hub.specs.Ordering.{HaveNumbers}
+use Rattle.std.proofs.Common.{◌∷◌, ◌++◌, ◌∙◌, [], sym, ap, subst, arith}
+use Rattle.hub.specs.Words.{HaveNumbers}
 use Rattle.tests_connections.proofs.LineLemmas.{pushed, three_numbers}
 use Rattle.tests_connections.proofs.turning.expect_lines.Goals as goal
 

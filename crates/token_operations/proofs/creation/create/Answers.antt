@@ -1,32 +1,15 @@
-use Rattle.std.specs.Prelude.{◌≢◌, ◌==◌, All, List, []}
-use Rattle.std.proofs.Common.{◌≡◌, ◌∷◌, false, Ok, Err, Some, ap, get_or, length, refl, sym, ◌∙◌, subst}
-use Rattle.std.proofs.lemmas.Bool.{false≢true}
-use Rattle.std.proofs.lemmas.List.Elements.{All-head, All-tail}
-use Rattle.std.proofs.lemmas.Option.{none-some}
-use Rattle.std.proofs.lemmas.Result.{err_from_is_err_and}
-use Rattle.broker_types.specs.Map.{get}
-use Rattle.broker_types.specs.Names.{Names, names_of}
-use Rattle.broker_types.specs.OptionLaws.{mapped}
-use Rattle.broker_types.specs.Sound.{IsIdentifier, IsShortText}
-use Rattle.broker_types.specs.Text.{Text}
+use Rattle.std.proofs.Common.{◌≢◌, ◌==◌, ◌≡◌, ◌∷◌, All, List, [], false, Ok, Err, Some, ap, get_or, length, refl, sym}
+use Rattle.broker_model.specs.Words.{◌∙◌, subst, false≢true, All-head, All-tail, none-some, err_from_is_err_and, get}
+use Rattle.broker_model.specs.Words.{Names, names_of, mapped, IsIdentifier, IsShortText, Text, IsTokenInRange}
+use Rattle.broker_model.specs.Words.{TokenEntry, token_entry, allows, allowed, forms, token_names, making_path}
+use Rattle.broker_model.specs.Words.{is_privileged, new_policies, may_make, new_parent, new_token}
 use Rattle.broker_types.specs.declared.ask.Verb.TheVariants as verb
-use Rattle.records.specs.Ranges.{IsTokenInRange}
-use Rattle.records.specs.TokenEntry.{TokenEntry, token_entry}
-use Rattle.policies.specs.Allows.{allows}
 use Rattle.policies.specs.declared.capability.Capability.TheVariants as capability
-use Rattle.broker_model.specs.CreationLaws.{allowed}
-use Rattle.broker_model.specs.Forms.{forms}
-use Rattle.broker_model.specs.Traits.{token_names}
-use Rattle.broker_model.specs.parts.TokenCreation.{making_path, is_privileged, new_policies, may_make, new_parent}
-use Rattle.broker_model.specs.parts.TokenCreation.{new_token}
-use Rattle.broker_rows.specs.Caller.{Asker, Caller}
-use Rattle.broker_rows.specs.Context.{Context}
-use Rattle.broker_rows.specs.Operating.{ArePrinted}
-use Rattle.broker_rows.specs.RepresentingLaws.{named_policies_there}
+use Rattle.broker_rows.specs.Words.{Asker, Caller, Context, ArePrinted, named_policies_there}
 use Rattle.token_operations.specs.TokenEntries.{token_told, new_entry}
 use Rattle.token_operations.specs.TokenRanges.{AreTokenNames, IsInRange}
-use Rattle.token_operations.proofs.TokenCreations.{each_pair, parent_named, sudo_told, create_refused}
-use Rattle.token_operations.proofs.TokenCreations.{create_made, same_may, same_policies_told}
+use Rattle.token_operations.proofs.TokenCreations.{each_pair, parent_named, sudo_told, create_refused, create_made}
+use Rattle.token_operations.proofs.TokenCreations.{same_may, same_policies_told}
 use Rattle.token_operations.proofs.TokenMade.{no_empty_token}
 use Rattle.token_operations.proofs.TokenPolicies.{ArePolicies, IsPolicyName, each_passes, new_policies_are}
 use Rattle.token_operations.proofs.TokenRecords.{new_in_range, new_policies_short, same_new}

@@ -1,11 +1,6 @@
 use Rattle.std.proofs.Common.{◌≡◌, sym, ◌∙◌, ap, subst}
-use Rattle.broker_types.specs.Names.{names_of}
-use Rattle.broker_types.specs.TokenText.{token_text}
-use Rattle.records.specs.TokenEntry.{TokenEntry}
-use Rattle.token_tree.specs.Tokens.{MayBeMade, created}
-use Rattle.broker_model.specs.Forms.{forms}
-use Rattle.broker_model.specs.parts.TokenReplies.{auth_reply}
-use Rattle.broker_rows.specs.Representing.{Represents}
+use Rattle.broker_model.specs.Words.{names_of, token_text, TokenEntry, MayBeMade, created, forms, auth_reply}
+use Rattle.broker_rows.specs.Words.{Represents}
 use Rattle.token_operations.proofs.TokenMade.{made_done}
 use Rattle.token_operations.proofs.creation.make.Goals as goal
 

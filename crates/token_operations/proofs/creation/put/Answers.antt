@@ -1,18 +1,9 @@
 use Rattle.std.proofs.Common.{◌≡◌, false, sym, ◌∙◌, ap, subst}
-use Rattle.std.proofs.lemmas.Result.{err_from_is_err_and}
-use Rattle.broker_types.specs.Evolves.{IsNew}
-use Rattle.broker_types.specs.IdentifierPlaces.{token_identifier}
-use Rattle.broker_types.specs.TokenText.{token_text}
-use Rattle.records.specs.CallLaws.{goes_further, honest_before}
-use Rattle.records.specs.Parts.{Tells, of_tokens}
-use Rattle.records.specs.RowForms.{used_row}
-use Rattle.records.specs.Table.{table_of, with_row}
-use Rattle.records.specs.TokenEntry.{TokenEntry}
+use Rattle.broker_model.specs.Words.{err_from_is_err_and, IsNew, token_identifier, token_text, goes_further}
+use Rattle.broker_model.specs.Words.{honest_before, Tells, of_tokens, used_row, table_of, with_row, TokenEntry}
+use Rattle.broker_model.specs.Words.{create_sound, with_token, forms}
 use Rattle.records.specs.declared.kind.Kind.TheVariants as kind
-use Rattle.token_tree.specs.SoundLaws.{create_sound}
-use Rattle.token_tree.specs.Tokens.{with_token}
-use Rattle.broker_model.specs.Forms.{forms}
-use Rattle.broker_rows.specs.RepresentingLaws.{represents_tokens}
+use Rattle.broker_rows.specs.Words.{represents_tokens}
 use Rattle.token_operations.proofs.TokenTables.{represents-created}
 use Rattle.token_operations.proofs.creation.put.Goals as goal
 

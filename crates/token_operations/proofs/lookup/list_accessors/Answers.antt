@@ -1,12 +1,6 @@
-use Rattle.std.specs.Prelude.{Err, None}
-use Rattle.std.proofs.Common.{ap, ◌∙◌}
-use Rattle.std.proofs.lemmas.Result.{err_from_is_err_and}
-use Rattle.broker_types.specs.Names.{names_of}
-use Rattle.broker_types.specs.Operation.{reply}
-use Rattle.api_json.specs.Objects.{keys_object}
-use Rattle.api_json.specs.Reply.{plain_reply}
-use Rattle.broker_model.specs.Forms.{forms}
-use Rattle.broker_rows.specs.RepresentingLaws.{represents_tokens, still_represented}
+use Rattle.broker_model.specs.Words.{Err, None, ap, ◌∙◌, err_from_is_err_and, names_of, reply, keys_object, plain_reply}
+use Rattle.broker_model.specs.Words.{forms}
+use Rattle.broker_rows.specs.Words.{represents_tokens, still_represented}
 use Rattle.token_operations.proofs.lookup.list_accessors.Goals as goal
 
 pub returns-in_err-names-clause-told : goal.returns-in_err-names-clause-told

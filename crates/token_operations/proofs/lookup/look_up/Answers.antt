@@ -1,10 +1,5 @@
-use Rattle.std.specs.Prelude.{Err}
-use Rattle.std.proofs.Common.{ap, ◌∙◌}
-use Rattle.std.proofs.lemmas.Result.{err_from_is_err_and}
-use Rattle.broker_types.specs.Names.{names_of}
-use Rattle.records.specs.ValueLaws.{none_of}
-use Rattle.broker_model.specs.Forms.{forms}
-use Rattle.broker_rows.specs.RepresentingLaws.{represents_tokens, still_represented}
+use Rattle.broker_model.specs.Words.{Err, ap, ◌∙◌, err_from_is_err_and, names_of, none_of, forms}
+use Rattle.broker_rows.specs.Words.{represents_tokens, still_represented}
 use Rattle.token_operations.proofs.TokenLookups.{acts_look_up, acts_unknown}
 use Rattle.token_operations.proofs.lookup.look_up.Goals as goal
 

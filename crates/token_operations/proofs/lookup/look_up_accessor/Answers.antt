@@ -1,11 +1,6 @@
-use Rattle.std.specs.Prelude.{[], Err, Some}
-use Rattle.std.proofs.Common.{sym, ap, ◌∙◌, rules}
-use Rattle.std.proofs.lemmas.Result.{err_from_is_err_and}
-use Rattle.broker_types.specs.Names.{names_of}
-use Rattle.records.specs.CallLaws.{honest_before, on_answer_weaker}
-use Rattle.broker_model.specs.Forms.{forms}
-use Rattle.broker_model.specs.parts.Tokens.{look_up}
-use Rattle.broker_rows.specs.RepresentingLaws.{represents_tokens, still_represented}
+use Rattle.broker_model.specs.Words.{[], Err, Some, sym, ap, ◌∙◌, rules, err_from_is_err_and, names_of, honest_before}
+use Rattle.broker_model.specs.Words.{on_answer_weaker, forms, look_up}
+use Rattle.broker_rows.specs.Words.{represents_tokens, still_represented}
 use Rattle.token_operations.proofs.Named.{acts_on_named, acts_on_none}
 use Rattle.token_operations.proofs.lookup.look_up_accessor.Goals as goal
 

@@ -1,12 +1,5 @@
-use Rattle.std.specs.Prelude.{None}
-use Rattle.std.proofs.Common.{ap, ◌∙◌}
-use Rattle.std.proofs.lemmas.Result.{IfOk-weaker}
-use Rattle.broker_types.specs.Names.{names_of}
-use Rattle.broker_types.specs.Operation.{reply}
-use Rattle.api_json.specs.Objects.{token_object}
-use Rattle.api_json.specs.Reply.{plain_reply}
-use Rattle.broker_model.specs.parts.TokenReplies.{looked_up}
-use Rattle.broker_rows.specs.Context.{Context}
+use Rattle.broker_model.specs.Words.{None, ap, ◌∙◌, IfOk-weaker, names_of, reply, token_object, plain_reply, looked_up}
+use Rattle.broker_rows.specs.Words.{Context}
 use Rattle.token_operations.proofs.lookup.shown.Goals as goal
 
 pub returns : goal.returns

@@ -1,6 +1,4 @@
-use Rattle.std.proofs.Common.{ap, ◌∙◌, map, string_bytes}
-use Rattle.std.specs.BTreeSet.{insert_key}
-use Rattle.broker_types.specs.Text.{text_cmp}
+use Rattle.broker_model.specs.Words.{ap, ◌∙◌, map, string_bytes, insert_key, text_cmp}
 use Rattle.token_operations.proofs.TokenSets.{keys_inserted}
 use Rattle.token_operations.proofs.new_policies.put_one.Goals as goal
 

@@ -1,5 +1,5 @@
 use Rattle.std.proofs.Common.{◌≡◌, drop}
-use Rattle.std.specs.List.{list_all}
+use Rattle.broker_model.specs.Words.{list_all}
 use Rattle.broker_types.specs.Name as names
 use Rattle.token_operations.proofs.new_token.all_are_names.Given as goal
 

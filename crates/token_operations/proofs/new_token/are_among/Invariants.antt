@@ -1,6 +1,5 @@
 use Rattle.std.proofs.Common.{◌≡◌, drop}
-use Rattle.std.specs.List.{list_all}
-use Rattle.records.specs.Children.{has}
+use Rattle.broker_model.specs.Words.{list_all, has}
 use Rattle.token_operations.proofs.new_token.are_among.Given as goal
 
 abbrev pub invariant-loop-text : goal.invariant-loop-text

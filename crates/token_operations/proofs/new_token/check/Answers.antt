@@ -1,5 +1,4 @@
-use Rattle.std.proofs.Common.{sym, ap, ◌∙◌}
-use Rattle.broker_types.specs.Refuse.{unless}
+use Rattle.broker_model.specs.Words.{sym, ap, ◌∙◌, unless}
 use Rattle.broker_types.specs.declared.refusal.Refusal.TheVariants as refusal
 use Rattle.broker_types.specs.declared.refusal.Reason.TheVariants as reason
 use Rattle.token_operations.proofs.TokenChecks.{seventh}

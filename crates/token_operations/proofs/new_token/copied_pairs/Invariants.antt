@@ -1,5 +1,5 @@
 use Rattle.std.proofs.Common.{◌≡◌, ◌++◌, drop}
-use Rattle.std.specs.List.{AllByRecursion}
+use Rattle.broker_model.specs.Words.{AllByRecursion}
 use Rattle.token_operations.specs.TokenRanges.{IsTextPair}
 use Rattle.token_operations.proofs.new_token.copied_pairs.Given as goal
 

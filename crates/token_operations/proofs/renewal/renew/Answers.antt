@@ -1,14 +1,6 @@
-use Rattle.std.specs.Prelude.{Err, Some}
-use Rattle.std.proofs.Common.{sym, ap, ◌∙◌, subst}
-use Rattle.std.proofs.lemmas.Result.{err_from_is_err_and}
-use Rattle.broker_types.specs.Names.{names_of}
-use Rattle.records.specs.CallLaws.{honest_before}
-use Rattle.records.specs.Table.{table_of}
-use Rattle.records.specs.Transaction.{Rows}
-use Rattle.records.specs.ValueLaws.{none_of}
-use Rattle.token_tree.specs.TokenRows.{IsTokenAt}
-use Rattle.broker_model.specs.Forms.{forms}
-use Rattle.broker_rows.specs.RepresentingLaws.{represents_tokens, still_represented}
+use Rattle.broker_model.specs.Words.{Err, Some, sym, ap, ◌∙◌, subst, err_from_is_err_and, names_of, honest_before}
+use Rattle.broker_model.specs.Words.{table_of, Rows, none_of, IsTokenAt, forms}
+use Rattle.broker_rows.specs.Words.{represents_tokens, still_represented}
 use Rattle.token_operations.proofs.TokenRenewals.{acts_unknown}
 use Rattle.token_operations.proofs.renewal.renew.Goals as goal
 

@@ -1,11 +1,6 @@
-use Rattle.std.specs.Prelude.{Some, is_some, not}
-use Rattle.std.proofs.Common.{◌≡◌, refl, sym, ap, ◌∙◌}
-use Rattle.broker_types.specs.Names.{names_of}
-use Rattle.records.specs.TokenEntry.{TokenEntry}
-use Rattle.broker_model.specs.Forms.{forms}
-use Rattle.broker_model.specs.parts.TokenReplies.{auth_reply}
-use Rattle.broker_rows.specs.Context.{Context}
-use Rattle.broker_rows.specs.RepresentingLaws.{represents_tokens}
+use Rattle.std.proofs.Common.{◌≡◌, Some, is_some, not, refl, sym, ap, ◌∙◌}
+use Rattle.broker_model.specs.Words.{names_of, TokenEntry, forms, auth_reply}
+use Rattle.broker_rows.specs.Words.{Context, represents_tokens}
 use Rattle.token_operations.proofs.TokenRenewals.{acts_endless, acts_renewed}
 use Rattle.token_operations.proofs.TokenTables.{represents-renewed}
 use Rattle.token_operations.proofs.renewal.renew_found.Goals as goal

@@ -1,6 +1,5 @@
-use Rattle.std.specs.Prelude.{Result, Ok, Err, IfOk, OnOk}
-use Rattle.broker_model.specs.Forms.{forms}
-use Rattle.broker_rows.specs.RepresentingLaws.{represents_tokens}
+use Rattle.broker_model.specs.Words.{Result, Ok, Err, IfOk, OnOk, forms}
+use Rattle.broker_rows.specs.Words.{represents_tokens}
 use Rattle.token_operations.proofs.TokenTables.{has_revoked, has_revoked_alone}
 use Rattle.token_operations.proofs.revocation.end_tokens.Goals as goal
 

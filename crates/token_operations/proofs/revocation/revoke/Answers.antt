@@ -1,9 +1,5 @@
-use Rattle.std.proofs.Common.{refl, sym, ap, ◌∙◌, subst, Err}
-use Rattle.std.proofs.lemmas.Result.{err_from_is_err_and}
-use Rattle.broker_types.specs.Broker.{Broker}
-use Rattle.records.specs.CallLaws.{honest_before}
-use Rattle.broker_rows.specs.Left.{HaveEnded}
-use Rattle.broker_rows.specs.RepresentingLaws.{represents_dropped, represents_waiting}
+use Rattle.broker_model.specs.Words.{refl, sym, ap, ◌∙◌, subst, Err, err_from_is_err_and, Broker, honest_before}
+use Rattle.broker_rows.specs.Words.{HaveEnded, represents_dropped, represents_waiting}
 use Rattle.token_operations.specs.Revoked.{left_by}
 use Rattle.token_operations.proofs.revocation.revoke.Goals as goal
 

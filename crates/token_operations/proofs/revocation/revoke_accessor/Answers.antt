@@ -1,9 +1,5 @@
-use Rattle.std.specs.Prelude.{Err, Some}
-use Rattle.std.proofs.Common.{sym, ap, ◌∙◌}
-use Rattle.std.proofs.lemmas.Result.{err_from_is_err_and}
-use Rattle.records.specs.CallLaws.{honest_before}
-use Rattle.broker_model.specs.Forms.{forms}
-use Rattle.broker_rows.specs.RepresentingLaws.{represents_tokens, still_represented}
+use Rattle.broker_model.specs.Words.{Err, Some, sym, ap, ◌∙◌, err_from_is_err_and, honest_before, forms}
+use Rattle.broker_rows.specs.Words.{represents_tokens, still_represented}
 use Rattle.token_operations.proofs.Holders.{acts_on_holder}
 use Rattle.token_operations.proofs.revocation.revoke_accessor.Goals as goal
 

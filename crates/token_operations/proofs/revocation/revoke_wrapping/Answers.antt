@@ -1,6 +1,5 @@
-use Rattle.std.proofs.Common.{sym, ap, ◌∙◌, Err}
-use Rattle.std.proofs.lemmas.Result.{err_from_is_err_and}
-use Rattle.broker_rows.specs.RepresentingLaws.{represents_waiting, still_represented}
+use Rattle.broker_model.specs.Words.{sym, ap, ◌∙◌, Err, err_from_is_err_and}
+use Rattle.broker_rows.specs.Words.{represents_waiting, still_represented}
 use Rattle.token_operations.proofs.Holders.{acts_on_neither, acts_on_wrapping}
 use Rattle.token_operations.proofs.revocation.revoke_wrapping.Goals as goal
 

@@ -1,6 +1,5 @@
-use Rattle.std.proofs.Common.{◌∙◌, ap}
-use Rattle.broker_model.specs.parts.TokenReplies.{auth_of}
-use Rattle.broker_rows.specs.Context.{Context}
+use Rattle.broker_model.specs.Words.{◌∙◌, ap, auth_of}
+use Rattle.broker_rows.specs.Words.{Context}
 use Rattle.token_operations.proofs.shown.auth_reply.Goals as goal
 
 pub returns : goal.returns

@@ -1,8 +1,5 @@
-use Rattle.std.proofs.Common.{false, Some, None, ◌∙◌, ap}
-use Rattle.broker_types.specs.Identifier.{id}
-use Rattle.broker_types.specs.Names.{names_of}
-use Rattle.api_json.specs.Objects.{auth_object}
-use Rattle.broker_rows.specs.Context.{Context}
+use Rattle.broker_model.specs.Words.{false, Some, None, ◌∙◌, ap, id, names_of, auth_object}
+use Rattle.broker_rows.specs.Words.{Context}
 use Rattle.token_operations.proofs.shown.reply_of.Goals as goal
 
 pub returns : goal.returns

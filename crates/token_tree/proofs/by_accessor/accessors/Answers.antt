@@ -1,8 +1,6 @@
-use Rattle.std.proofs.Common.{[], ap, ◌∙◌, sym, subst}
-use Rattle.std.specs.List.{AllByRecursion}
-use Rattle.std.proofs.lemmas.Result.{IfOk-weaker}
-use Rattle.records.specs.CallLaws.{each_fault, not_damaged, decode_fault}
-use Rattle.token_tree.specs.Accessors.{IsAccessorRow, with_accessors}
+use Rattle.records.specs.Words.{[], ap, ◌∙◌, sym, subst, AllByRecursion, IfOk-weaker, each_fault, not_damaged}
+use Rattle.records.specs.Words.{decode_fault}
+use Rattle.token_tree.specs.Words.{IsAccessorRow, with_accessors}
 use Rattle.token_tree.proofs.Names.{accessors_listed, accessors_readable, collected}
 use Rattle.token_tree.proofs.by_accessor.accessors.Goals as goal
 

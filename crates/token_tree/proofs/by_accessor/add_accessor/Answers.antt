@@ -1,9 +1,6 @@
-use Rattle.std.proofs.Common.{◌≡◌, [], ◌∷◌, ◌++◌, true, false, ap, sym, ◌∙◌, if◌then◌else◌}
-use Rattle.broker_types.specs.Text.{Text}
-use Rattle.records.specs.declared.row.Row.{Row}
-use Rattle.records.specs.Kind.{RowKey}
-use Rattle.token_tree.specs.AccessorLaws.{names_of_row}
-use Rattle.token_tree.specs.Accessors.{names_token, is_of_token}
+use Rattle.std.proofs.Common.{◌≡◌, ◌∷◌, ◌++◌, if◌then◌else◌, [], true, false, ap, sym, ◌∙◌}
+use Rattle.records.specs.Words.{Text, RowKey}
+use Rattle.token_tree.specs.Words.{Row, names_of_row, names_token, is_of_token}
 use Rattle.token_tree.proofs.by_accessor.add_accessor.Goals as goal
 
 pub returns-in_ok-push-in-Token-clause-found : goal.returns-in_ok-push-in-Token-clause-found

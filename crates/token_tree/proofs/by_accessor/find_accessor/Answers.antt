@@ -1,14 +1,8 @@
-use Rattle.std.proofs.Common.{Some, refl, sym, ap, ◌∙◌}
-use Rattle.std.specs.Prelude.{option_and_then}
-use Rattle.std.proofs.lemmas.Result.{err_from_is_err_and}
-use Rattle.broker_types.specs.Map.{get}
-use Rattle.broker_types.specs.OptionLaws.{mapped, mapped_none}
+use Rattle.records.specs.Words.{Some, refl, sym, ap, ◌∙◌, option_and_then, err_from_is_err_and, get, mapped}
+use Rattle.records.specs.Words.{mapped_none, accessor_row, none_of, ok_inj}
 use Rattle.records.specs.declared.holder.Holder.TheVariants as holder
 use Rattle.records.specs.declared.kind.Kind.TheVariants as kind
-use Rattle.records.specs.declared.row.Row.{Row}
-use Rattle.records.specs.RowForms.{accessor_row}
-use Rattle.records.specs.ValueLaws.{none_of, ok_inj}
-use Rattle.token_tree.specs.Accessors.{named_row, token_of}
+use Rattle.token_tree.specs.Words.{Row, named_row, token_of}
 use Rattle.token_tree.proofs.Names.{all_named, row_named, token_named}
 use Rattle.token_tree.proofs.by_accessor.find_accessor.Goals as goal
 

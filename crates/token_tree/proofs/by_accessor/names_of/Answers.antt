@@ -1,11 +1,6 @@
 use Rattle.std.proofs.Common.{◌≡◌, ◌+◌, ◌∷◌, sym, ap, ◌∙◌, subst, drop}
-use Rattle.std.proofs.lemmas.List.{drop_more}
-use Rattle.std.proofs.lemmas.Result.{err_from_is_err_and}
-use Rattle.std.specs.List.{AllByRecursion}
-use Rattle.records.specs.declared.row.Row.{Row}
-use Rattle.records.specs.CallLaws.{decode_then}
-use Rattle.records.specs.Kind.{RowKey}
-use Rattle.token_tree.specs.Accessors.{IsAccessorRow, with_accessors}
+use Rattle.records.specs.Words.{drop_more, err_from_is_err_and, AllByRecursion, decode_then, RowKey}
+use Rattle.token_tree.specs.Words.{Row, IsAccessorRow, with_accessors}
 use Rattle.token_tree.proofs.by_accessor.names_of.Goals as goal
 
 pub returns-in_err-add_accessor-clause-faults : goal.returns-in_err-add_accessor-clause-faults

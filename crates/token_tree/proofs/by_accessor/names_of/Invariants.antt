@@ -1,6 +1,6 @@
 use Rattle.std.proofs.Common.{◌≡◌, [], drop}
-use Rattle.std.specs.List.{AllByRecursion}
-use Rattle.token_tree.specs.Accessors.{IsAccessorRow, with_accessors}
+use Rattle.records.specs.Words.{AllByRecursion}
+use Rattle.token_tree.specs.Words.{IsAccessorRow, with_accessors}
 use Rattle.token_tree.proofs.by_accessor.names_of.Given as goal
 
 -- to add what is left leads to the same names

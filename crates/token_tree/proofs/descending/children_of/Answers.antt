@@ -1,8 +1,7 @@
-use Rattle.std.proofs.Common.{◌≡◌, ◌==◌, [], ◌∷◌, true, List, ℕ, length, subst, sym, ap, ◌∙◌, arith, eqb→eq, refl}
-use Rattle.std.proofs.Common.{true≢false}
+use Rattle.std.proofs.Common.{◌≡◌, ◌==◌, ◌∷◌, [], true, List, ℕ, length, subst, sym, ap, ◌∙◌, arith, eqb→eq, refl}
+use Rattle.records.specs.Words.{true≢false, IfOk-weaker}
 use lib.Dec.{T}
-use Rattle.std.proofs.lemmas.Result.{IfOk-weaker}
-use Rattle.token_tree.specs.Walks.{children}
+use Rattle.token_tree.specs.Words.{children}
 use Rattle.token_tree.proofs.Found.{no_children, owned_children}
 use Rattle.token_tree.proofs.descending.children_of.Goals as goal
 

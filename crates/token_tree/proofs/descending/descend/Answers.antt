@@ -1,10 +1,6 @@
-use Rattle.std.proofs.Common.{rules, ◌≡◌, ◌<◌, ◌+◌, ◌++◌, length, get_or, filter, not, sym, ap, ◌∙◌, subst, refl, arith}
-use Rattle.records.specs.CallLaws.{honest_before}
-use Rattle.records.specs.Kind.{RowKey}
-use Rattle.records.specs.Transaction.{IsHonest}
-use Rattle.records.specs.declared.row.Row.{Row}
-use Rattle.token_tree.specs.Starts.{starts}
-use Rattle.token_tree.specs.Walks.{children, Descends}
+use Rattle.std.proofs.Common.{◌≡◌, ◌<◌, ◌+◌, ◌++◌, rules, length, get_or, filter, not, sym, ap, ◌∙◌, subst, refl, arith}
+use Rattle.records.specs.Words.{honest_before, RowKey, IsHonest}
+use Rattle.token_tree.specs.Words.{Row, starts, children, Descends}
 use Rattle.token_tree.proofs.Below.{descends_first, descends_further}
 use Rattle.token_tree.proofs.Walks.{IsWalk, walk_begins, walk_goes_on, walk_ends}
 use Rattle.token_tree.proofs.descending.descend.Goals as goal

@@ -1,7 +1,6 @@
 use Rattle.std.proofs.Common.{◌≡◌, ◌-◌, ◌^◌, false}
-use Rattle.records.specs.Transaction.{IsHonest, GoesOn}
-use Rattle.token_tree.specs.Starts.{starts}
-use Rattle.token_tree.specs.Walks.{AreStarted, Descends}
+use Rattle.records.specs.Words.{IsHonest, GoesOn}
+use Rattle.token_tree.specs.Words.{starts, AreStarted, Descends}
 use Rattle.token_tree.proofs.Walks.{IsWalk}
 use Rattle.token_tree.proofs.descending.descend.Given as goal
 

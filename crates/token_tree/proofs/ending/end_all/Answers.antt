@@ -1,14 +1,6 @@
-use Rattle.std.proofs.Common.{rules, sym, ap, ◌∙◌, subst}
-use Rattle.std.proofs.lemmas.Result.{err_from_is_err_and}
-use Rattle.std.specs.List.{AllByRecursion}
-use Rattle.records.specs.CallLaws.{honest_before, fault_then}
-use Rattle.records.specs.Parts.{of_tokens, KeepsOthers}
-use Rattle.records.specs.Table.{table_of}
-use Rattle.records.specs.Transaction.{IsHonest}
-use Rattle.token_tree.specs.Endings.{EndsDescent}
-use Rattle.token_tree.specs.Removed.{without_each, IsTokenRow}
-use Rattle.token_tree.specs.Starts.{starts}
-use Rattle.token_tree.specs.Walks.{AreStarted, HasDamagedDescent}
+use Rattle.records.specs.Words.{rules, sym, ap, ◌∙◌, subst, err_from_is_err_and, AllByRecursion, honest_before}
+use Rattle.records.specs.Words.{fault_then, of_tokens, KeepsOthers, table_of, IsHonest}
+use Rattle.token_tree.specs.Words.{EndsDescent, without_each, IsTokenRow, starts, AreStarted, HasDamagedDescent}
 use Rattle.token_tree.proofs.Found.{found_ends, found_damaged, each_keeps}
 use Rattle.token_tree.proofs.ending.end_all.Goals as goal
 

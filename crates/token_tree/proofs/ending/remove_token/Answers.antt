@@ -1,13 +1,8 @@
 use Rattle.std.proofs.Common.{◌≡◌, sym, ap, ◌∙◌}
 use Rattle.std.specs.FinMap as map
 use Rattle.records.specs.declared.kind.Kind.TheVariants as kind
-use Rattle.records.specs.declared.row.Row.{Row}
-use Rattle.records.specs.AccessorLaws.{token_tells}
-use Rattle.records.specs.Accessors.{accessor_in}
-use Rattle.records.specs.Kind.{RowKey}
-use Rattle.records.specs.TokenEntry.{TokenEntry}
-use Rattle.std.proofs.lemmas.Result.{on_ok_weaker}
-use Rattle.records.specs.CallLaws.{honest_before}
+use Rattle.token_tree.specs.Words.{Row}
+use Rattle.records.specs.Words.{token_tells, accessor_in, RowKey, TokenEntry, on_ok_weaker, honest_before}
 use Rattle.token_tree.proofs.ending.remove_token.Goals as goal
 
 pub returns-clause-rows : goal.returns-clause-rows

@@ -1,7 +1,6 @@
 use Rattle.std.proofs.Common.{◌≡◌, false, drop}
-use Rattle.std.specs.List.{AllByRecursion}
-use Rattle.records.specs.Transaction.{IsHonest, GoesOn}
-use Rattle.token_tree.specs.Removed.{without_each, IsTokenRow}
+use Rattle.records.specs.Words.{AllByRecursion, IsHonest, GoesOn}
+use Rattle.token_tree.specs.Words.{without_each, IsTokenRow}
 use Rattle.token_tree.proofs.ending.remove_tokens.Given as goal
 
 -- to take out what is left leads to the same rows

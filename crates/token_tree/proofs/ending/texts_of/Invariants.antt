@@ -1,6 +1,6 @@
 use Rattle.std.proofs.Common.{◌≡◌, ◌++◌, drop, map}
-use Rattle.records.specs.declared.row.Row.{Row}
-use Rattle.records.specs.Kind.{RowKey}
+use Rattle.token_tree.specs.Words.{Row}
+use Rattle.records.specs.Words.{RowKey}
 use Rattle.token_tree.proofs.ending.texts_of.Given as goal
 
 -- what is copied so far and what is to be copied

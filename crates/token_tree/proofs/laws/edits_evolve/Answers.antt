@@ -1,4 +1,4 @@
-use Rattle.token_tree.specs.SoundLaws.{create_evolves, renew_evolves}
+use Rattle.token_tree.specs.Words.{create_evolves, renew_evolves}
 use Rattle.token_tree.proofs.laws.edits_evolve.Goals as goal
 
 pub returns-clause-created : goal.returns-clause-created

@@ -1,4 +1,4 @@
-use Rattle.token_tree.specs.SoundLaws.{create_sound, renew_sound}
+use Rattle.token_tree.specs.Words.{create_sound, renew_sound}
 use Rattle.token_tree.proofs.laws.edits_keep_soundness.Goals as goal
 
 pub returns-clause-created : goal.returns-clause-created

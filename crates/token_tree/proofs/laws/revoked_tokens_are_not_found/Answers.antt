@@ -1,9 +1,5 @@
-use Rattle.std.proofs.Common.{sym, ◌∙◌, ap}
-use Rattle.std.specs.Prelude.{option_map}
-use Rattle.broker_types.specs.Broker.{revoke, revoke_orphan}
-use Rattle.broker_types.specs.LineageLaws.{revoke_under, revoke_other}
-use Rattle.broker_types.specs.TreeLaws.{orphan_child}
-use Rattle.records.specs.RowForms.{token_row}
+use Rattle.records.specs.Words.{sym, ◌∙◌, ap, option_map, revoke, revoke_orphan, revoke_under, revoke_other}
+use Rattle.records.specs.Words.{orphan_child, token_row}
 use Rattle.token_tree.proofs.Singles.{row_told}
 use Rattle.token_tree.proofs.laws.revoked_tokens_are_not_found.Goals as goal
 

@@ -1,4 +1,4 @@
-use Rattle.token_tree.specs.EndedLaws.{ended_by_revocation, ended_by_revocation_alone, ended_by_now}
+use Rattle.token_tree.specs.Words.{ended_by_revocation, ended_by_revocation_alone, ended_by_now}
 use Rattle.token_tree.proofs.laws.tokens_end_as_defined.Goals as goal
 
 pub returns-clause-revoked : goal.returns-clause-revoked

@@ -1,15 +1,9 @@
-use Rattle.std.proofs.Common.{◌≡◌, [], ◌∷◌, ap, sym, ◌∙◌, refl, subst}
-use Rattle.std.proofs.lemmas.Option.{none-some}
-use Rattle.std.proofs.lemmas.Result.{err_from_is_err_and}
-use Rattle.records.specs.Parts.{of_tokens, KeepsOthers}
-use Rattle.records.specs.Table.{table_of}
-use Rattle.records.specs.CallLaws.{honest_before, goes_further, fault_then, not_damaged, read_fault}
-use Rattle.records.specs.ValueLaws.{none_of}
+use Rattle.std.proofs.Common.{◌≡◌, ◌∷◌, [], ap, sym, ◌∙◌, refl, subst}
+use Rattle.records.specs.Words.{none-some, err_from_is_err_and, of_tokens, KeepsOthers, table_of, honest_before}
+use Rattle.records.specs.Words.{goes_further, fault_then, not_damaged, read_fault, none_of, IsHonest, rows_under}
+use Rattle.records.specs.Words.{rows_owned}
 use Rattle.records.specs.declared.kind.Kind.TheVariants as kind
-use Rattle.records.specs.Transaction.{IsHonest, rows_under, rows_owned}
-use Rattle.token_tree.specs.Orphaned.{without_parent}
-use Rattle.token_tree.specs.TokenRows.{IsDamagedToken}
-use Rattle.token_tree.specs.Removed.{without_token, IsTokenRow}
+use Rattle.token_tree.specs.Words.{without_parent, IsDamagedToken, without_token, IsTokenRow}
 use Rattle.token_tree.proofs.Ends.{readable}
 use Rattle.token_tree.proofs.Found.{lone_without, lone_readable, readable_lone, owned_orphans}
 use Rattle.token_tree.proofs.Orphans.{revoked_one, revoked_one_each, orphaned_unknown, orphaned_none, is_token}

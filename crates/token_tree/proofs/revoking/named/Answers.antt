@@ -1,8 +1,7 @@
 use Rattle.std.proofs.Common.{◌∷◌, [], sym, ◌∙◌, subst}
 use Rattle.records.specs.declared.kind.Kind.TheVariants as kind
-use Rattle.records.specs.ValueLaws.{none_of}
-use Rattle.token_tree.specs.Ended.{is_named}
-use Rattle.token_tree.specs.Walks.{AreStarted}
+use Rattle.records.specs.Words.{none_of}
+use Rattle.token_tree.specs.Words.{is_named, AreStarted}
 use Rattle.token_tree.proofs.Beginnings.{unnamed, named_once}
 use Rattle.token_tree.proofs.revoking.named.Goals as goal
 

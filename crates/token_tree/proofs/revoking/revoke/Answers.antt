@@ -1,12 +1,6 @@
-use Rattle.std.proofs.Common.{rules, sym, subst}
-use Rattle.std.specs.Prelude.{IfOk, OnOk}
-use Rattle.std.proofs.lemmas.Result.{IfOk-weaker}
-use Rattle.records.specs.CallLaws.{honest_before, fault_then, not_damaged, each_fault}
-use Rattle.records.specs.Parts.{of_tokens, KeepsOthers}
-use Rattle.records.specs.Table.{table_of}
-use Rattle.token_tree.specs.Ended.{is_named}
-use Rattle.token_tree.specs.Endings.{EndsDescent}
-use Rattle.token_tree.specs.Walks.{AreStarted, HasDamagedDescent}
+use Rattle.records.specs.Words.{rules, sym, subst, IfOk, OnOk, IfOk-weaker, honest_before, fault_then, not_damaged}
+use Rattle.records.specs.Words.{each_fault, of_tokens, KeepsOthers, table_of}
+use Rattle.token_tree.specs.Words.{is_named, EndsDescent, AreStarted, HasDamagedDescent}
 use Rattle.token_tree.proofs.Ends.{on_each, undamaged, revocation_told, revocation_ended, revocation_unknown}
 use Rattle.token_tree.proofs.Found.{damaged_descent}
 use Rattle.token_tree.proofs.revoking.revoke.Goals as goal

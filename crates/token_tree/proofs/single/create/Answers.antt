@@ -1,13 +1,8 @@
-use Rattle.std.proofs.Common.{rules, ◌≡◌, sym, ap, ◌∙◌, subst}
+use Rattle.std.proofs.Common.{◌≡◌, rules, sym, ap, ◌∙◌, subst}
 use Rattle.records.specs.declared.kind.Kind.TheVariants as kind
-use Rattle.records.specs.Parts.{of_tokens, Tells}
-use Rattle.records.specs.RowForms.{entry_row}
-use Rattle.records.specs.Table.{Table, table_of, with_row}
-use Rattle.records.specs.TokenEntry.{TokenEntry}
-use Rattle.std.proofs.lemmas.Result.{on_ok_weaker}
-use Rattle.records.specs.CallLaws.{honest_before}
-use Rattle.records.specs.TableLaws.{table_of-insert}
-use Rattle.token_tree.specs.Tokens.{with_token}
+use Rattle.records.specs.Words.{of_tokens, Tells, entry_row, Table, table_of, with_row, TokenEntry, on_ok_weaker}
+use Rattle.records.specs.Words.{honest_before, table_of-insert}
+use Rattle.token_tree.specs.Words.{with_token}
 use Rattle.token_tree.proofs.Singles.{tells_created, put_keeps, accessor_keeps}
 use Rattle.token_tree.proofs.single.create.Goals as goal
 

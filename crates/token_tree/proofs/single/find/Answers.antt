@@ -1,16 +1,8 @@
-use Rattle.std.proofs.Common.{◌≡◌, Some, sym, ap, ◌∙◌, subst, inl, inr}
-use Rattle.std.specs.Prelude.{option_map}
-use Rattle.std.proofs.lemmas.Result.{err_from_is_err_and}
-use Rattle.broker_types.specs.Fault.{IsMemoryOrStorage}
-use Rattle.broker_types.specs.Map.{get}
-use Rattle.records.specs.RowForms.{token_row}
-use Rattle.records.specs.TokenEntry.{token_entry}
-use Rattle.broker_types.specs.OptionLaws.{mapped, mapped_none}
-use Rattle.records.specs.ValueLaws.{none_of}
-use Rattle.records.specs.RangeLaws.{token_in_range}
+use Rattle.std.proofs.Common.{◌≡◌, Some, sym, ap, ◌∙◌, subst, inl, inr, option_map}
+use Rattle.records.specs.Words.{err_from_is_err_and, IsMemoryOrStorage, get, token_row, token_entry, mapped}
+use Rattle.records.specs.Words.{mapped_none, none_of, token_in_range, entry_row}
 use Rattle.token_tree.proofs.Singles.{token_row_at}
 use Rattle.broker_types.specs.declared.fault.Fault.TheVariants as fault
-use Rattle.records.specs.RowForms.{entry_row}
 use Rattle.token_tree.proofs.single.find.Goals as goal
 
 pub returns-in_default-clause-told : goal.returns-in_default-clause-told

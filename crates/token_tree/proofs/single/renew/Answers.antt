@@ -1,11 +1,5 @@
-use Rattle.std.proofs.Common.{Some, sym, ◌∙◌, subst, refl}
-use Rattle.std.proofs.lemmas.Option.{same_Some}
-use Rattle.broker_types.specs.Map.{get}
-use Rattle.broker_types.specs.OptionLaws.{mapped}
-use Rattle.broker_types.specs.Sound.{IsEnd}
-use Rattle.records.specs.Ranges.{IsTokenInRange}
-use Rattle.records.specs.TokenEntry.{token_entry}
-use Rattle.token_tree.specs.Tokens.{with_end}
+use Rattle.records.specs.Words.{Some, sym, ◌∙◌, subst, refl, same_Some, get, mapped, IsEnd, IsTokenInRange, token_entry}
+use Rattle.token_tree.specs.Words.{with_end}
 use Rattle.token_tree.proofs.single.renew.Goals as goal
 
 pub rewrite-requires : goal.rewrite-requires

@@ -1,11 +1,6 @@
-use Rattle.std.proofs.Common.{rules, sym, ap, ◌∙◌, subst}
+use Rattle.records.specs.Words.{rules, sym, ap, ◌∙◌, subst, of_tokens, Tells, entry_row, Table, table_of, with_row}
+use Rattle.records.specs.Words.{on_ok_weaker, table_of-insert, change}
 use Rattle.records.specs.declared.kind.Kind.TheVariants as kind
-use Rattle.records.specs.Parts.{of_tokens, Tells}
-use Rattle.records.specs.RowForms.{entry_row}
-use Rattle.records.specs.Table.{Table, table_of, with_row}
-use Rattle.std.proofs.lemmas.Result.{on_ok_weaker}
-use Rattle.records.specs.TableLaws.{table_of-insert}
-use Rattle.broker_types.specs.Map.{change}
 use Rattle.token_tree.proofs.Singles.{tells_changed_at, put_keeps}
 use Rattle.token_tree.proofs.single.rewrite.Goals as goal
 

@@ -1,22 +1,9 @@
-use Rattle.std.proofs.Common.{◌≡◌, ◌<◌, ◌^◌, ◌-◌, ℕ, Some, None, sym, ap, ◌∙◌, subst, arith, refl}
-use Rattle.std.specs.Prelude.{option_map}
-use Rattle.std.proofs.lemmas.Result.{err_from_is_err_and}
-use Rattle.broker_types.specs.Map.{get}
-use Rattle.broker_types.specs.Token.{Token}
-use Rattle.records.specs.Parts.{of_tokens, Tells}
-use Rattle.records.specs.Rows.{rows_of}
+use Rattle.std.proofs.Common.{◌≡◌, ◌<◌, ◌^◌, ◌-◌, ℕ, Some, None, sym, ap, ◌∙◌, subst, arith, refl, option_map}
+use Rattle.records.specs.Words.{err_from_is_err_and, get, Token, of_tokens, Tells, rows_of, entry_row, table_of}
+use Rattle.records.specs.Words.{with_row, TokenEntry, token_entry, IsTokenInRange, none-some, same_Some, mapped}
+use Rattle.records.specs.Words.{mapped_none, none_of, honest_before, one_less}
 use Rattle.records.specs.declared.kind.Kind.TheVariants as kind
-use Rattle.records.specs.RowForms.{entry_row}
-use Rattle.records.specs.Table.{table_of, with_row}
-use Rattle.records.specs.TokenEntry.{TokenEntry, token_entry}
-use Rattle.records.specs.Ranges.{IsTokenInRange}
-use Rattle.std.proofs.lemmas.Option.{none-some, same_Some}
-use Rattle.broker_types.specs.OptionLaws.{mapped, mapped_none}
-use Rattle.records.specs.ValueLaws.{none_of}
-use Rattle.records.specs.CallLaws.{honest_before}
-use Rattle.broker_types.specs.Spending.{one_less}
-use Rattle.token_tree.specs.TokenRows.{spent_entry}
-use Rattle.token_tree.specs.SpentLaws.{left_entry}
+use Rattle.token_tree.specs.Words.{spent_entry, left_entry}
 use Rattle.token_tree.proofs.Singles.{change_same, row_again}
 use Rattle.token_tree.proofs.single.spend.Goals as goal
 

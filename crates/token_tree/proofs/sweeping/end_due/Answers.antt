@@ -1,11 +1,5 @@
-use Rattle.std.proofs.Common.{IfOk, List, sym, subst}
-use Rattle.std.proofs.lemmas.Result.{IfOk-weaker}
-use Rattle.records.specs.CallLaws.{fault_then, not_damaged, each_fault}
-use Rattle.records.specs.Kind.{RowKey}
-use Rattle.records.specs.declared.row.Row.{Row}
-use Rattle.token_tree.specs.Ended.{has_come}
-use Rattle.token_tree.specs.Endings.{EndsDescent}
-use Rattle.token_tree.specs.Walks.{AreStarted, EndsListed, HasDamagedDescent}
+use Rattle.records.specs.Words.{IfOk, List, sym, subst, IfOk-weaker, fault_then, not_damaged, each_fault, RowKey}
+use Rattle.token_tree.specs.Words.{Row, has_come, EndsDescent, AreStarted, EndsListed, HasDamagedDescent}
 use Rattle.token_tree.proofs.Beginnings.{due_tokens}
 use Rattle.token_tree.proofs.Ends.{on_each, undamaged, expiry_told, expiry_ended}
 use Rattle.token_tree.proofs.sweeping.end_due.Goals as goal

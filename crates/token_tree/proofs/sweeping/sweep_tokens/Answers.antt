@@ -1,13 +1,6 @@
-use Rattle.std.proofs.Common.{rules, sym, subst}
-use Rattle.std.specs.Prelude.{IfOk, OnOk}
-use Rattle.std.proofs.lemmas.Result.{IfOk-weaker}
-use Rattle.records.specs.CallLaws.{honest_before, fault_then, not_damaged, each_fault}
-use Rattle.records.specs.DueRows.{AreDue}
-use Rattle.records.specs.Parts.{of_tokens, KeepsOthers}
-use Rattle.records.specs.Table.{table_of}
-use Rattle.token_tree.specs.Ended.{has_come}
-use Rattle.token_tree.specs.Endings.{EndsDescent}
-use Rattle.token_tree.specs.Walks.{HasDamagedDescent}
+use Rattle.records.specs.Words.{rules, sym, subst, IfOk, OnOk, IfOk-weaker, honest_before, fault_then, not_damaged}
+use Rattle.records.specs.Words.{each_fault, AreDue, of_tokens, KeepsOthers, table_of}
+use Rattle.token_tree.specs.Words.{has_come, EndsDescent, HasDamagedDescent}
 use Rattle.token_tree.proofs.Ends.{on_each, undamaged, expiry_told, expiry_ended}
 use Rattle.token_tree.proofs.Found.{damaged_descent}
 use Rattle.token_tree.proofs.sweeping.sweep_tokens.Goals as goal

@@ -1,7 +1,7 @@
 use Rattle.std.proofs.Common.{◌≡◌, ◌++◌, drop, filter}
 use Rattle.records.specs.declared.kind.Kind.TheVariants as kind
-use Rattle.records.specs.declared.row.Row.{Row}
-use Rattle.records.specs.Kind.{RowKey, is_of_kind}
+use Rattle.token_tree.specs.Words.{Row}
+use Rattle.records.specs.Words.{RowKey, is_of_kind}
 use Rattle.token_tree.proofs.sweeping.tokens_among.Given as goal
 
 -- what is taken so far and what is to be taken

@@ -1,13 +1,6 @@
-use Rattle.std.proofs.Common.{rules, ◌≡◌, Some, sym, ap, ◌∙◌, subst}
-use Rattle.std.specs.Prelude.{is_some}
-use Rattle.std.proofs.lemmas.Result.{err_from_is_err_and}
-use Rattle.broker_types.specs.Map.{get}
-use Rattle.records.specs.CallLaws.{honest_before, fault_then}
-use Rattle.records.specs.Table.{Table, table_of}
-use Rattle.records.specs.Transaction.{IsHonest}
-use Rattle.wrapping.specs.AccessorRows.{NamesAt, IsDamagedName}
-use Rattle.wrapping.specs.WaitingRows.{RepresentsWaiting, IsDamagedWaiting}
-use Rattle.wrapping.specs.Wrapping.{find_accessor}
+use Rattle.std.proofs.Common.{◌≡◌, rules, Some, sym, ap, ◌∙◌, subst, is_some}
+use Rattle.records.specs.Words.{err_from_is_err_and, get, honest_before, fault_then, Table, table_of, IsHonest}
+use Rattle.wrapping.specs.Words.{NamesAt, IsDamagedName, RepresentsWaiting, IsDamagedWaiting, find_accessor}
 use Rattle.wrapping.proofs.Names.{named_damaged}
 use Rattle.wrapping.proofs.Responses.{named_has}
 use Rattle.wrapping.proofs.dropping.drop_accessor.Goals as goal

@@ -1,8 +1,5 @@
-use Rattle.std.proofs.Common.{rules, None, Some, sym, ap, ◌∙◌, inl, inr}
-use Rattle.std.proofs.lemmas.Result.{err_from_is_err_and}
-use Rattle.records.specs.RowForms.{accessor_row}
-use Rattle.records.specs.Table.{table_of}
-use Rattle.records.specs.ValueLaws.{none_of}
+use Rattle.records.specs.Words.{rules, None, Some, sym, ap, ◌∙◌, inl, inr, err_from_is_err_and, accessor_row, table_of}
+use Rattle.records.specs.Words.{none_of}
 use Rattle.wrapping.proofs.Names.{names_told, readable_accessor, unnamed}
 use Rattle.wrapping.proofs.Responses.{accessor_told}
 use Rattle.wrapping.proofs.dropping.find_accessor.Goals as goal

@@ -1,9 +1,5 @@
-use Rattle.std.proofs.Common.{ap, ◌∙◌}
-use Rattle.std.proofs.lemmas.Result.{on_ok_weaker}
+use Rattle.records.specs.Words.{ap, ◌∙◌, on_ok_weaker, honest_before, Table, table_of, without_row, table_of-remove}
 use Rattle.records.specs.declared.kind.Kind.TheVariants as kind
-use Rattle.records.specs.CallLaws.{honest_before}
-use Rattle.records.specs.Table.{Table, table_of, without_row}
-use Rattle.records.specs.TableLaws.{table_of-remove}
 use Rattle.wrapping.proofs.dropping.remove.Goals as goal
 
 pub returns-clause-rows : goal.returns-clause-rows

@@ -1,10 +1,6 @@
-use Rattle.std.proofs.Common.{rules, ◌≡◌, Some, None, sym, ap, ◌∙◌}
-use Rattle.broker_types.specs.Broker.{Waiting}
-use Rattle.broker_types.specs.Map.{get}
-use Rattle.records.specs.CallLaws.{honest_before}
-use Rattle.records.specs.Table.{Table, table_of}
-use Rattle.records.specs.ValueLaws.{none_of}
-use Rattle.wrapping.specs.WaitingRows.{without_response}
+use Rattle.std.proofs.Common.{◌≡◌, rules, Some, None, sym, ap, ◌∙◌}
+use Rattle.records.specs.Words.{Waiting, get, honest_before, Table, table_of, none_of}
+use Rattle.wrapping.specs.Words.{without_response}
 use Rattle.wrapping.proofs.Responses.{tells_unknown, tells_dropped, dropped_keeps}
 use Rattle.wrapping.proofs.dropping.take_out.Goals as goal
 

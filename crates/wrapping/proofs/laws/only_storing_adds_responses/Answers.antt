@@ -1,5 +1,5 @@
-use Rattle.wrapping.specs.ResponseLaws.{store_adds_one, rewrap_adds_none, drop_adds_none, drop_accessor_adds_none}
-use Rattle.wrapping.specs.ResponseLaws.{ends_add_none}
+use Rattle.wrapping.specs.Words.{store_adds_one, rewrap_adds_none, drop_adds_none, drop_accessor_adds_none}
+use Rattle.wrapping.specs.Words.{ends_add_none}
 use Rattle.wrapping.proofs.laws.only_storing_adds_responses.Goals as goal
 
 pub returns-clause-stored : goal.returns-clause-stored

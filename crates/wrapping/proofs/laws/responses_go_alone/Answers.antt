@@ -1,7 +1,5 @@
-use Rattle.std.proofs.Common.{ap}
-use Rattle.std.specs.Option.{option_map_or}
-use Rattle.broker_types.specs.Spending.{drop_waiting}
-use Rattle.wrapping.specs.ResponseLaws.{others_stay, drop_unknown}
+use Rattle.records.specs.Words.{ap, option_map_or, drop_waiting}
+use Rattle.wrapping.specs.Words.{others_stay, drop_unknown}
 use Rattle.wrapping.proofs.Responses.{names_its_own}
 use Rattle.wrapping.proofs.laws.responses_go_alone.Goals as goal
 

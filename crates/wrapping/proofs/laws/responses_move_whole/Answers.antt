@@ -1,4 +1,4 @@
-use Rattle.wrapping.specs.ResponseLaws.{moved_waits, moved_is_gone, moved_is_taken_out, others_wait, rewrap_marks_none}
+use Rattle.wrapping.specs.Words.{moved_waits, moved_is_gone, moved_is_taken_out, others_wait, rewrap_marks_none}
 use Rattle.wrapping.proofs.laws.responses_move_whole.Goals as goal
 
 pub returns-clause-moved : goal.returns-clause-moved

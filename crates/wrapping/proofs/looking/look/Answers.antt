@@ -1,11 +1,5 @@
-use Rattle.std.proofs.Common.{rules, Some, sym, ap, ◌∙◌}
-use Rattle.std.proofs.lemmas.Result.{err_from_is_err_and}
-use Rattle.broker_types.specs.Map.{get}
-use Rattle.broker_types.specs.OptionLaws.{mapped, mapped_none}
-use Rattle.records.specs.RangeLaws.{waiting_in_range}
-use Rattle.records.specs.RowForms.{waiting_row}
-use Rattle.records.specs.Table.{table_of}
-use Rattle.records.specs.ValueLaws.{none_of, ok_inj}
+use Rattle.records.specs.Words.{rules, Some, sym, ap, ◌∙◌, err_from_is_err_and, get, mapped, mapped_none}
+use Rattle.records.specs.Words.{waiting_in_range, waiting_row, table_of, none_of, ok_inj}
 use Rattle.wrapping.proofs.Responses.{waiting_told}
 use Rattle.wrapping.proofs.looking.look.Goals as goal
 

@@ -1,14 +1,6 @@
 use Rattle.std.proofs.Common.{◌≡◌, Some, sym, ap, ◌∙◌, subst}
-use Rattle.broker_types.specs.Broker.{Broker, Waiting}
-use Rattle.broker_types.specs.Evolves.{IsNew}
-use Rattle.broker_types.specs.Map.{get}
-use Rattle.broker_types.specs.Spending.{drop_waiting}
-use Rattle.records.specs.CallLaws.{honest_before}
-use Rattle.records.specs.Rows.{rows_of}
-use Rattle.records.specs.Table.{table_of}
-use Rattle.wrapping.specs.ResponseLaws.{rewrap_is}
-use Rattle.wrapping.specs.WaitingRows.{TakesOut, with_response}
-use Rattle.wrapping.specs.Wrapping.{moved, with_waiting}
+use Rattle.records.specs.Words.{Broker, Waiting, IsNew, get, drop_waiting, honest_before, rows_of, table_of}
+use Rattle.wrapping.specs.Words.{rewrap_is, TakesOut, with_response, moved, with_waiting}
 use Rattle.wrapping.proofs.Responses.{dropped_represents, dropped_used}
 use Rattle.wrapping.proofs.storing.rewrap.Goals as goal
 

@@ -1,13 +1,8 @@
-use Rattle.std.proofs.Common.{rules, ◌≡◌, sym, ap, ◌∙◌, subst}
-use Rattle.std.proofs.lemmas.Result.{on_ok_weaker}
-use Rattle.broker_types.specs.Broker.{Waiting}
+use Rattle.std.proofs.Common.{◌≡◌, rules, sym, ap, ◌∙◌, subst}
+use Rattle.records.specs.Words.{on_ok_weaker, Waiting, honest_before, of_waiting, Tells, KeepsOthers, waiting_row}
+use Rattle.records.specs.Words.{Table, table_of, with_row, table_of-insert}
 use Rattle.records.specs.declared.kind.Kind.TheVariants as kind
-use Rattle.records.specs.CallLaws.{honest_before}
-use Rattle.records.specs.Parts.{of_waiting, Tells, KeepsOthers}
-use Rattle.records.specs.RowForms.{waiting_row}
-use Rattle.records.specs.Table.{Table, table_of, with_row}
-use Rattle.records.specs.TableLaws.{table_of-insert}
-use Rattle.wrapping.specs.Wrapping.{with_waiting}
+use Rattle.wrapping.specs.Words.{with_waiting}
 use Rattle.wrapping.proofs.Responses.{tells_stored, stored_keeps}
 use Rattle.wrapping.proofs.storing.store.Goals as goal
 

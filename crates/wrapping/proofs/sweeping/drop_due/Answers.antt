@@ -1,8 +1,5 @@
-use Rattle.std.proofs.Common.{sym, subst}
-use Rattle.std.proofs.lemmas.Result.{on_ok_weaker}
-use Rattle.records.specs.CallLaws.{each_fault, fault_then, not_damaged, on_both}
-use Rattle.records.specs.Parts.{of_waiting, KeepsOthers}
-use Rattle.records.specs.Table.{Table, table}
+use Rattle.records.specs.Words.{sym, subst, on_ok_weaker, each_fault, fault_then, not_damaged, on_both, of_waiting}
+use Rattle.records.specs.Words.{KeepsOthers, Table, table}
 use Rattle.wrapping.proofs.DueEntries.{each_keeps, due_read, swept}
 use Rattle.wrapping.proofs.Ended.{all_readable, tells_swept}
 use Rattle.wrapping.proofs.sweeping.drop_due.Goals as goal

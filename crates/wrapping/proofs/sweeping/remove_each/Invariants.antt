@@ -1,7 +1,6 @@
 use Rattle.std.proofs.Common.{◌≡◌, false, drop}
-use Rattle.records.specs.Table.{table}
-use Rattle.records.specs.Transaction.{IsHonest, GoesOn}
-use Rattle.wrapping.specs.DueResponses.{without_each, AreReadable}
+use Rattle.records.specs.Words.{table, IsHonest, GoesOn}
+use Rattle.wrapping.specs.Words.{without_each, AreReadable}
 use Rattle.wrapping.proofs.sweeping.remove_each.Given as goal
 
 -- to take out what is left leads to the same rows

@@ -1,12 +1,6 @@
 use Rattle.std.proofs.Common.{◌≡◌, sym, ap, ◌∙◌}
-use Rattle.std.proofs.lemmas.Result.{on_ok_weaker}
-use Rattle.broker_types.specs.Broker.{Waiting}
-use Rattle.records.specs.declared.row.Row.{Row}
-use Rattle.records.specs.AccessorLaws.{response_tells}
-use Rattle.records.specs.Accessors.{accessor_in}
-use Rattle.records.specs.Kind.{RowKey}
-use Rattle.records.specs.Table.{table}
-use Rattle.wrapping.specs.WaitingRows.{without_response}
+use Rattle.records.specs.Words.{on_ok_weaker, Waiting, response_tells, accessor_in, RowKey, table}
+use Rattle.wrapping.specs.Words.{Row, without_response}
 use Rattle.wrapping.proofs.sweeping.remove_entry.Goals as goal
 
 pub returns-clause-rows : goal.returns-clause-rows

@@ -1,13 +1,7 @@
-use Rattle.std.proofs.Common.{sym, ap, refl, subst}
-use Rattle.std.specs.Prelude.{IfErr, OnOk}
-use Rattle.broker_types.specs.Fault.{IsMemoryOrStorage}
-use Rattle.records.specs.CallLaws.{honest_before, each_fault, fault_then, goes_further}
-use Rattle.records.specs.DueRows.{AreDue}
-use Rattle.records.specs.Parts.{of_waiting, Tells, KeepsOthers}
-use Rattle.records.specs.Table.{Table, table, table_of}
-use Rattle.wrapping.specs.DueResponses.{AreStillDue, Sweeps, IsDamagedDue}
-use Rattle.wrapping.specs.WaitingRows.{RepresentsWaiting}
-use Rattle.wrapping.specs.Wrapping.{without_ended}
+use Rattle.records.specs.Words.{sym, ap, refl, subst, IfErr, OnOk, IsMemoryOrStorage, honest_before, each_fault}
+use Rattle.records.specs.Words.{fault_then, goes_further, AreDue, of_waiting, Tells, KeepsOthers, Table, table}
+use Rattle.records.specs.Words.{table_of}
+use Rattle.wrapping.specs.Words.{AreStillDue, Sweeps, IsDamagedDue, RepresentsWaiting, without_ended}
 use Rattle.wrapping.proofs.sweeping.sweep_waiting.Goals as goal
 
 pub returns-clause-rows : goal.returns-clause-rows

@@ -1,8 +1,7 @@
-use Rattle.std.proofs.Common.{subst, sym, ap, ◌∙◌}
+use Rattle.broker_types.specs.Words.{subst, sym, ap, ◌∙◌}
 use Rattle.serde_json.specs.Written.{has_float, compact_text}
 use Rattle.serde_json.proofs.Views.{view-Object}
-use Rattle.api_json.specs.KeptBodies.{IsKept}
-use Rattle.api_json.specs.Parsed.{members_of}
+use Rattle.api_json.specs.Words.{IsKept, members_of}
 use Rattle.api_json.proofs.KeptObjects.{bodies_kept, given_members}
 use Rattle.api_json.proofs.parsed.Body.into_text.Goals as goal
 

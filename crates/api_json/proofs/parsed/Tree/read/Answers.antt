@@ -1,4 +1,4 @@
-use Rattle.std.proofs.Common.{sym, ap, ◌∙◌, option_map}
+use Rattle.broker_types.specs.Words.{sym, ap, ◌∙◌, option_map}
 use Rattle.serde_json.specs.View.{view}
 use Rattle.api_json.proofs.Bodies.{value_shallow}
 use Rattle.api_json.proofs.parsed.Tree.read.Goals as goal

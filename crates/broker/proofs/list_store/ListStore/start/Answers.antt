@@ -1,8 +1,5 @@
-use Rattle.std.proofs.Common.{rules, ℕ, None, subst}
-use Rattle.broker_types.specs.First.{first_broker}
-use Rattle.broker_types.specs.Names.{accessor_word}
-use Rattle.records.specs.ListRows.{list_rows}
-use Rattle.broker_rows.specs.Representing.{Represents}
+use Rattle.broker_model.specs.Words.{rules, ℕ, None, subst, first_broker, accessor_word, list_rows}
+use Rattle.broker_rows.specs.Words.{Represents}
 use Rattle.broker.proofs.list_store.ListStore.start.Goals as goal
 
 pub returns-clause-told : goal.returns-clause-told

@@ -1,26 +1,11 @@
+use Rattle.std.proofs.Common.{◌≡◌, Option, Some, None, refl, sym, ap, ◌∙◌, subst}
 use Rattle.std.specs.FinMap as map
-use Rattle.std.specs.Prelude.{◌≡◌, Option, Some, None}
-use Rattle.std.proofs.Common.{refl, sym, ap, ◌∙◌, subst}
-use Rattle.std.proofs.lemmas.Option.{same_Some}
-use Rattle.std.proofs.lemmas.Result.{err_from_is_err_and}
-use Rattle.broker_types.specs.Spending.{drop_waiting}
-use Rattle.broker_types.specs.Text.{Text}
-use Rattle.records.specs.CallLaws.{honest_before}
-use Rattle.records.specs.Ranges.{IsTokenInRange}
-use Rattle.records.specs.Table.{table_of}
-use Rattle.records.specs.TableLaws.{table_of-injective}
-use Rattle.records.specs.TokenEntry.{TokenEntry}
-use Rattle.records.specs.Transaction.{Rows}
-use Rattle.records.specs.ValueLaws.{none_of}
+use Rattle.broker_model.specs.Words.{same_Some, err_from_is_err_and, drop_waiting, Text, honest_before, IsTokenInRange}
+use Rattle.broker_model.specs.Words.{table_of, table_of-injective, TokenEntry, Rows, none_of, nothing_spent, SpendsUse}
+use Rattle.broker_model.specs.Words.{forms, Outcome, denied, for_caller}
 use Rattle.records.specs.declared.kind.Kind.TheVariants as kind
-use Rattle.token_tree.specs.SpentLaws.{nothing_spent}
-use Rattle.token_tree.specs.TokenRows.{SpendsUse}
-use Rattle.broker_model.specs.Forms.{forms}
-use Rattle.broker_model.specs.Order.{Outcome, denied, for_caller}
-use Rattle.broker_rows.specs.Caller.{Caller}
-use Rattle.broker_rows.specs.RepresentingLaws.{represents_dropped, represents_tokens, represents_waiting}
-use Rattle.broker_rows.specs.RepresentingLaws.{still_represented}
-use Rattle.broker_rows.specs.SpendingLaws.{represents-spend}
+use Rattle.broker_rows.specs.Words.{Caller, represents_dropped, represents_tokens, represents_waiting}
+use Rattle.broker_rows.specs.Words.{still_represented, represents-spend}
 use Rattle.broker.specs.Stages.{IsCaller}
 use Rattle.broker.proofs.StepParts.{entry_called, nothing_called}
 use Rattle.broker.proofs.order.caller.find_caller.Goals as goal

@@ -1,13 +1,7 @@
-use Rattle.std.specs.Prelude.{Ok}
-use Rattle.std.proofs.Common.{sym, ◌∙◌, ap}
-use Rattle.std.proofs.lemmas.Result.{IfOk-weaker}
-use Rattle.records.specs.Parts.{of_cubbyholes}
-use Rattle.mounts.specs.Route.{Route}
-use Rattle.mounts.specs.declared.operation.Facts.{Facts}
-use Rattle.mounts.specs.declared.operation.Stores.{Stores}
+use Rattle.broker_model.specs.Words.{Ok, sym, ◌∙◌, ap, IfOk-weaker, of_cubbyholes, Route, Facts, Stores, stored}
+use Rattle.broker_model.specs.Words.{stored_at, has_stored}
 use Rattle.broker_model.specs.Capabilities as capabilities
-use Rattle.broker_model.specs.Capabilities.{stored, stored_at, has_stored}
-use Rattle.broker_rows.specs.RepresentingLaws.{caller_len, tells_part}
+use Rattle.broker_rows.specs.Words.{caller_len, tells_part}
 use Rattle.broker.proofs.order.capability.is_there.Goals as goal
 
 pub returns-in-Object-clause-told : goal.returns-in-Object-clause-told

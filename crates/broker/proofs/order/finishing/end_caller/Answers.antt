@@ -1,5 +1,5 @@
-use Rattle.std.proofs.Common.{subst}
-use Rattle.broker_rows.specs.Representing.{Represents}
+use Rattle.broker_model.specs.Words.{subst}
+use Rattle.broker_rows.specs.Words.{Represents}
 use Rattle.broker.specs.Stages.{may_be_spent}
 use Rattle.broker.proofs.UnspentStays.{unspent_ended}
 use Rattle.broker.proofs.order.finishing.end_caller.Goals as goal

@@ -1,4 +1,4 @@
-use Rattle.std.proofs.Common.{subst}
+use Rattle.broker_model.specs.Words.{subst}
 use Rattle.broker.specs.Stages.{HasServed, may_be_spent}
 use Rattle.broker.proofs.Finishing.{finish_served}
 use Rattle.broker.proofs.order.finishing.finish.Goals as goal

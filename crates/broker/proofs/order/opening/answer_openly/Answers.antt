@@ -1,9 +1,4 @@
-use Rattle.std.proofs.Common.{None, Err, Result}
-use Rattle.std.proofs.lemmas.Result.{IfOk-weaker}
-use Rattle.broker_types.specs.Names.{names_of}
-use Rattle.broker_types.specs.declared.refusal.Refusal.{Refusal}
-use Rattle.broker_model.specs.Order.{Wrapped}
-use Rattle.broker_model.specs.ServedAsks.{served}
+use Rattle.broker_model.specs.Words.{None, Err, Result, IfOk-weaker, names_of, Refusal, Wrapped, served}
 use Rattle.broker.specs.Stages.{HasServed}
 use Rattle.broker.proofs.Finishing.{openly_refused, openly_served}
 use Rattle.broker.proofs.order.opening.answer_openly.Goals as goal

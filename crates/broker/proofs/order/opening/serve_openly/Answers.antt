@@ -1,14 +1,8 @@
-use Rattle.std.proofs.Common.{None, Err, sym, ap, ◌∙◌}
-use Rattle.std.proofs.lemmas.Result.{err_from_is_err_and}
-use Rattle.records.specs.CallLaws.{honest_before, on_answer_weaker}
-use Rattle.broker_types.specs.Names.{names_of}
-use Rattle.mounts.specs.Route.{Route}
-use Rattle.broker_model.specs.Command.{command_for}
-use Rattle.broker_rows.specs.Operating.{Begins, IsWellFormed}
-use Rattle.broker_rows.specs.RepresentingLaws.{mounts_there, still_represented}
+use Rattle.broker_model.specs.Words.{None, Err, sym, ap, ◌∙◌, err_from_is_err_and, honest_before, on_answer_weaker}
+use Rattle.broker_model.specs.Words.{names_of, Route, command_for}
+use Rattle.broker_rows.specs.Words.{Begins, IsWellFormed, mounts_there, still_represented}
 use Rattle.broker.specs.Meant.{meant}
-use Rattle.broker.proofs.Routes.{allowed_openly, found_is, is_meant, not_meant, not_routed, served_allowed}
-use Rattle.broker.proofs.Routes.{served_by}
+use Rattle.broker.proofs.Routes.{allowed_openly, found_is, is_meant, not_meant, not_routed, served_allowed, served_by}
 use Rattle.broker.proofs.EngineRoutes.{mount_named}
 use Rattle.broker.proofs.order.opening.serve_openly.Goals as goal
 

@@ -1,19 +1,7 @@
-use Rattle.std.specs.Prelude.{List, drop, nat_lt, take}
-use Rattle.std.proofs.Common.{◌≡◌, true, Err, sym, ap, ◌∙◌, subst, get_or}
-use Rattle.std.proofs.Math.Seq.{take-length}
-use Rattle.std.proofs.lemmas.Bool.{and_parts, ltb-true}
-use Rattle.std.proofs.lemmas.List.{length-drop}
-use Rattle.std.proofs.lemmas.Result.{err_from_is_err_and}
-use Rattle.broker_types.specs.Names.{names_of}
-use Rattle.broker_types.specs.Operation.{Done}
-use Rattle.broker_types.specs.Sound.{IsIdentifier}
-use Rattle.broker_types.specs.Text.{Text}
-use Rattle.broker_types.specs.Used.{are_new}
-use Rattle.records.specs.CallLaws.{honest_before}
-use Rattle.broker_model.specs.Order.{wrap_200}
-use Rattle.broker_model.specs.ServedAsks.{is_wrapped}
-use Rattle.broker_model.specs.Step.{traits}
-use Rattle.broker_rows.specs.Operating.{ArePrinted}
+use Rattle.std.proofs.Common.{◌≡◌, List, drop, nat_lt, take, true, Err, sym, ap, ◌∙◌, subst, get_or, ltb-true}
+use Rattle.broker_model.specs.Words.{take-length, and_parts, length-drop, err_from_is_err_and, names_of, Done}
+use Rattle.broker_model.specs.Words.{IsIdentifier, Text, are_new, honest_before, wrap_200, is_wrapped, traits}
+use Rattle.broker_rows.specs.Words.{ArePrinted}
 use Rattle.broker.specs.Askers.{who_of}
 use Rattle.broker.specs.Meant.{meant}
 use Rattle.broker.specs.Stages.{IsServed}

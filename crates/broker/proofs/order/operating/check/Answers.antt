@@ -1,7 +1,6 @@
 use Rattle.std.proofs.Common.{◌≡◌, false, sym, ap, ◌∙◌}
-use Rattle.broker_types.specs.Used.{are_new}
-use Rattle.broker_model.specs.ServedAsks.{needed_by}
-use Rattle.broker_rows.specs.RepresentingLaws.{still_represented}
+use Rattle.broker_model.specs.Words.{are_new, needed_by}
+use Rattle.broker_rows.specs.Words.{still_represented}
 use Rattle.broker.specs.Meant.{meant}
 use Rattle.broker.proofs.Routes.{operated_used}
 use Rattle.broker.proofs.order.operating.check.Goals as goal

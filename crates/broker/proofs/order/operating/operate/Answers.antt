@@ -1,10 +1,6 @@
 use Rattle.std.proofs.Common.{◌≡◌, true, sym, ap, ◌∙◌}
-use Rattle.std.proofs.lemmas.Result.{err_from_is_err_and}
-use Rattle.broker_types.specs.Names.{names_of}
-use Rattle.broker_types.specs.Used.{are_new}
-use Rattle.records.specs.CallLaws.{honest_before}
-use Rattle.broker_model.specs.ServedAsks.{needed_by}
-use Rattle.broker_rows.specs.Context.{Context}
+use Rattle.broker_model.specs.Words.{err_from_is_err_and, names_of, are_new, honest_before, needed_by}
+use Rattle.broker_rows.specs.Words.{Context}
 use Rattle.broker.specs.Askers.{who_of}
 use Rattle.broker.specs.Meant.{meant}
 use Rattle.broker.proofs.Asked.{begins_represented, begins_still}

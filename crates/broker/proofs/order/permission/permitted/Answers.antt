@@ -1,17 +1,7 @@
-use Rattle.std.specs.Prelude.{◌≢◌, List, None, Some, true, false}
-use Rattle.std.proofs.Common.{rules, sym, ◌∙◌, ap, subst}
-use Rattle.std.proofs.lemmas.Option.{same_Some}
-use Rattle.std.proofs.lemmas.Result.{err_from_is_err_and}
-use Rattle.broker_types.specs.Map.{get}
-use Rattle.broker_types.specs.Text.{Text}
-use Rattle.records.specs.CallLaws.{honest_before}
-use Rattle.api_json.specs.KeptBodies.{is_object}
-use Rattle.policies.specs.Grants.{rules_of}
-use Rattle.broker_model.specs.Capabilities.{asked_by, has_stored}
-use Rattle.broker_model.specs.Permission.{may}
-use Rattle.broker_rows.specs.Caller.{AreRulesAt, Caller}
-use Rattle.broker_rows.specs.Representing.{Represents}
-use Rattle.broker_rows.specs.RepresentingLaws.{named_policies_there, still_represented}
+use Rattle.std.proofs.Common.{◌≢◌, List, None, Some, true, false, rules, sym, ◌∙◌, ap, subst}
+use Rattle.broker_model.specs.Words.{same_Some, err_from_is_err_and, get, Text, honest_before, is_object, rules_of}
+use Rattle.broker_model.specs.Words.{asked_by, has_stored, may}
+use Rattle.broker_rows.specs.Words.{AreRulesAt, Caller, Represents, named_policies_there, still_represented}
 use Rattle.broker.proofs.Permitted.{permitted_told, rules_before}
 use Rattle.broker.proofs.StepParts.{entry_here}
 use Rattle.broker.proofs.order.permission.permitted.Goals as goal

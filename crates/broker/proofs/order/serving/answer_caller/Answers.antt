@@ -1,14 +1,6 @@
-use Rattle.std.specs.Prelude.{IfOk, Ok}
-use Rattle.std.proofs.Common.{Some, Err, Result, ap, rules, subst, sym}
-use Rattle.broker_types.specs.Names.{names_of}
-use Rattle.broker_types.specs.Text.{Text}
-use Rattle.broker_types.specs.declared.refusal.Refusal.{Refusal}
-use Rattle.broker_types.specs.declared.answer.Answer.{Answer}
-use Rattle.records.specs.CallLaws.{fault_goes_on, honest_before}
-use Rattle.broker_model.specs.Order.{Wrapped, finish}
-use Rattle.broker_model.specs.ServedAsks.{served}
-use Rattle.broker_rows.specs.Caller.{Caller}
-use Rattle.broker_rows.specs.Representing.{Gives}
+use Rattle.broker_model.specs.Words.{IfOk, Ok, Some, Err, Result, ap, rules, subst, sym, names_of, Text, Refusal}
+use Rattle.broker_model.specs.Words.{Answer, fault_goes_on, honest_before, Wrapped, finish, served}
+use Rattle.broker_rows.specs.Words.{Caller, Gives}
 use Rattle.broker.specs.Stages.{HasServed, may_be_spent}
 use Rattle.broker.proofs.UnspentStays.{has_served}
 use Rattle.broker.proofs.order.serving.answer_caller.Goals as goal

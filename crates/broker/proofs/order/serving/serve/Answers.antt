@@ -1,24 +1,11 @@
-use Rattle.std.specs.Prelude.{is_some}
-use Rattle.std.proofs.Common.{◌≡◌, Some, Err, true, false, sym, ap, ◌∙◌, subst}
-use Rattle.std.proofs.lemmas.Option.{same_Some}
-use Rattle.std.proofs.lemmas.Result.{err_from_is_err_and}
-use Rattle.records.specs.Ranges.{IsTokenInRange}
-use Rattle.records.specs.CallLaws.{honest_before}
-use Rattle.records.specs.Transaction.{Rows}
-use Rattle.records.specs.ValueLaws.{none_of, ok_inj}
-use Rattle.broker_types.specs.declared.request_error.RequestError.TheVariants.{Refused}
-use Rattle.broker_types.specs.Names.{names_of}
-use Rattle.broker_types.specs.Path.{is_path}
-use Rattle.mounts.specs.Route.{Route, route_of}
-use Rattle.mounts.specs.RouteTable.{takes_parameter}
-use Rattle.broker_model.specs.Command.{command_for}
-use Rattle.broker_model.specs.Permission.{permits}
-use Rattle.broker_rows.specs.Caller.{Asker, AreRulesAt}
-use Rattle.broker_rows.specs.Operating.{BeginsBy, IsWellFormed}
-use Rattle.broker_rows.specs.RepresentingLaws.{mounts_there, still_represented}
+use Rattle.std.proofs.Common.{◌≡◌, is_some, Some, Err, true, false, sym, ap, ◌∙◌, subst}
+use Rattle.broker_model.specs.Words.{same_Some, err_from_is_err_and, IsTokenInRange, honest_before, Rows, none_of}
+use Rattle.broker_model.specs.Words.{ok_inj, Refused, names_of, is_path, Route, route_of, takes_parameter, command_for}
+use Rattle.broker_model.specs.Words.{permits}
+use Rattle.broker_rows.specs.Words.{Asker, AreRulesAt, BeginsBy, IsWellFormed, mounts_there, still_represented}
 use Rattle.broker.specs.Meant.{meant}
-use Rattle.broker.proofs.Routes.{allowed_to, found_is, is_meant, not_meant, not_served, refused_is}
-use Rattle.broker.proofs.Routes.{served_allowed, served_by, served_nowhere}
+use Rattle.broker.proofs.Routes.{allowed_to, found_is, is_meant, not_meant, not_served, refused_is, served_allowed}
+use Rattle.broker.proofs.Routes.{served_by, served_nowhere}
 use Rattle.broker.proofs.EngineRoutes.{mount_named}
 use Rattle.broker.proofs.order.serving.serve.Goals.{in-Ok, in-Err-Refused}
 use Rattle.broker.proofs.order.serving.serve.Goals as goal

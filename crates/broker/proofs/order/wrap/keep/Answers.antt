@@ -1,16 +1,7 @@
 use Rattle.std.proofs.Common.{◌≡◌, None, ap, sym, subst, ◌∙◌}
-use Rattle.broker_types.specs.Broker.{Waiting}
-use Rattle.broker_types.specs.Evolves.{IsNew}
-use Rattle.broker_types.specs.Names.{names_of}
-use Rattle.broker_types.specs.Operation.{reply}
-use Rattle.broker_types.specs.IdentifierPlaces.{token_identifier}
-use Rattle.broker_types.specs.Sound.{IsSoundWaiting}
-use Rattle.broker_types.specs.TokenText.{token_text}
-use Rattle.records.specs.RangeLaws.{waiting_in_range}
-use Rattle.records.specs.Rows.{rows_of}
-use Rattle.api_json.specs.Reply.{reply_text, wrap_reply}
-use Rattle.broker_model.specs.Order.{wrap_info}
-use Rattle.broker_rows.specs.Done.{counted}
+use Rattle.broker_model.specs.Words.{Waiting, IsNew, names_of, reply, token_identifier, IsSoundWaiting, token_text}
+use Rattle.broker_model.specs.Words.{waiting_in_range, rows_of, reply_text, wrap_reply, wrap_info}
+use Rattle.broker_rows.specs.Words.{counted}
 use Rattle.broker.specs.Wraps.{Wrapping, kept_in, waiting_from}
 use Rattle.broker.proofs.KeptReplies.{accessor_new, kept_served, token_new}
 use Rattle.broker.proofs.order.wrap.keep.Goals as goal

@@ -1,11 +1,6 @@
-use Rattle.std.proofs.Common.{ap, ◌∙◌}
-use Rattle.std.proofs.lemmas.Result.{on_ok_weaker}
-use Rattle.broker_types.specs.Broker.{Waiting}
-use Rattle.records.specs.CallLaws.{honest_before}
-use Rattle.records.specs.RowForms.{used_row}
-use Rattle.records.specs.Table.{with_row}
+use Rattle.broker_model.specs.Words.{ap, ◌∙◌, on_ok_weaker, Waiting, honest_before, used_row, with_row}
 use Rattle.records.specs.declared.kind.Kind.TheVariants as kind
-use Rattle.broker_rows.specs.RepresentingLaws.{represents_waiting}
+use Rattle.broker_rows.specs.Words.{represents_waiting}
 use Rattle.broker.proofs.KeptReplies.{kept_rows}
 use Rattle.broker.proofs.order.wrap.put.Goals as goal
 

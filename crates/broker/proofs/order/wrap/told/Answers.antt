@@ -1,11 +1,5 @@
-use Rattle.std.proofs.Common.{None, ap, sym, ◌∙◌}
-use Rattle.broker_types.specs.Identifier.{id}
-use Rattle.api_json.specs.Objects.{wrap_object}
-use Rattle.api_json.specs.Reply.{wrap_reply}
-use Rattle.broker_types.specs.Broker.{Waiting}
-use Rattle.broker_types.specs.Names.{names_of}
-use Rattle.broker_types.specs.Operation.{reply}
-use Rattle.broker_rows.specs.Context.{Context}
+use Rattle.broker_model.specs.Words.{None, ap, sym, ◌∙◌, id, wrap_object, wrap_reply, Waiting, names_of, reply}
+use Rattle.broker_rows.specs.Words.{Context}
 use Rattle.broker.proofs.order.wrap.told.Goals as goal
 
 pub returns : goal.returns

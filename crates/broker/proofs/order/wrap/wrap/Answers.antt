@@ -1,9 +1,6 @@
-use Rattle.std.specs.Prelude.{IfOk}
-use Rattle.std.proofs.Common.{ap, subst, sym, ◌∙◌}
-use Rattle.broker_types.specs.Names.{names_of}
+use Rattle.broker_model.specs.Words.{IfOk, ap, subst, sym, ◌∙◌, names_of, wrap_200}
 use Rattle.broker_types.specs.Operation as operation
-use Rattle.broker_model.specs.Order.{wrap_200}
-use Rattle.broker_rows.specs.Done.{answered_of}
+use Rattle.broker_rows.specs.Words.{answered_of}
 use Rattle.broker_rows.specs.declared.answered.Answered.{Answered}
 use Rattle.broker.specs.Stages.{IsServed}
 use Rattle.broker.proofs.order.wrap.wrap.Goals as goal

@@ -1,10 +1,5 @@
-use Rattle.std.specs.Prelude.{None}
-use Rattle.std.proofs.Common.{ap, ◌∙◌}
-use Rattle.broker_types.specs.Identifier.{id}
-use Rattle.api_json.specs.Reply.{plain_reply}
-use Rattle.broker_types.specs.Names.{names_of}
-use Rattle.broker_types.specs.Operation.{reply}
-use Rattle.broker_rows.specs.Context.{Context}
+use Rattle.broker_model.specs.Words.{None, ap, ◌∙◌, id, plain_reply, names_of, reply}
+use Rattle.broker_rows.specs.Words.{Context}
 use Rattle.broker_rows.proofs.answered.Answered.shown.Goals as goal
 
 pub returns : goal.returns

@@ -1,5 +1,5 @@
 use Rattle.sqlite.specs.Files.{over_files}
-use Rattle.records_sql.specs.KeptRecords.{kept_records}
+use Rattle.records_sql.specs.Words.{kept_records}
 use Rattle.broker_sql.specs.SqlKept.{sql_kept}
 use Rattle.broker_sql.proofs.AdoptLemmas.{if_two, if_three, found_open, still_empty}
 use Rattle.broker_sql.proofs.adopting.SqlStore+FileStore+FileFrom+S.open_from.Goals as goal

@@ -1,4 +1,4 @@
-use Rattle.std.proofs.Common.{refl}
+use Rattle.broker_model.specs.Words.{refl}
 use Rattle.ram_disk.specs.CleanLaws.{always_clean}
 use Rattle.broker_sql.proofs.sql_store.SqlStore+FileStore+RamFile.in_memory.Goals as goal
 

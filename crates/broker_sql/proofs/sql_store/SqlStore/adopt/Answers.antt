@@ -1,8 +1,6 @@
 use Rattle.std.proofs.Common.{◌≡◌, Ok, Err, Result, sym, ap, ◌∙◌}
-use Rattle.std.proofs.lemmas.Result.{err_from_is_err_and}
-use Rattle.broker_types.specs.declared.fault.Fault.{Fault}
-use Rattle.broker_types.specs.declared.fault.Fault.TheVariants.{BadStart}
-use Rattle.records_sql.specs.KeptRecords.{kept_records}
+use Rattle.broker_model.specs.Words.{err_from_is_err_and, Fault, BadStart}
+use Rattle.records_sql.specs.Words.{kept_records}
 use Rattle.broker_sql.specs.SqlKept.{sql_kept}
 use Rattle.broker_sql.proofs.AdoptLemmas.{upgraded_from}
 use Rattle.broker_sql.proofs.sql_store.SqlStore.adopt.Goals as goal

@@ -1,7 +1,5 @@
-use Rattle.std.proofs.Common.{ℕ, None, subst}
-use Rattle.broker_types.specs.First.{first_broker}
-use Rattle.broker_types.specs.Names.{accessor_word}
-use Rattle.broker_rows.specs.Representing.{Represents}
+use Rattle.broker_model.specs.Words.{ℕ, None, subst, first_broker, accessor_word}
+use Rattle.broker_rows.specs.Words.{Represents}
 use Rattle.broker_sql.specs.SqlKept.{sql_kept}
 use Rattle.broker_sql.proofs.sql_store.SqlStore.start.Goals as goal
 

@@ -1,7 +1,5 @@
 use Rattle.std.proofs.Common.{◌≡◌, refl, ap, [], ◌∙◌, length, subst, rules}
-use Rattle.broker_types.specs.Text.{Text}
-use Rattle.records.specs.CallLaws.{honest_before}
-use Rattle.records.specs.Transaction.{IsHonest, Rows, rows_upto}
+use Rattle.records.specs.Words.{Text, honest_before, IsHonest, Rows, rows_upto}
 use Rattle.database_check.specs.Naming.{IsName}
 use Rattle.database_check.proofs.defect.Defect.at.Goals as goal
 

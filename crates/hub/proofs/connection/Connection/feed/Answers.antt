@@ -1,4 +1,4 @@
-use Rattle.std.proofs.Common.{refl, rules, sym}
+use Rattle.broker_model.specs.Words.{refl, rules, sym}
 use Rattle.hub.proofs.TurnLemmas.{took_turn, answered_within}
 use Rattle.hub.proofs.connection.Connection.feed.Goals as goal
 

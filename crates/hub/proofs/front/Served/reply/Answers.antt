@@ -1,6 +1,6 @@
-use Rattle.std.proofs.Common.{◌≡◌, ◌∙◌, ◌++◌, List, ℕ, ap, sym, subst}
-use Rattle.broker_types.specs.Answer.{response_of}
-use Rattle.http_layer.specs.Reply.{IsReply}
+use Rattle.std.proofs.Common.{◌≡◌, ◌++◌, ◌∙◌, List, ℕ, ap, sym, subst}
+use Rattle.broker_model.specs.Words.{response_of}
+use Rattle.http_layer.specs.Words.{IsReply}
 use Rattle.hub.proofs.front.Served.reply.Goals as goal
 
 pub returns-clause-reply : goal.returns-clause-reply

@@ -1,6 +1,5 @@
-use Rattle.std.proofs.Common.{refl}
-use Rattle.hub.specs.Entries.{connections_in}
-use Rattle.hub.specs.Representing.{hub_connections}
+use Rattle.broker_model.specs.Words.{refl}
+use Rattle.hub.specs.Words.{connections_in, hub_connections}
 use Rattle.hub.proofs.HubLemmas.{closed_represents, unseen_represents}
 use Rattle.hub.proofs.ServingLemmas.{closed_world}
 use Rattle.hub.proofs.hub.Hub.close.Goals as goal

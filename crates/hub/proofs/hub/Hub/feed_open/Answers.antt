@@ -1,7 +1,7 @@
-use Rattle.std.proofs.Common.{ℕ, nat_cmp}
+use Rattle.broker_model.specs.Words.{ℕ}
+use Rattle.std.proofs.Common.{nat_cmp}
 use Rattle.std.specs.BTreeMap.{get}
-use Rattle.hub.specs.Feeding.{Feeds}
-use Rattle.hub.specs.declared.connection.Connection.{Connection}
+use Rattle.hub.specs.Words.{Feeds, Connection}
 use Rattle.hub.proofs.EntryLemmas.{fed_here, fed_others}
 use Rattle.hub.proofs.hub.Hub.feed_open.Goals as goal
 

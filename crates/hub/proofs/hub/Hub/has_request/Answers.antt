@@ -1,4 +1,4 @@
-use Rattle.hub.specs.Representing.{hub_connections}
+use Rattle.hub.specs.Words.{hub_connections}
 use Rattle.hub.proofs.RequestLemmas.{answered_of, none_of}
 use Rattle.hub.proofs.hub.Hub.has_request.Goals as goal
 

@@ -1,5 +1,4 @@
-use Rattle.std.proofs.Common.{ℕ, List, length, ap, arith, length-drop}
-use Rattle.std.proofs.lemmas.Bool.Decides.{nat_tests}
+use Rattle.broker_model.specs.Words.{ℕ, List, length, ap, arith, length-drop, nat_tests}
 use Rattle.hub.proofs.link.Link.is_sending.Goals as goal
 
 pub returns-clause-some : goal.returns-clause-some

@@ -1,7 +1,6 @@
-use Rattle.hub.specs.Supplies.{Supplies}
-use Rattle.hub.specs.SuppliesLaws.{Supplies-nil}
+use Rattle.hub.specs.Words.{Supplies, Supplies-nil}
 use Rattle.hub.proofs.OrderLemmas.{line_still, line_turned, none_at}
-use Rattle.std.proofs.Common.{◌∙◌, sym}
+use Rattle.broker_model.specs.Words.{◌∙◌, sym}
 use Rattle.hub.proofs.order.Line.turn.Goals as goal
 
 pub returns-then-is_some : goal.returns-then-is_some

@@ -1,5 +1,4 @@
-use Rattle.std.proofs.Common.{sym, subst}
-use Rattle.broker_types.specs.Sound.{IsShortText}
+use Rattle.records.specs.Words.{sym, subst, IsShortText}
 use Rattle.records.proofs.Spellings.{text_way}
 use Rattle.records.proofs.FieldReads.{reads_taken}
 use Rattle.records.proofs.field.TextBufFormGlobal.read.Goals as goal

@@ -1,8 +1,5 @@
 use Rattle.std.proofs.Common.{◌≡◌, List, IsPermutation, filter, sym, ap, subst, ◌∙◌}
-use Rattle.records.specs.Kind.{RowKey}
-use Rattle.records.specs.DueRows.{is_due, rows_due}
-use Rattle.records.specs.Transaction.{rows_in}
-use Rattle.records.specs.declared.row.Row.{Row}
+use Rattle.records.specs.Words.{RowKey, is_due, rows_due, rows_in, Row}
 use Rattle.records.proofs.MapLemmas.{lists}
 use Rattle.records.proofs.list.ListTxRecordsTx.due_until.Goals as goal
 

@@ -1,9 +1,5 @@
-use Rattle.std.proofs.Common.{take, filter, nat_eq, ◌&&◌, sym, ap, ◌∙◌}
-use Rattle.std.specs.List.{starts_with}
-use Rattle.std.specs.Ordering.{is_ge}
-use Rattle.broker_types.specs.Text.{text_cmp}
-use Rattle.records.specs.Kind.{RowKey, is_of_kind}
-use Rattle.records.specs.declared.row.Row.{Row}
+use Rattle.std.proofs.Common.{◌&&◌, take, filter, nat_eq, sym, ap, ◌∙◌}
+use Rattle.records.specs.Words.{starts_with, is_ge, text_cmp, RowKey, is_of_kind, Row}
 use Rattle.records.proofs.MapLemmas.{lists}
 use Rattle.records.proofs.list.ListTxRecordsTx.under_from.Goals as goal
 

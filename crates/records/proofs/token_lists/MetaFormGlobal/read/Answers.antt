@@ -1,9 +1,4 @@
-use Rattle.std.proofs.Common.{List, Bool, refl, sym, ap, ◌∙◌}
-use Rattle.std.specs.Prelude.{map}
-use Rattle.std.proofs.lemmas.Bool.{false≢true}
-use Rattle.broker_types.specs.Text.{Text}
-use Rattle.broker_types.specs.Sound.{is_ascending}
-use Rattle.records.specs.SpellingLaws.{meta_way}
+use Rattle.records.specs.Words.{List, Bool, refl, sym, ap, ◌∙◌, map, false≢true, Text, is_ascending, meta_way}
 use Rattle.records.proofs.FieldReads.{reads_taken, reads_refused}
 use Rattle.records.proofs.token_lists.MetaFormGlobal.read.Goals as goal
 

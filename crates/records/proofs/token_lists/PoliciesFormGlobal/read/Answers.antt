@@ -1,7 +1,4 @@
-use Rattle.std.proofs.Common.{refl, sym, ap, ◌∙◌}
-use Rattle.std.proofs.lemmas.Bool.{false≢true}
-use Rattle.broker_types.specs.Sound.{is_ascending}
-use Rattle.records.specs.SpellingLaws.{policies_way}
+use Rattle.records.specs.Words.{refl, sym, ap, ◌∙◌, false≢true, is_ascending, policies_way}
 use Rattle.records.proofs.FieldReads.{reads_taken, reads_refused}
 use Rattle.records.proofs.token_lists.PoliciesFormGlobal.read.Goals as goal
 

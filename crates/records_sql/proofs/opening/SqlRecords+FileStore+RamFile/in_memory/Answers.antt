@@ -1,5 +1,4 @@
-use Rattle.std.proofs.Common.{refl, arith}
-use Rattle.std.proofs.lemmas.Result.{IfOk-weaker}
+use Rattle.records.specs.Words.{refl, arith, IfOk-weaker}
 use Rattle.sqlite.specs.Files.{file_state}
 use Rattle.ram_disk.specs.CleanLaws.{always_clean}
 use Rattle.records_sql.proofs.AdoptLemmas.{none_found}

@@ -1,8 +1,5 @@
-use Rattle.std.proofs.Common.{Option, sym, ap, ◌∙◌}
-use Rattle.std.specs.Ordering.{eq_by_cmp}
-use Rattle.broker_types.specs.Text.{Text, same}
-use Rattle.records.specs.declared.row.Row.{Row}
-use Rattle.records.specs.Kind.{RowKey, key_cmp}
+use Rattle.records.specs.Words.{Option, sym, ap, ◌∙◌, eq_by_cmp, Text, same, RowKey, key_cmp}
+use Rattle.records_sql.specs.Words.{Row}
 use Rattle.records_sql.proofs.AgreeLemmas.{alike}
 use Rattle.records_sql.proofs.remembered.Remembered.is_at.Goals as goal
 

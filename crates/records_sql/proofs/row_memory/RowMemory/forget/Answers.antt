@@ -1,7 +1,5 @@
-use Rattle.std.proofs.Common.{sym, subst}
-use Rattle.std.specs.FinMap.{remove}
-use Rattle.records.specs.Kind.{RowKey}
-use Rattle.records_sql.specs.Memory.{Memory, Agrees, AreFound}
+use Rattle.records.specs.Words.{sym, subst, remove, RowKey}
+use Rattle.records_sql.specs.Words.{Memory, Agrees, AreFound}
 use Rattle.records_sql.proofs.AgreeLemmas.{found_removed, calm_removed}
 use Rattle.records_sql.proofs.row_memory.RowMemory.forget.Goals as goal
 

@@ -1,9 +1,6 @@
 use Rattle.std.proofs.Common.{◌≡◌, ◌%◌, Option, sym, subst, ◌∙◌}
-use Rattle.std.proofs.lemmas.List.Elements.{All-set}
-use Rattle.std.specs.FinMap.{get}
-use Rattle.records.specs.declared.row.Row.{Row}
-use Rattle.records.specs.Kind.{RowKey}
-use Rattle.records_sql.specs.Memory.{Memory, Agrees}
+use Rattle.records.specs.Words.{All-set, get, RowKey}
+use Rattle.records_sql.specs.Words.{Row, Memory, Agrees}
 use Rattle.records_sql.proofs.row_memory.RowMemory.keep.Goals as goal
 
 pub returns : goal.returns

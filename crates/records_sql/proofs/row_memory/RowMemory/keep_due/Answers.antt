@@ -1,5 +1,5 @@
 use Rattle.std.proofs.Common.{◌+◌, sym, subst, ◌∙◌}
-use Rattle.records_sql.specs.Memory.{Memory, Agrees, IsCalmUntil}
+use Rattle.records_sql.specs.Words.{Memory, Agrees, IsCalmUntil}
 use Rattle.records_sql.proofs.AgreeLemmas.{calm_after, none_listed}
 use Rattle.records_sql.proofs.row_memory.RowMemory.keep_due.Goals as goal
 

@@ -1,6 +1,5 @@
-use Rattle.std.proofs.Common.{sym, subst, arith}
-use Rattle.records.specs.DueRows.{AreDue}
-use Rattle.records_sql.specs.Memory.{Memory, Agrees}
+use Rattle.records.specs.Words.{sym, subst, arith, AreDue}
+use Rattle.records_sql.specs.Words.{Memory, Agrees}
 use Rattle.records_sql.proofs.AgreeLemmas.{none_due, due_of_none}
 use Rattle.records_sql.proofs.row_memory.RowMemory.none_due.Goals as goal
 

@@ -1,8 +1,6 @@
 use Rattle.std.proofs.Common.{◌≡◌, Some, Result, Ok, Err, IfOk, sym, ap, subst, ◌∙◌}
-use Rattle.std.specs.Result.{result_ok}
-use Rattle.std.proofs.lemmas.Option.{none-some, same_Some}
-use Rattle.records.specs.declared.row.Row.{Row}
-use Rattle.records_sql.specs.Memory.{Memory, AreFound, Agrees}
+use Rattle.records.specs.Words.{result_ok, none-some, same_Some}
+use Rattle.records_sql.specs.Words.{Row, Memory, AreFound, Agrees}
 use Rattle.records_sql.proofs.row_memory.RowMemory.recalled.Goals as goal
 
 -- what was copied is the row

@@ -1,4 +1,4 @@
-use Rattle.std.proofs.Common.{refl}
+use Rattle.records.specs.Words.{refl}
 use Rattle.sqlite.specs.Held.{state}
 use Rattle.records_sql.proofs.StateLemmas.{usable_clean, clean_usable}
 use Rattle.records_sql.proofs.sql_records.SqlRecords.adopt.Goals as goal

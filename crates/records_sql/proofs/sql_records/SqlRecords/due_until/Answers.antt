@@ -1,8 +1,6 @@
-use Rattle.std.proofs.Common.{map, List, sym, ap, subst, ◌∙◌}
+use Rattle.records.specs.Words.{map, List, sym, ap, subst, ◌∙◌, AreDue}
 use Rattle.sqlite.specs.Order.{Row}
-use Rattle.records.specs.DueRows.{AreDue}
-use Rattle.records_sql.specs.Memory.{Agrees}
-use Rattle.records_sql.specs.SqlTable.{whole_entry, rows_of}
+use Rattle.records_sql.specs.Words.{Agrees, whole_entry, rows_of}
 use Rattle.sqlite.specs.Held.{state}
 use Rattle.records_sql.proofs.EndLemmas.{both_modes}
 use Rattle.records_sql.proofs.sql_records.SqlRecords.due_until.Goals as goal

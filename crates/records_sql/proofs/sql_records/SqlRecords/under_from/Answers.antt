@@ -1,10 +1,6 @@
-use Rattle.std.proofs.Common.{map, filter, nat_eq, List, sym, subst, ap, ◌∙◌}
-use Rattle.std.specs.List.{starts_with}
+use Rattle.records.specs.Words.{map, filter, nat_eq, List, sym, subst, ap, ◌∙◌, starts_with, RowKey as Key}
 use Rattle.sqlite.specs.Order.{Row}
-use Rattle.records.specs.declared.row.Row.{Row as Fields}
-use Rattle.records.specs.Kind.{RowKey as Key}
-use Rattle.records_sql.specs.Bounds.{IsAbove}
-use Rattle.records_sql.specs.SqlTable.{entry_in}
+use Rattle.records_sql.specs.Words.{Row as Fields, IsAbove, entry_in}
 use Rattle.records_sql.proofs.EndLemmas.{both_modes}
 use Rattle.records_sql.proofs.sql_records.SqlRecords.under_from.Goals as goal
 

@@ -1,10 +1,6 @@
-use Rattle.std.proofs.Common.{None, Some, ap, ◌∙◌}
-use Rattle.broker_types.specs.Identifier.{id}
-use Rattle.api_json.specs.Reply.{lease_reply}
-use Rattle.broker_types.specs.Names.{names_of}
+use Rattle.broker_model.specs.Words.{None, Some, ap, ◌∙◌, id, lease_reply, names_of, Reply}
 use Rattle.broker_types.specs.Operation as operation
-use Rattle.broker_types.specs.declared.reply.Reply.{Reply}
-use Rattle.broker_rows.specs.Context.{Context}
+use Rattle.broker_rows.specs.Words.{Context}
 use Rattle.secret_operations.proofs.issued.credentials.given.Goals as goal
 
 pub returns : goal.returns

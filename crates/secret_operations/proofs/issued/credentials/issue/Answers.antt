@@ -1,14 +1,8 @@
-use Rattle.std.proofs.Common.{List, length, None, Some, Ok, Err, ap, get_or, sym, subst, ◌∙◌, arith}
-use Rattle.std.proofs.lemmas.Result.{err_from_is_err_and}
-use Rattle.api_json.specs.Objects.{credential_object}
-use Rattle.api_json.specs.Reply.{lease_reply}
-use Rattle.broker_types.specs.Names.{names_of}
-use Rattle.broker_types.specs.Operation.{reply}
-use Rattle.broker_types.specs.Text.{Text}
-use Rattle.broker_model.specs.parts.Place.{at}
+use Rattle.broker_model.specs.Words.{List, length, None, Some, Ok, Err, ap, get_or, sym, subst, ◌∙◌, arith}
+use Rattle.broker_model.specs.Words.{err_from_is_err_and, credential_object, lease_reply, names_of, reply, Text, at}
+use Rattle.broker_model.specs.Words.{IsIdentifier}
 use Rattle.secret_operations.specs.Issuing.{IssuesLease}
 use Rattle.secret_operations.proofs.IssuedAnswers.{acts_issued, acts_not_issued}
-use Rattle.broker_types.specs.Sound.{IsIdentifier}
 use Rattle.secret_operations.proofs.issued.credentials.issue.Goals as goal
 
 pub returns-in_err-lease-clause-told : goal.returns-in_err-lease-clause-told

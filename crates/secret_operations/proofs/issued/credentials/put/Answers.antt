@@ -1,18 +1,8 @@
-use Rattle.std.specs.Prelude.{length}
-use Rattle.std.specs.Option.{option_map_or}
-use Rattle.std.proofs.Common.{◌≡◌, ◌==◌, Ok, Err, false, refl, sym, ap, subst, arith, ◌∙◌}
-use Rattle.std.proofs.lemmas.Result.{err_from_is_err_and}
-use Rattle.broker_types.specs.IdentifierLaws.{id-length}
-use Rattle.records.specs.CallLaws.{honest_before}
-use Rattle.records.specs.Parts.{of_roles}
-use Rattle.records.specs.RowForms.{used_row}
-use Rattle.records.specs.Table.{with_row}
+use Rattle.std.proofs.Common.{◌≡◌, ◌==◌, length, Ok, Err, false, refl, sym, ap, subst, arith, ◌∙◌}
+use Rattle.broker_model.specs.Words.{option_map_or, err_from_is_err_and, id-length, honest_before, of_roles, used_row}
+use Rattle.broker_model.specs.Words.{with_row, creds, forms}
 use Rattle.records.specs.declared.kind.Kind.TheVariants as kind
-use Rattle.leases.specs.Roles.{creds}
-use Rattle.broker_model.specs.Forms.{forms}
-use Rattle.broker_rows.specs.Context.{Context}
-use Rattle.broker_rows.specs.Caller.{Caller}
-use Rattle.broker_rows.specs.RepresentingLaws.{represents_leases, still_represented, tells_part}
+use Rattle.broker_rows.specs.Words.{Context, Caller, represents_leases, still_represented, tells_part}
 use Rattle.secret_operations.specs.Issuing.{IssuesLease}
 use Rattle.secret_operations.proofs.IssuedAnswers.{ends_weaker}
 use Rattle.secret_operations.proofs.IssuedRows.{last_use, id_new, credential_new, leased}

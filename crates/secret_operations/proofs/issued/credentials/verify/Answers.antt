@@ -1,11 +1,6 @@
-use Rattle.std.proofs.Common.{None, Err, refl, ap, ◌∙◌}
-use Rattle.std.proofs.lemmas.Result.{err_from_is_err_and}
-use Rattle.api_json.specs.Objects.{valid_object}
-use Rattle.api_json.specs.Reply.{plain_reply}
-use Rattle.broker_types.specs.Names.{names_of}
-use Rattle.broker_types.specs.Operation.{reply}
-use Rattle.broker_model.specs.Forms.{forms}
-use Rattle.broker_rows.specs.RepresentingLaws.{represents_leases, still_represented}
+use Rattle.broker_model.specs.Words.{None, Err, refl, ap, ◌∙◌, err_from_is_err_and, valid_object, plain_reply, names_of}
+use Rattle.broker_model.specs.Words.{reply, forms}
+use Rattle.broker_rows.specs.Words.{represents_leases, still_represented}
 use Rattle.secret_operations.proofs.issued.credentials.verify.Goals as goal
 
 pub returns-in_err-valid-clause-told : goal.returns-in_err-valid-clause-told

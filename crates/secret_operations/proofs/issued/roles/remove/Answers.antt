@@ -1,11 +1,6 @@
-use Rattle.std.proofs.Common.{refl}
-use Rattle.broker_types.specs.Map.{without}
-use Rattle.records.specs.PartLaws.{rows_of-other_roles}
-use Rattle.records.specs.Parts.{of_roles}
-use Rattle.leases.specs.StaysSoundLaws.{remove_role_sound}
-use Rattle.leases.specs.Roles.{role_name, remove_role}
-use Rattle.broker_model.specs.Forms.{forms}
-use Rattle.broker_rows.specs.RepresentingLaws.{represents_next, tells_part}
+use Rattle.broker_model.specs.Words.{refl, without, rows_of-other_roles, of_roles, remove_role_sound, role_name}
+use Rattle.broker_model.specs.Words.{remove_role, forms}
+use Rattle.broker_rows.specs.Words.{represents_next, tells_part}
 use Rattle.secret_operations.proofs.issued.roles.remove.Goals as goal
 
 pub returns-clause-told : goal.returns-clause-told

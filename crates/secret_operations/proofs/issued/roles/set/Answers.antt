@@ -1,7 +1,5 @@
-use Rattle.std.proofs.Common.{Err, ap, ◌∙◌}
-use Rattle.std.proofs.lemmas.Result.{err_from_is_err_and}
-use Rattle.records.specs.Parts.{of_roles}
-use Rattle.broker_rows.specs.RepresentingLaws.{tells_part}
+use Rattle.broker_model.specs.Words.{Err, ap, ◌∙◌, err_from_is_err_and, of_roles}
+use Rattle.broker_rows.specs.Words.{tells_part}
 use Rattle.secret_operations.proofs.IssuedAnswers.{acts_set, acts_not_set}
 use Rattle.secret_operations.proofs.issued.roles.set.Goals as goal
 

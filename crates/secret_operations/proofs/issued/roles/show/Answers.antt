@@ -1,15 +1,7 @@
-use Rattle.std.proofs.Common.{None, Ok, Err, ap, sym, ◌∙◌}
-use Rattle.std.proofs.lemmas.Result.{err_from_is_err_and}
-use Rattle.api_json.specs.Objects.{role_object}
-use Rattle.api_json.specs.Reply.{plain_reply}
-use Rattle.broker_types.specs.Broker.{Role}
-use Rattle.broker_types.specs.Names.{names_of}
-use Rattle.broker_types.specs.Operation.{reply, plainly}
-use Rattle.records.specs.Parts.{of_roles}
-use Rattle.records.specs.ValueLaws.{none_of}
+use Rattle.broker_model.specs.Words.{None, Ok, Err, ap, sym, ◌∙◌, err_from_is_err_and, role_object, plain_reply, Role}
+use Rattle.broker_model.specs.Words.{names_of, reply, plainly, of_roles, none_of}
 use Rattle.leases.specs.Roles as roles
-use Rattle.broker_rows.specs.RepresentingLaws.{still_represented, tells_part}
-use Rattle.broker_rows.specs.OperatingLaws.{acts_found, acts_absent}
+use Rattle.broker_rows.specs.Words.{still_represented, tells_part, acts_found, acts_absent}
 use Rattle.secret_operations.proofs.issued.roles.show.Goals as goal
 
 pub returns-in_err-found-clause-told : goal.returns-in_err-found-clause-told

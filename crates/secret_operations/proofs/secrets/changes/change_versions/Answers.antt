@@ -1,12 +1,6 @@
-use Rattle.std.proofs.Common.{Ok, Err, ap, sym, subst, ◌∙◌}
-use Rattle.std.proofs.lemmas.Result.{err_from_is_err_and}
-use Rattle.broker_types.specs.Operation.{nothing, plainly}
-use Rattle.broker_types.specs.Sound.{Sound}
-use Rattle.records.specs.Parts.{of_secrets}
-use Rattle.kv2.specs.SoundLaws.{is_secret_name}
-use Rattle.broker_model.specs.Forms.{forms}
-use Rattle.broker_rows.specs.Operating.{ActsAs}
-use Rattle.broker_rows.specs.RepresentingLaws.{tells_part}
+use Rattle.broker_model.specs.Words.{Ok, Err, ap, sym, subst, ◌∙◌, err_from_is_err_and, nothing, plainly, Sound}
+use Rattle.broker_model.specs.Words.{of_secrets, is_secret_name, forms}
+use Rattle.broker_rows.specs.Words.{ActsAs, tells_part}
 use Rattle.broker_rows.specs.declared.answered.Answered.TheVariants.{Nothing}
 use Rattle.secret_operations.specs.VersionChanges.{IsTimely, change_of}
 use Rattle.secret_operations.proofs.Changes.{acts_on_versions, as_changed, changed_sound}

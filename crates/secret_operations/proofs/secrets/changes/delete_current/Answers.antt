@@ -1,12 +1,8 @@
-use Rattle.std.proofs.Common.{Err, ap, sym, ◌∙◌}
-use Rattle.std.proofs.lemmas.Result.{err_from_is_err_and}
-use Rattle.records.specs.Parts.{of_secrets}
-use Rattle.records.specs.Table.{table_of}
-use Rattle.kv2.specs.Secrets.{secret_name, delete}
-use Rattle.kv2.specs.SoundLaws.{delete_sound, is_secret_name}
-use Rattle.broker_model.specs.Forms.{forms}
-use Rattle.broker_rows.specs.Context.{Context}
-use Rattle.broker_rows.specs.RepresentingLaws.{tells_part}
+use Rattle.broker_model.specs.Words.{Err, ap, sym, ◌∙◌, err_from_is_err_and, of_secrets, table_of, secret_name}
+use Rattle.broker_model.specs.Words.{is_secret_name, forms}
+use Rattle.kv2.specs.Secrets.{delete}
+use Rattle.kv2.specs.SoundLaws.{delete_sound}
+use Rattle.broker_rows.specs.Words.{Context, tells_part}
 use Rattle.secret_operations.proofs.SecretAnswers.{acts_changed}
 use Rattle.secret_operations.proofs.SecretTables.{keeps_outside}
 use Rattle.secret_operations.proofs.secrets.changes.delete_current.Goals as goal

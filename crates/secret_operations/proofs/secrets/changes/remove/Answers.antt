@@ -1,9 +1,6 @@
-use Rattle.records.specs.Parts.{of_secrets}
-use Rattle.records.specs.Table.{table_of}
-use Rattle.kv2.specs.Secrets.{secret_name, remove_key}
-use Rattle.kv2.specs.SoundLaws.{remove_key_sound, is_secret_name}
-use Rattle.broker_model.specs.Forms.{forms}
-use Rattle.broker_rows.specs.RepresentingLaws.{tells_part}
+use Rattle.broker_model.specs.Words.{of_secrets, table_of, secret_name, remove_key, remove_key_sound, is_secret_name}
+use Rattle.broker_model.specs.Words.{forms}
+use Rattle.broker_rows.specs.Words.{tells_part}
 use Rattle.secret_operations.proofs.SecretAnswers.{acts_changed}
 use Rattle.secret_operations.proofs.SecretTables.{keeps_outside}
 use Rattle.secret_operations.proofs.secrets.changes.remove.Goals as goal

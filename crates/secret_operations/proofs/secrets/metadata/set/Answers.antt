@@ -1,16 +1,7 @@
-use Rattle.std.proofs.Common.{ap, sym, subst, ◌∙◌}
-use Rattle.records.specs.Parts.{Tells, of_secrets}
-use Rattle.records.specs.RowReaders.{IsSomeIn, IsWide}
-use Rattle.records.specs.Table.{table_of}
-use Rattle.records.specs.TokenEntry.{IsMeta}
-use Rattle.kv2.specs.Secrets.{secret_name}
+use Rattle.broker_model.specs.Words.{ap, sym, subst, ◌∙◌, Tells, of_secrets, IsSomeIn, IsWide, table_of, IsMeta}
+use Rattle.broker_model.specs.Words.{secret_name, set_metadata_sound, is_secret_name, Settings, forms, given_settings}
 use Rattle.kv2.specs.Secrets as secrets
-use Rattle.kv2.specs.SoundLaws.{set_metadata_sound, is_secret_name}
-use Rattle.kv2.specs.Versions.{Settings}
-use Rattle.broker_model.specs.Forms.{forms}
-use Rattle.broker_model.specs.parts.Secrets.{given_settings}
-use Rattle.broker_rows.specs.Context.{Context}
-use Rattle.broker_rows.specs.RepresentingLaws.{tells_part}
+use Rattle.broker_rows.specs.Words.{Context, tells_part}
 use Rattle.secret_operations.proofs.GivenSettings.{metadata_in_range, within_limits}
 use Rattle.secret_operations.proofs.SecretAnswers.{acts_changed}
 use Rattle.secret_operations.proofs.SecretTables.{keeps_outside}

@@ -1,16 +1,7 @@
-use Rattle.std.proofs.Common.{None, Ok, ap, sym, ◌∙◌}
-use Rattle.api_json.specs.Objects.{key_object}
-use Rattle.api_json.specs.Reply.{plain_reply}
-use Rattle.broker_types.specs.Names.{names_of}
-use Rattle.broker_types.specs.Operation.{reply, plainly}
-use Rattle.records.specs.Parts.{of_secrets}
-use Rattle.records.specs.ValueLaws.{none_of}
-use Rattle.kv2.specs.Metadata.{Metadata}
+use Rattle.broker_model.specs.Words.{None, Ok, ap, sym, ◌∙◌, key_object, plain_reply, names_of, reply, plainly}
+use Rattle.broker_model.specs.Words.{of_secrets, none_of, Metadata, forms, metadata_reply}
 use Rattle.kv2.specs.Secrets as secrets
-use Rattle.broker_model.specs.Forms.{forms}
-use Rattle.broker_model.specs.parts.SecretReplies.{metadata_reply}
-use Rattle.broker_rows.specs.RepresentingLaws.{still_represented, tells_part}
-use Rattle.broker_rows.specs.OperatingLaws.{acts_found, acts_absent}
+use Rattle.broker_rows.specs.Words.{still_represented, tells_part, acts_found, acts_absent}
 use Rattle.secret_operations.proofs.secrets.metadata.show.Goals as goal
 
 pub returns-in_default-clause-told : goal.returns-in_default-clause-told

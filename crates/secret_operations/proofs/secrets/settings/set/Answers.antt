@@ -1,9 +1,5 @@
-use Rattle.std.proofs.Common.{refl}
-use Rattle.records.specs.Parts.{of_mounts}
-use Rattle.kv2.specs.Secrets.{set_config}
-use Rattle.kv2.specs.SoundLaws.{set_config_sound}
-use Rattle.broker_model.specs.Forms.{forms}
-use Rattle.broker_rows.specs.RepresentingLaws.{tells_part}
+use Rattle.broker_model.specs.Words.{refl, of_mounts, set_config, set_config_sound, forms}
+use Rattle.broker_rows.specs.Words.{tells_part}
 use Rattle.secret_operations.proofs.SecretTables.{represents-settings}
 use Rattle.secret_operations.proofs.secrets.settings.set.Goals as goal
 

@@ -1,11 +1,6 @@
-use Rattle.std.proofs.Common.{sym, ap, ◌∙◌, is_some}
-use Rattle.broker_types.specs.Identifier.{id}
-use Rattle.api_json.specs.Objects.{secret_object}
-use Rattle.api_json.specs.Reply.{plain_reply}
-use Rattle.broker_types.specs.Names.{names_of}
-use Rattle.kv2.specs.Versions.{Found}
-use Rattle.broker_model.specs.parts.SecretReplies.{version_answered}
-use Rattle.broker_rows.specs.Context.{Context}
+use Rattle.broker_model.specs.Words.{sym, ap, ◌∙◌, is_some, id, secret_object, plain_reply, names_of, Found}
+use Rattle.broker_model.specs.Words.{version_answered}
+use Rattle.broker_rows.specs.Words.{Context}
 use Rattle.secret_operations.proofs.SecretAnswers.{answered_left, answered_gone}
 use Rattle.secret_operations.proofs.secrets.shown.version_answered.Goals as goal
 

@@ -1,5 +1,5 @@
 use Rattle.std.proofs.Common.{◌≡◌, map, take}
-use Rattle.broker_model.specs.parts.SecretReplies.{version_told}
+use Rattle.broker_model.specs.Words.{version_told}
 use Rattle.secret_operations.proofs.secrets.shown.versions_told.Given as goal
 
 -- the versions so far are told

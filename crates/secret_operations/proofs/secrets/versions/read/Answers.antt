@@ -1,13 +1,6 @@
-use Rattle.std.proofs.Common.{Ok, sym, ◌∙◌}
-use Rattle.broker_types.specs.Names.{names_of}
-use Rattle.broker_types.specs.Operation.{plainly}
-use Rattle.records.specs.Parts.{of_secrets}
-use Rattle.records.specs.ValueLaws.{none_of}
+use Rattle.broker_model.specs.Words.{Ok, sym, ◌∙◌, names_of, plainly, of_secrets, none_of, forms, version_answered}
 use Rattle.kv2.specs.Secrets as secrets
-use Rattle.broker_model.specs.Forms.{forms}
-use Rattle.broker_model.specs.parts.SecretReplies.{version_answered}
-use Rattle.broker_rows.specs.RepresentingLaws.{still_represented, tells_part}
-use Rattle.broker_rows.specs.OperatingLaws.{acts_found, acts_absent}
+use Rattle.broker_rows.specs.Words.{still_represented, tells_part, acts_found, acts_absent}
 use Rattle.secret_operations.proofs.secrets.versions.read.Goals as goal
 
 pub returns-in_default-clause-told : goal.returns-in_default-clause-told

@@ -1,19 +1,8 @@
-use Rattle.std.proofs.Common.{None, Err, ap, sym, subst, ◌∙◌}
-use Rattle.std.specs.Prelude.{IsUtf8, ⊤}
-use Rattle.std.proofs.lemmas.Result.{err_from_is_err_and}
-use Rattle.api_json.specs.Objects.{version_object}
-use Rattle.api_json.specs.Reply.{plain_reply}
-use Rattle.broker_types.specs.Names.{names_of}
-use Rattle.broker_types.specs.Operation.{reply}
-use Rattle.broker_types.specs.RequestError.{EndsOk, EndsErr}
-use Rattle.records.specs.Parts.{of_secrets, of_mounts}
+use Rattle.broker_model.specs.Words.{None, Err, ap, sym, subst, ◌∙◌, IsUtf8, ⊤, err_from_is_err_and, version_object}
+use Rattle.broker_model.specs.Words.{plain_reply, names_of, reply, EndsOk, EndsErr, of_secrets, of_mounts, WriteAnswer}
+use Rattle.broker_model.specs.Words.{forms, at, version_made, written_reply}
 use Rattle.kv2.specs.Secrets as secrets
-use Rattle.kv2.specs.Versions.{WriteAnswer}
-use Rattle.broker_model.specs.Forms.{forms}
-use Rattle.broker_model.specs.parts.Place.{at}
-use Rattle.broker_model.specs.parts.SecretReplies.{version_made, written_reply}
-use Rattle.broker_rows.specs.Context.{Context}
-use Rattle.broker_rows.specs.RepresentingLaws.{tells_part}
+use Rattle.broker_rows.specs.Words.{Context, tells_part}
 use Rattle.secret_operations.proofs.SecretAnswers.{IsWrittenAs, acts_written, acts_not_written}
 use Rattle.secret_operations.proofs.secrets.versions.write.Goals as goal
 

@@ -1,4 +1,4 @@
-use Rattle.std.proofs.Common.{arith}
+use Rattle.records.specs.Words.{arith}
 use Rattle.server.proofs.ServingLemmas.{below_closed, closes_none, closes_one}
 use Rattle.server.proofs.links.Links.close.Goals as goal
 

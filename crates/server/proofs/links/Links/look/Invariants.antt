@@ -1,5 +1,4 @@
-use Rattle.hub.specs.Representing.{ConnectionsRepresent}
-use Rattle.hub.specs.World.{Connections}
+use Rattle.hub.specs.Words.{ConnectionsRepresent, Connections}
 use Rattle.server.specs.ServedHub.{ClosesSome, LeavesBelow}
 use Rattle.server.proofs.links.Links.look.Given as goal
 

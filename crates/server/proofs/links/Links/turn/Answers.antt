@@ -1,4 +1,4 @@
-use Rattle.hub.specs.SuppliesLaws.{Supplies-nil}
+use Rattle.hub.specs.Words.{Supplies-nil}
 use Rattle.server.proofs.ServingLemmas.{below_on, leaves_closing, leaves_none}
 use Rattle.server.proofs.links.Links.turn.Goals as goal
 

@@ -1,7 +1,5 @@
-use Rattle.std.proofs.Common.{Ok}
-use Rattle.hub.specs.Representing.{ConnectionsRepresent}
-use Rattle.hub.specs.Supplies.{Supplies}
-use Rattle.hub.specs.World.{Connections}
+use Rattle.records.specs.Words.{Ok}
+use Rattle.hub.specs.Words.{ConnectionsRepresent, Supplies, Connections}
 use Rattle.server.specs.ServedHub.{LeavesBelow, LeavesServed}
 use Rattle.server.proofs.links.Links.turns.Given as goal
 

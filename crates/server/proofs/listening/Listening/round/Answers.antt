@@ -1,5 +1,4 @@
-use Rattle.std.proofs.Common.{◌∙◌, Ok, Err, ap}
-use Rattle.std.proofs.lemmas.Result.{err_from_is_err_and}
+use Rattle.records.specs.Words.{◌∙◌, Ok, Err, ap, err_from_is_err_and}
 use Rattle.server.proofs.ServingLemmas.{below_on, closing_leaves, leaves_closing}
 use Rattle.server.proofs.listening.Listening.round.Goals as goal
 

@@ -1,6 +1,5 @@
-use Rattle.std.proofs.Common.{◌∙◌, Ok, Err, ap}
-use Rattle.std.proofs.lemmas.Result.{err_from_is_err_and}
-use Rattle.hub.specs.SuppliesLaws.{Supplies-append, Supplies-nil}
+use Rattle.records.specs.Words.{◌∙◌, Ok, Err, ap, err_from_is_err_and}
+use Rattle.hub.specs.Words.{Supplies-append, Supplies-nil}
 use Rattle.server.proofs.ServingLemmas.{below_all, below_on, leaves_none, leaves_on}
 use Rattle.server.proofs.listening.Listening.take_turns.Goals as goal
 
