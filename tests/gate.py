@@ -173,7 +173,7 @@ def fails_to_prove(checkout):
     of_client = ("tests/serve.sh", "tests/package.sh", "tests/fuzz_client.py", "tests/stores.sh", "tests/fuzz.py")
     yield "a program that is not built", all(f"bin/test: {it}: " in said for it in of_client) and status == 1
     yield "what needs no other is run", "tests/rows.sh " in checkout.ran("scripts")
-    yield "the count", last.endswith(" passed, 8 failed")
+    yield "the count", last.endswith(" passed, 9 failed")
 
 
 def fails_tests(checkout):

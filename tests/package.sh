@@ -1,7 +1,7 @@
 #!/bin/bash
-# Makes the package twice and compares the bytes, unpacks it into an empty folder, verifies its unit by systemd if that
-# is installed, and there types the quick start of README.md on a PATH without the toolchain. The last line is
-# 'N passed, M failed'; the status is 0 if nothing failed.
+# Makes the package twice and compares the bytes, unpacks the archive into an empty folder, verifies its unit by systemd
+# if that is installed, and there types the quick start of README.md on a PATH without the toolchain. The Debian package
+# is looked at by debian.sh. The last line is 'N passed, M failed'; the status is 0 if nothing failed.
 set -u
 . "$(dirname "$0")/lib.sh"
 make_folder
@@ -37,7 +37,7 @@ for turn in 1 2; do
         finish
     fi
 done
-package=$(basename "$(tail -n 1 "$found/said")")
+package=$(sed -n 's|.*/\(dehluvima-.*\.tar\.gz\)$|\1|p' "$found/said")
 if cmp -s "$found/1/$package" "$found/2/$package"; then pass; else fail "$package" "it has other bytes each time"; fi
 
 mkdir "$found/unpacked"
