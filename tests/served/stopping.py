@@ -102,13 +102,27 @@ def served(program):
                                  "--until-stopped", "--stop-on-input"]
 
 
-def in_flight(program, stop, start):
+def printed(process, _):
+    """The root token, which a first start prints."""
+    return process.stdout.readline().decode().split()[-1]
+
+
+def put_by(_, folder):
+    """The root token, which the unit has the first start put by."""
+    file, until = Path(folder) / "root-token", time.monotonic() + 20
+    while not (file.exists() and file.read_text(encoding="ascii").endswith("\n")):
+        expect(time.monotonic() < until, "no root token was put by")
+        time.sleep(0.01)
+    return file.read_text(encoding="ascii").split()[-1]
+
+
+def in_flight(program, stop, start, token_of=printed):
     """Stops a program while the clients ask. It is started by the words that `start` answers."""
     with tempfile.TemporaryDirectory() as folder:
         file, port = f"{folder}/broker.db", free_port()
         with subprocess.Popen(start(folder, port), stdin=subprocess.PIPE, stdout=subprocess.PIPE,
                               stderr=subprocess.DEVNULL) as process:
-            token = process.stdout.readline().decode().split()[-1]
+            token = token_of(process, folder)
             connect(port).close()
             clients = asked(port, token, lambda: stop(process))
             expect(process.wait(25) == 0, f"the status is {process.returncode}")
@@ -177,7 +191,7 @@ def by_the_unit(program):
     def stop(process):
         ending.append(subprocess.Popen(next(commands("ExecStop")), env={**os.environ, "MAINPID": str(process.pid)}))
 
-    met = in_flight(program, stop, start)
+    met = in_flight(program, stop, start, put_by)
     expect(ending[0].wait(10) == 0, "the unit does not see the end")
     return met
 
