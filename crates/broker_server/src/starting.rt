@@ -94,7 +94,7 @@ fn serve_records<S: Alter + Drop>(
     };
     let moment = clock.now();
     let (store, root) = made_ready(rt.alloc(), records, settings.checks, moment, &words.words())?;
-    serve_store(rt, store, root, settings, log, &mut words)?;
+    serve_store(rt, store, root, settings, log, words)?;
     Ok(())
 }
 

@@ -9,6 +9,7 @@ ghost use Rattle.server.specs.ServedHub.{ClosesSome, LeavesBelow, LeavesServed};
 
 use crate::log::Log;
 use crate::peer::{Peer, Stay};
+use crate::service::{Round, Service};
 use broker::Store;
 use broker_types::Fault;
 use hub::{Clock, Hub, WordSource};
@@ -105,18 +106,17 @@ impl Links {
     /// One turn of each connection that is in the queue now.
     pub(crate) fn turns<S: Store, C: Clock, D: WordSource>(
         &mut self,
-        hub: &mut Hub<S>,
-        first: u64,
-        clock: &mut C,
-        words: &mut D,
-        now: u64,
+        service: &mut Service<S, C, D>,
+        round: Round,
     ) -> Result<(), Fault>
         ensures served { LeavesServed S.seen
-            (Supplies C.may_tell clock.old clock.new D.may_give words.old words.new) result hub.old hub.new }
-        ensures below { (all : Connections) → ConnectionsRepresent hub.old all → LeavesBelow first all hub.new }
+            (Supplies C.may_tell service.old.clock service.new.clock D.may_give service.old.words service.new.words)
+            result service.old.hub service.new.hub }
+        ensures below { (all : Connections) → ConnectionsRepresent service.old.hub all
+            → LeavesBelow round.first all service.new.hub }
     {
         for _ in 0..self.ready.len() {
-            self.turn(hub, first, clock, words, now)?;
+            self.turn(service, round)?;
         }
         Ok(())
     }
@@ -125,15 +125,14 @@ impl Links {
     /// has ended.
     fn turn<S: Store, C: Clock, D: WordSource>(
         &mut self,
-        hub: &mut Hub<S>,
-        first: u64,
-        clock: &mut C,
-        words: &mut D,
-        now: u64,
+        service: &mut Service<S, C, D>,
+        round: Round,
     ) -> Result<(), Fault>
         ensures served { LeavesServed S.seen
-            (Supplies C.may_tell clock.old clock.new D.may_give words.old words.new) result hub.old hub.new }
-        ensures below { (all : Connections) → ConnectionsRepresent hub.old all → LeavesBelow first all hub.new }
+            (Supplies C.may_tell service.old.clock service.new.clock D.may_give service.old.words service.new.words)
+            result service.old.hub service.new.hub }
+        ensures below { (all : Connections) → ConnectionsRepresent service.old.hub all
+            → LeavesBelow round.first all service.new.hub }
     {
         let Some(conn) = self.ready.pop_front() else {
             return Ok(());
@@ -144,7 +143,7 @@ impl Links {
         if let Some(log) = &self.log {
             log.begin();
         }
-        let turned = peer.turn(hub, first, clock, words, now);
+        let turned = peer.turn(service, round);
         if let Some(log) = &self.log {
             log.end(peer.status());
         }
@@ -156,7 +155,7 @@ impl Links {
             }
             Ok(Stay::Waits) => Ok(()),
             Ok(Stay::Gone) => {
-                self.close(hub, first, conn);
+                self.close(&mut service.hub, round.first, conn);
                 Ok(())
             }
             Err(fault) => Err(fault),
@@ -164,19 +163,13 @@ impl Links {
     }
 
     /// Closes those whose time is over.
-    pub(crate) fn look<S: Store>(
-        &mut self,
-        hub: &mut Hub<S>,
-        first: u64,
-        now: u64,
-        is_pressed: bool,
-    )
+    pub(crate) fn look<S: Store>(&mut self, hub: &mut Hub<S>, round: Round, is_pressed: bool)
         ensures steps { ClosesSome S.seen hub.old hub.new }
-        ensures below { (all : Connections) → ConnectionsRepresent hub.old all → LeavesBelow first all hub.new }
+        ensures below { (all : Connections) → ConnectionsRepresent hub.old all → LeavesBelow round.first all hub.new }
     {
         self.over.clear();
         for (conn, peer) in &self.peers {
-            if peer.is_over(now, is_pressed) {
+            if peer.is_over(round.now, is_pressed) {
                 let _ = self.over.push(*conn);
             }
         }
@@ -184,20 +177,20 @@ impl Links {
             let Some(conn) = self.over.pop() else {
                 return;
             };
-            self.close(hub, first, conn);
+            self.close(hub, round.first, conn);
         }
     }
 
     /// Closes the one that has been idle longest, if any is idle for longer than a peer may be whose place is wanted.
     /// Whether one was closed.
-    pub(crate) fn make_room<S: Store>(&mut self, hub: &mut Hub<S>, first: u64, now: u64) -> bool
+    pub(crate) fn make_room<S: Store>(&mut self, hub: &mut Hub<S>, round: Round) -> bool
         ensures steps { ClosesSome S.seen hub.old hub.new }
-        ensures below { (all : Connections) → ConnectionsRepresent hub.old all → LeavesBelow first all hub.new }
+        ensures below { (all : Connections) → ConnectionsRepresent hub.old all → LeavesBelow round.first all hub.new }
     {
-        let Some(conn) = self.longest_idle(now) else {
+        let Some(conn) = self.longest_idle(round.now) else {
             return false;
         };
-        self.close(hub, first, conn);
+        self.close(hub, round.first, conn);
         true
     }
 

@@ -8,6 +8,7 @@ ghost use Rattle.server.specs.ServedHub.{ClosesSome, LeavesBelow, LeavesServed};
 use crate::accepting::{Accepting, INPUT, LISTENER};
 use crate::links::Links;
 use crate::log::Log;
+use crate::service::{Round, Service};
 use crate::waiting::{LONGEST_EXCHANGE, TICK};
 use broker::Store;
 use broker_types::Fault;
@@ -120,22 +121,26 @@ impl Listening {
     pub(crate) fn round<S: Store, C: hub::Clock, D: WordSource, R: Clock>(
         &mut self,
         rt: &R,
-        hub: &mut Hub<S>,
+        service: &mut Service<S, C, D>,
         first: u64,
-        clock: &mut C,
-        words: &mut D,
     ) -> Result<(), Fault>
         ensures served { LeavesServed S.seen
-            (Supplies C.may_tell clock.old clock.new D.may_give words.old words.new) result hub.old hub.new }
-        ensures below { (all : Connections) → ConnectionsRepresent hub.old all → LeavesBelow first all hub.new }
+            (Supplies C.may_tell service.old.clock service.new.clock D.may_give service.old.words service.new.words)
+            result service.old.hub service.new.hub }
+        ensures below { (all : Connections) → ConnectionsRepresent service.old.hub all
+            → LeavesBelow first all service.new.hub }
     {
         self.await_events(rt);
         self.stop_if_asked();
-        self.make_room(hub, first);
+        let round = Round {
+            first,
+            now: self.now,
+        };
+        self.make_room(&mut service.hub, round);
         self.accepting
-            .accept(self.poll.registry(), &mut self.links, self.now);
-        self.take_turns(hub, first, clock, words)?;
-        self.look(hub, first);
+            .accept(self.poll.registry(), &mut self.links, round.now);
+        self.take_turns(service, round)?;
+        self.look(&mut service.hub, round);
         Ok(())
     }
 
@@ -188,44 +193,43 @@ impl Listening {
     /// Closes the connection that has been idle longest, if somebody waits for its place. One leaves for each that
     /// waits, and no more: a client that keeps many connections open in good faith keeps the others, where closing all
     /// that are idle would have it connect again with each, though one place was wanted.
-    fn make_room<S: Store>(&mut self, hub: &mut Hub<S>, first: u64)
+    fn make_room<S: Store>(&mut self, hub: &mut Hub<S>, round: Round)
         ensures steps { ClosesSome S.seen hub.old hub.new }
-        ensures below { (all : Connections) → ConnectionsRepresent hub.old all → LeavesBelow first all hub.new }
+        ensures below { (all : Connections) → ConnectionsRepresent hub.old all → LeavesBelow round.first all hub.new }
     {
-        if self.accepting.wants_room(self.now, self.links.len()) {
-            let was_made = self.links.make_room(hub, first, self.now);
-            self.accepting.note_room(was_made, self.now);
+        if self.accepting.wants_room(round.now, self.links.len()) {
+            let was_made = self.links.make_room(hub, round);
+            self.accepting.note_room(was_made, round.now);
         }
     }
 
     /// Some turns of each connection that can go on.
     fn take_turns<S: Store, C: hub::Clock, D: WordSource>(
         &mut self,
-        hub: &mut Hub<S>,
-        first: u64,
-        clock: &mut C,
-        words: &mut D,
+        service: &mut Service<S, C, D>,
+        round: Round,
     ) -> Result<(), Fault>
         ensures served { LeavesServed S.seen
-            (Supplies C.may_tell clock.old clock.new D.may_give words.old words.new) result hub.old hub.new }
-        ensures below { (all : Connections) → ConnectionsRepresent hub.old all → LeavesBelow first all hub.new }
+            (Supplies C.may_tell service.old.clock service.new.clock D.may_give service.old.words service.new.words)
+            result service.old.hub service.new.hub }
+        ensures below { (all : Connections) → ConnectionsRepresent service.old.hub all
+            → LeavesBelow round.first all service.new.hub }
     {
         for _ in 0..PASSES {
-            self.links.turns(hub, first, clock, words, self.now)?;
+            self.links.turns(service, round)?;
         }
         Ok(())
     }
 
     /// Closes the connections whose time is over, if it is time to look. Once no more are accepted, those that are idle
     /// are not waited for longer than where their places are wanted.
-    fn look<S: Store>(&mut self, hub: &mut Hub<S>, first: u64)
+    fn look<S: Store>(&mut self, hub: &mut Hub<S>, round: Round)
         ensures steps { ClosesSome S.seen hub.old hub.new }
-        ensures below { (all : Connections) → ConnectionsRepresent hub.old all → LeavesBelow first all hub.new }
+        ensures below { (all : Connections) → ConnectionsRepresent hub.old all → LeavesBelow round.first all hub.new }
     {
-        if self.now >= self.look_at {
-            self.look_at = self.now.saturating_add(TICK);
-            self.links
-                .look(hub, first, self.now, self.accepting.is_shut());
+        if round.now >= self.look_at {
+            self.look_at = round.now.saturating_add(TICK);
+            self.links.look(hub, round, self.accepting.is_shut());
         }
     }
 }

@@ -9,6 +9,7 @@ ghost use Rattle.hub.specs.declared.serve.ConnectionFault.TheVariants.{Broker};
 ghost use Rattle.server.specs.ServedHub.{LeavesBelow, LeavesServed, is_skipped};
 
 use crate::replying::Replying;
+use crate::service::{Round, Service};
 use crate::waiting::{Wait, is_over};
 use broker::Store;
 use broker_types::Fault;
@@ -95,15 +96,14 @@ impl Peer {
     /// touched.
     pub(crate) fn turn<S: Store, C: Clock, D: WordSource>(
         &mut self,
-        hub: &mut Hub<S>,
-        first: u64,
-        clock: &mut C,
-        words: &mut D,
-        now: u64,
+        service: &mut Service<S, C, D>,
+        round: Round,
     ) -> Result<Stay, Fault>
         ensures served { LeavesServed S.seen
-            (Supplies C.may_tell clock.old clock.new D.may_give words.old words.new) result hub.old hub.new }
-        ensures below { (all : Connections) → ConnectionsRepresent hub.old all → LeavesBelow first all hub.new }
+            (Supplies C.may_tell service.old.clock service.new.clock D.may_give service.old.words service.new.words)
+            result service.old.hub service.new.hub }
+        ensures below { (all : Connections) → ConnectionsRepresent service.old.hub all
+            → LeavesBelow round.first all service.new.hub }
     {
         self.is_queued = false;
         self.status = None;
@@ -111,21 +111,28 @@ impl Peer {
             return Ok(self.drain());
         }
         // Numbers are given from the first on. The contract rests on this line, and not on who gave this one.
-        if self.link.conn() < first {
+        if self.link.conn() < round.first {
             return Ok(Stay::Gone);
         }
-        if self.is_done(hub) {
-            return Ok(self.begin_farewell(now));
+        if self.is_done(&service.hub) {
+            return Ok(self.begin_farewell(round.now));
         }
         let mut reader = NowReading::new(&self.stream);
         let mut writer = Replying::new(NowWriting::new(&self.stream));
-        match take_turn(hub, &mut self.link, &mut reader, &mut writer, clock, words) {
+        match take_turn(
+            &mut service.hub,
+            &mut self.link,
+            &mut reader,
+            &mut writer,
+            &mut service.clock,
+            &mut service.words,
+        ) {
             Ok(turn) => {
                 let is_emptied = reader.is_emptied();
                 let is_full = writer.sink().is_full();
                 self.status = made_in(turn, writer.status());
                 self.unmark(turn, is_emptied, is_full);
-                Ok(self.settle(hub, turn, now))
+                Ok(self.settle(&service.hub, turn, round.now))
             }
             Err(fault) => unskipped(fault),
         }

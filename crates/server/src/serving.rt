@@ -6,10 +6,11 @@ ghost use Rattle.hub.specs.World.{Connections};
 ghost use Rattle.server.specs.ServedHub.{LeavesBelow, LeavesSeen, LeavesServed, ServesLawfully};
 
 use crate::listening::Listening;
+use crate::service::Service;
 use broker::Store;
 use broker_types::Fault;
 use histories::all_that_is_asked_keeps_the_laws;
-use hub::{Hub, WordSource};
+use hub::WordSource;
 use std::time::Clock;
 
 /// Serves the connections of an address, many at once, until all were served that were to be. One that ends by a fault
@@ -22,29 +23,29 @@ use std::time::Clock;
 /// drawn once.
 pub fn serve<S: Store, C: hub::Clock, D: WordSource, R: Clock>(
     rt: &R,
-    hub: &mut Hub<S>,
+    service: &mut Service<S, C, D>,
     listening: Listening,
-    clock: &mut C,
-    words: &mut D,
 ) -> Result<(), Fault>
     ensures served { LeavesServed S.seen
-        (Supplies C.may_tell clock.old clock.new D.may_give words.old words.new) result hub.old hub.new }
+        (Supplies C.may_tell service.old.clock service.new.clock D.may_give service.old.words service.new.words)
+        result service.old.hub service.new.hub }
 
     // Whatever the rows are, no connection that was seen before changes.
-    ensures others { (all : Connections) → ConnectionsRepresent hub.old all → LeavesSeen all hub.new }
+    ensures others { (all : Connections) → ConnectionsRepresent service.old.hub all → LeavesSeen all service.new.hub }
 
     // All that was asked, over all the connections, keeps the laws over a history: those of what is given out, handed
     // out and kept, of tokens and leases, and of secrets and mounts.
     ensures lawful { ServesLawfully S.seen
-        (Supplies C.may_tell clock.old clock.new D.may_give words.old words.new) hub.old hub.new }
+        (Supplies C.may_tell service.old.clock service.new.clock D.may_give service.old.words service.new.words)
+        service.old.hub service.new.hub }
 {
     all_that_is_asked_keeps_the_laws();
     let mut listening = listening;
-    let Some(first) = hub.open_conn() else {
+    let Some(first) = service.hub.open_conn() else {
         return Ok(());
     };
     listening.begin(first);
-    let served = serve_rounds(rt, hub, first, &mut listening, clock, words);
+    let served = rounds(rt, service, first, &mut listening);
     if served.is_err() {
         listening.send_rests();
     }
@@ -52,23 +53,23 @@ pub fn serve<S: Store, C: hub::Clock, D: WordSource, R: Clock>(
 }
 
 /// Serves in rounds, until all is done, under numbers from the first on.
-fn serve_rounds<S: Store, C: hub::Clock, D: WordSource, R: Clock>(
+fn rounds<S: Store, C: hub::Clock, D: WordSource, R: Clock>(
     rt: &R,
-    hub: &mut Hub<S>,
+    service: &mut Service<S, C, D>,
     first: u64,
     listening: &mut Listening,
-    clock: &mut C,
-    words: &mut D,
 ) -> Result<(), Fault>
     ensures served { LeavesServed S.seen
-        (Supplies C.may_tell clock.old clock.new D.may_give words.old words.new) result hub.old hub.new }
-    ensures below { (all : Connections) → ConnectionsRepresent hub.old all → LeavesBelow first all hub.new }
+        (Supplies C.may_tell service.old.clock service.new.clock D.may_give service.old.words service.new.words)
+        result service.old.hub service.new.hub }
+    ensures below { (all : Connections) → ConnectionsRepresent service.old.hub all
+        → LeavesBelow first all service.new.hub }
 {
     for _ in 0..u64::MAX {
         if listening.is_done() {
             return Ok(());
         }
-        listening.round(rt, hub, first, clock, words)?;
+        listening.round(rt, service, first)?;
     }
     Ok(())
 }

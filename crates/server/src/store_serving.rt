@@ -8,6 +8,7 @@ ghost use Rattle.server.specs.Starting.{IsAlwaysHonest, IsFaultOfNew};
 use crate::listening::Listening;
 use crate::log::{Log, shared};
 use crate::noting::Noting;
+use crate::service::Service;
 use crate::serving::serve;
 use crate::settings::Settings;
 use crate::system_clock::SystemClock;
@@ -25,13 +26,13 @@ use std::rt::HostRuntime;
 /// be printed (a fault of writing), or the address not be listened on or standard input not be waited for (one of
 /// reading); and as `serve` does. A store with the rows of a sound broker, in a storage that returns what was written,
 /// has no damaged row.
-pub fn serve_store<S: Store + Drop, D: WordSource>(
+pub fn serve_store<S: Store + Drop, D: WordSource + Drop>(
     rt: &HostRuntime,
     store: S,
     root: Option<TokenText>,
     settings: &Settings<'_>,
     log: Option<Rc<Log>>,
-    words: &mut D,
+    words: D,
 ) -> Result<(), ConnectionFault>
     ensures { IsAlwaysHonest S.seen → IsTrue (S.seen store).is_open → (b : Broker)
         → Represents None (S.seen store).rows b → IfErr result IsFaultOfNew }
@@ -45,9 +46,10 @@ pub fn serve_store<S: Store + Drop, D: WordSource>(
         Ok(listening) => listening,
         Err(error) => return Err(fault_of(&error)),
     };
-    let mut hub = Hub::new(rt.alloc(), Noting::new(store, shared(&log)?));
-    let mut clock = SystemClock::new(rt);
-    serve(rt, &mut hub, listening, &mut clock, words)?;
+    let hub = Hub::new(rt.alloc(), Noting::new(store, shared(&log)?));
+    let clock = SystemClock::new(rt);
+    let mut service = Service { hub, clock, words };
+    serve(rt, &mut service, listening)?;
     if let Some(log) = &log {
         log.tell("stopped");
     }

@@ -4,7 +4,7 @@ use Rattle.server.proofs.links.Links.look.Goals as goal
 pub loop-init : goal.loop-init
 loop-init g c = record {
   steps = closes_none g.S.Store.seen c.args.hub.now;
-  below = λ all each. below_all c.args.first all c.args.hub.now each;
+  below = λ all each. below_all c.args.round.first all c.args.hub.now each;
 }
 
 pub loop-preserved : goal.loop-preserved
@@ -12,5 +12,6 @@ loop-preserved g c = record {
   steps = closes_on g.S.Store.seen c.args.hub.now c.loop.hub c.close.new.hub c.loop.invariant.steps
       c.close.ensures.steps;
   below = λ all each.
-      below_on c.args.first all c.loop.hub c.close.new.hub (c.loop.invariant.below all each) c.close.ensures.below;
+      below_on c.args.round.first all c.loop.hub c.close.new.hub (c.loop.invariant.below all each)
+      c.close.ensures.below;
 }

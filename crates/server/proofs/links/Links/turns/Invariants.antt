@@ -6,7 +6,9 @@ use Rattle.server.proofs.links.Links.turns.Given as goal
 abbrev pub invariant-loop : goal.invariant-loop
 invariant-loop g l = record {
   served : LeavesServed {A = Unit {0}} g.S.Store.seen
-      (Supplies g.C.Clock.may_tell l.fn.clock l.clock g.D.WordSource.may_give l.fn.words l.words)
-      (Ok tt) l.fn.hub l.hub;
-  below : (all : Connections) → ConnectionsRepresent l.fn.hub all → LeavesBelow l.fn.first all l.hub;
+      (Supplies g.C.Clock.may_tell l.fn.service.clock l.service.clock
+      g.D.WordSource.may_give l.fn.service.words l.service.words)
+      (Ok tt) l.fn.service.hub l.service.hub;
+  below : (all : Connections) → ConnectionsRepresent l.fn.service.hub all
+      → LeavesBelow l.fn.round.first all l.service.hub;
 }

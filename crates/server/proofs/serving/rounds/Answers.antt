@@ -1,0 +1,44 @@
+use Rattle.records.specs.Words.{◌∙◌, Ok, Err, ap, err_from_is_err_and}
+use Rattle.hub.specs.Words.{Supplies-append, Supplies-nil}
+use Rattle.server.proofs.ServingLemmas.{below_all, below_on, leaves_none, leaves_on}
+use Rattle.server.proofs.serving.rounds.Goals as goal
+
+pub loop-init : goal.loop-init
+loop-init g c =
+    let old = c.args.service.now in
+    record {
+      served = leaves_none g.S.Store.seen _ tt old.hub
+          (Supplies-nil g.C.Clock.may_tell old.clock g.D.WordSource.may_give old.words);
+      below = λ all each. below_all c.args.first all old.hub each;
+    }
+
+pub loop-preserved : goal.loop-preserved
+loop-preserved g c =
+    let old = c.args.service.now in
+    let mid = c.loop.service in
+    let new = c.round.new.service in
+    record {
+      served = leaves_on g.S.Store.seen _ _ _ tt (Ok tt) old.hub mid.hub new.hub
+          (Supplies-append g.C.Clock.may_tell old.clock mid.clock new.clock g.D.WordSource.may_give
+          old.words mid.words new.words)
+          c.loop.invariant.served c.in_ok-round.ensures.served;
+      below = λ all each.
+          below_on c.args.first all mid.hub new.hub (c.loop.invariant.below all each) c.round.ensures.below;
+    }
+
+pub returns-in_err-round-clause-served : goal.returns-in_err-round-clause-served
+returns-in_err-round-clause-served g c =
+    let p = err_from_is_err_and c.from_residual.result c.from_residual.ensures.1 in
+    let old = c.args.service.now in
+    let mid = c.loop.service in
+    let new = c.round.new.service in
+    rw (p.1 ∙ ap Err p.2)
+    (leaves_on g.S.Store.seen _ _ _ tt (Err c.in_err-round.field-0.0) old.hub mid.hub new.hub
+    (Supplies-append g.C.Clock.may_tell old.clock mid.clock new.clock g.D.WordSource.may_give
+    old.words mid.words new.words)
+    c.loop.invariant.served c.in_err-round.ensures.served)
+
+pub returns-in_err-round-clause-below : goal.returns-in_err-round-clause-below
+returns-in_err-round-clause-below g c = λ all each.
+    below_on c.args.first all c.loop.service.hub c.round.new.service.hub (c.loop.invariant.below all each)
+    c.round.ensures.below
