@@ -14,6 +14,7 @@ from repository import TOP
 PAGES = "usr/share/doc/dehluvima"
 UNIT = "usr/lib/systemd/system/dehluvima.service"
 PLACES = {"bin/brokerd": "usr/bin/brokerd", "bin/client": "usr/bin/dehluvima-client"}
+PLACES |= {"bin/dehluvima-run": "usr/bin/dehluvima-run"}
 MAINTAINER_SCRIPTS = ("postinst", "prerm", "postrm")
 
 

@@ -21,9 +21,9 @@ inside() {
         PATH=/usr/sbin:/usr/bin:/sbin:/bin DEBIAN_FRONTEND=noninteractive LC_ALL=C.UTF-8 "$@"
 }
 
-# The same, as the user of the service and with the modes of its unit.
+# The same, as the user of the service and with the modes of its unit. The first line that is printed is its number.
 as_user() {
-    inside setpriv --reuid dehluvima --regid dehluvima --clear-groups sh -c 'umask 077 && exec "$@"' sh "$@"
+    inside setpriv --reuid dehluvima --regid dehluvima --clear-groups sh -c 'umask 077 && echo $$ && exec "$@"' sh "$@"
 }
 
 # A command in the new Debian that has to pass: did WHAT COMMAND..
@@ -37,7 +37,7 @@ state() {
     (cd "$system" && find . -xdev | grep -Ev "$left_out" | sort && cat etc/passwd etc/group etc/shadow etc/gshadow)
 }
 
-# The values of a key of the unit, each on one line: setting KEY
+# The value of a key of the unit, on one line: setting KEY
 setting() {
     sed -e ':again; /\\$/{N; s/\\\n */ /; b again}' "$system/usr/lib/systemd/system/dehluvima.service" |
         sed -n "s/^$1=//p"
@@ -46,11 +46,9 @@ setting() {
 # Starts the program as the unit does, on a free port, and has its URL in `url`.
 start() {
     local line port='' turn
-    inside install -d -o dehluvima -g dehluvima -m 700 /run/dehluvima
-    while read -r line; do eval "as_user $line"; done <<< "$(setting ExecStartPre)"
     line=$(setting ExecStart)
     : > "$found/log"
-    eval "as_user timeout 120 ${line/:8200/:0}" 2> "$found/log" &
+    eval "as_user timeout 120 ${line/:8200/:0}" > "$found/number" 2> "$found/log" &
     running=$!
     for turn in {1..100}; do
         port=$(sed -n 's/.* listening on 127\.0\.0\.1://p' "$found/log")
@@ -63,7 +61,7 @@ start() {
 
 # Stops it as the unit does.
 stop() {
-    timeout 5 sh -c "echo > $system/run/dehluvima/stop"
+    kill "$(cat "$found/number")"
     wait "$running"
     same "stopping it" "$?" 0
 }
@@ -139,7 +137,7 @@ listed=$(dpkg-deb -c "$found/1/$package")
 same "the owners" "$(awk '{ print $2 }' <<< "$listed" | sort -u)" root/root
 same "the modes" "$(awk '{ print $1 }' <<< "$listed" | sort -u | xargs)" "-rw-r--r-- -rwxr-xr-x drwxr-xr-x"
 same "what is run" "$(awk '/^-rwx/ { print $6 }' <<< "$listed" | xargs)" \
-    "./usr/bin/brokerd ./usr/bin/dehluvima-client ./usr/share/doc/dehluvima/examples/backup.sh"
+    "./usr/bin/brokerd ./usr/bin/dehluvima-client ./usr/bin/dehluvima-run ./usr/share/doc/dehluvima/examples/backup.sh"
 dpkg-deb -x "$found/1/$package" "$found/unpacked"
 same "brokerd --version" "$("$found/unpacked/usr/bin/brokerd" --version)" "brokerd $version"
 same "dehluvima-client --version" "$("$found/unpacked/usr/bin/dehluvima-client" --version)" "client $version"

@@ -62,6 +62,8 @@ for program in brokerd client; do
     said=$("$unpacked/bin/$program" --version)
     if [ $? -eq 0 ] && [ "$said" = "$program $version" ]; then pass; else fail "$program --version" "$said"; fi
 done
+said=$("$unpacked/bin/dehluvima-run" "$unpacked/bin/brokerd" serve --listen nowhere --stop-on-input 2>&1 > /dev/null)
+if [ $? -eq 1 ] && [ "$said" = 'fault 5' ]; then pass; else fail "dehluvima-run" "$said"; fi
 if command -v systemd-analyze > /dev/null; then
     said=$(verify dehluvima '')
     if [ -z "$said" ]; then pass; else fail "the unit" "$said"; fi

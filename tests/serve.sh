@@ -326,7 +326,7 @@ limit=300 count python3 tests/served/remembered.py "$program"
 count python3 tests/upgrade/opened.py "$program"
 count python3 tests/upgrade/rewritten.py "$program"
 count python3 tests/upgrade/killed.py "$program" --keys 5000
-count_together many_peers.py slow_peers.py "slow_peers.py --alone" scarce_descriptors.py stopping.py
+count_together many_peers.py slow_peers.py "slow_peers.py --alone" scarce_descriptors.py stopping.py signalled.py
 count python3 tests/served/logged.py "$program"
 count python3 tests/served/short_lives.py "$program" 4000
 count python3 tests/served/fault_at_once.py "$program"

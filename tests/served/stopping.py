@@ -3,31 +3,24 @@
 
     python3 tests/served/stopping.py PROGRAM
 
-A thousand requests of eight clients are on their way when it is told to stop: by the end of its standard input, by a
-byte there, as the unit of examples/ does it, and, where PROGRAM is that of this repository, by SIGTERM to
-`bin/brokerd`. Each client has whole replies from the first one on, and then the end; the file has afterwards what was
+A thousand requests of eight clients are on their way when it is told to stop: by the end of its standard input, or by a
+byte there. Each client has whole replies from the first one on, and then the end; the file has afterwards what was
 answered, and nothing else. Other cases: who is waited for, and for how long; what standard input may be. The last line
-is 'N passed, M failed'.
+is 'N passed, M failed'. signalled.py beside this stops it by signals.
 """
 
 import concurrent.futures
 import contextlib
 import json
-import os
-import re
-import shlex
-import signal
 import subprocess
 import sys
 import tempfile
 import threading
 import time
-from pathlib import Path
 
 from broker import Broker, connect, exchange, free_port, reply, request
 from cases import between, expect, report, tried
 
-TOP = Path(__file__).resolve().parent.parent.parent
 CLIENTS = 8
 REQUESTS = 125  # of each client
 BEFORE = 150  # so many are answered before the stop, at least
@@ -41,9 +34,9 @@ class Client(threading.Thread):
     """A client with its requests: all sent before a reply is read, or one after another, or each on a connection of its
     own. It takes down which were answered, and whether a further one was sent."""
 
-    def __init__(self, port, token, place, count):
+    def __init__(self, port, token, place, requests, count):
         super().__init__()
-        self.port, self.token, self.place, self.count = port, token, place, count
+        self.port, self.token, self.place, self.requests, self.count = port, token, place, requests, count
         self.answered, self.part, self.wrong = 0, b"", None
 
     def run(self):
@@ -62,33 +55,33 @@ class Client(threading.Thread):
 
     def at_once(self):
         with connect(self.port) as connection:
-            connection.sendall(b"".join(write(self.token, self.place, number) for number in range(REQUESTS)))
+            connection.sendall(b"".join(write(self.token, self.place, number) for number in range(self.requests)))
             rest = b""
-            for _ in range(REQUESTS):
+            for _ in range(self.requests):
                 status, body, rest = reply(connection, rest)
                 if not self.take(status, body):
                     return
 
     def in_turn(self):
         with connect(self.port) as connection:
-            for number in range(REQUESTS):
+            for number in range(self.requests):
                 connection.sendall(write(self.token, self.place, number))
                 if not self.take(*reply(connection)[:2]):
                     return
 
     def apart(self):
-        for number in range(REQUESTS):
+        for number in range(self.requests):
             with connect(self.port, 0.0) as connection:
                 connection.sendall(write(self.token, self.place, number))
                 if not self.take(*reply(connection)[:2]):
                     return
 
 
-def kept(program, file, token):
+def kept(program, file, token, count):
     """How many secrets of each client the file has, which are the first ones."""
     found = []
     with Broker(program, "--db", file, token=token) as broker, connect(broker.port) as connection:
-        for place in range(CLIENTS):
+        for place in range(count):
             status, body, _ = exchange(connection, request("LIST", f"secret/metadata/c{place}", token))
             keys = {int(key) for key in json.loads(body)["data"]["keys"]} if status == 200 else set()
             expect(keys == set(range(len(keys))), f"client {place} has the keys {sorted(keys)}")
@@ -107,38 +100,35 @@ def printed(process, _):
     return process.stdout.readline().decode().split()[-1]
 
 
-def put_by(_, folder):
-    """The root token, which the unit has the first start put by."""
-    file, until = Path(folder) / "root-token", time.monotonic() + 20
-    while not (file.exists() and file.read_text(encoding="ascii").endswith("\n")):
-        expect(time.monotonic() < until, "no root token was put by")
-        time.sleep(0.01)
-    return file.read_text(encoding="ascii").split()[-1]
-
-
-def in_flight(program, stop, start, token_of=printed):
-    """Stops a program while the clients ask. It is started by the words that `start` answers."""
+def in_flight(program, stop, start, token_of=printed, clients=CLIENTS, requests=REQUESTS, **options):
+    """Stops a program while so many clients ask, so often each. It is started by the words that `start` answers; the
+    options are those of its process, which `stop` is given."""
+    options = {"stdin": subprocess.PIPE, **options}
     with tempfile.TemporaryDirectory() as folder:
         file, port = f"{folder}/broker.db", free_port()
-        with subprocess.Popen(start(folder, port), stdin=subprocess.PIPE, stdout=subprocess.PIPE,
-                              stderr=subprocess.DEVNULL) as process:
-            token = token_of(process, folder)
-            connect(port).close()
-            clients = asked(port, token, lambda: stop(process))
-            expect(process.wait(25) == 0, f"the status is {process.returncode}")
-        told, found = [client.answered for client in clients], kept(program, file, token)
+        with subprocess.Popen(start(folder, port), stdout=subprocess.PIPE, stderr=subprocess.DEVNULL,
+                              **options) as process:
+            try:
+                token = token_of(process, folder)
+                connect(port).close()
+                clients = asked(port, token, lambda: stop(process), clients, requests)
+                expect(process.wait(25) == 0, f"the status is {process.returncode}")
+            finally:
+                process.kill()
+        told, found = [client.answered for client in clients], kept(program, file, token, len(clients))
     for client in clients:
         expect(client.wrong is None, f"a reply is {client.wrong}")
         expect(client.part == b"", f"a part of a reply: {client.part[:80]}")
     expect(found == told, f"the replies are {told}, and the file has {found}")
-    expect(BEFORE <= sum(told) < CLIENTS * REQUESTS, f"{sum(told)} requests were answered")
-    return f"{sum(told)} of {CLIENTS * REQUESTS} requests were answered"
+    most = len(clients) * requests
+    expect(BEFORE <= sum(told) < most, f"{sum(told)} requests were answered")
+    return f"{sum(told)} of {most} requests were answered"
 
 
-def asked(port, token, stop):
+def asked(port, token, stop, count, requests):
     """The clients, once all have ended. The program is stopped while they ask."""
     answered = threading.Semaphore(0)
-    clients = [Client(port, token, place, answered.release) for place in range(CLIENTS)]
+    clients = [Client(port, token, place, requests, answered.release) for place in range(count)]
     for client in clients:
         client.start()
     for _ in range(BEFORE):
@@ -164,36 +154,6 @@ def a_byte(program):
         process.stdin.flush()
 
     return in_flight(program, send_byte, served(program))
-
-
-def by_signal(program):
-    return in_flight(program, lambda process: process.send_signal(signal.SIGTERM), served(TOP / "bin/brokerd"))
-
-
-def by_the_unit(program):
-    """The commands of the unit, with other paths and another port."""
-    unit = (TOP / "examples/dehluvima.service").read_text(encoding="utf-8").replace("\\\n", "")
-    place, ending = {}, []
-
-    def commands(name):
-        for words in re.findall(rf"^{name}=(.*)$", unit, re.MULTILINE):
-            for old, new in place.items():
-                words = words.replace(old, new)
-            yield shlex.split(words)
-
-    def start(folder, port):
-        place.update({"/usr/local/bin/brokerd": str(Path(program).resolve()), "/run/dehluvima": folder,
-                      "/var/lib/dehluvima": folder, "127.0.0.1:8200": f"127.0.0.1:{port}"})
-        for words in commands("ExecStartPre"):
-            subprocess.run(words, check=True)
-        return next(commands("ExecStart"))
-
-    def stop(process):
-        ending.append(subprocess.Popen(next(commands("ExecStop")), env={**os.environ, "MAINPID": str(process.pid)}))
-
-    met = in_flight(program, stop, start, put_by)
-    expect(ending[0].wait(10) == 0, "the unit does not see the end")
-    return met
 
 
 def who_is_waited_for(program):
@@ -264,11 +224,7 @@ def standard_input(program):
 
 def main():
     program = sys.argv[1]
-    cases = [the_end, a_byte, by_the_unit, who_is_waited_for, the_limit, standard_input]
-    if Path(program).resolve() == TOP / "crates/brokerd/out/brokerd":
-        cases.append(by_signal)
-    else:
-        print("stopping, by signal: the program is another one, not tried")
+    cases = [the_end, a_byte, who_is_waited_for, the_limit, standard_input]
     with concurrent.futures.ThreadPoolExecutor() as pool:
         return report("stopping", list(zip(cases, pool.map(lambda case: tried(case, program), cases))))
 
