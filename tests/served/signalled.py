@@ -94,8 +94,9 @@ def sighup(program):
 
 
 def from_a_terminal(program):
-    """Ctrl-C is sent to all processes, the program too."""
-    return signalled(program, signal.SIGINT, by_script(program), to_all, start_new_session=True)
+    """Ctrl-C, and the end of the terminal, are sent to all processes, the program too."""
+    return "; ".join(signalled(program, number, by_script(program), to_all, start_new_session=True)
+                     for number in (signal.SIGINT, signal.SIGHUP))
 
 
 def put_by(_, folder):
@@ -156,8 +157,8 @@ def in_a_container(program):
 def as_the_first_process(program):
     """There the other signals do the same, and processes that others have left are reaped."""
     words = namespace()
-    met = [signalled(program, number, by_script(program, *words), to_the_first)
-           for number in (signal.SIGINT, signal.SIGHUP)]
+    met = "; ".join(signalled(program, number, by_script(program, *words), to_the_first)
+                    for number in (signal.SIGINT, signal.SIGHUP))
     leaving = ["sh", "-c", '(sleep 0.1 & sleep 0.2 &); exec "$@"', "sh"]
     command = [*words, SCRIPT, *leaving, program, "serve", "--listen", "127.0.0.1:0", "--stop-on-input"]
     with subprocess.Popen(command, stdout=subprocess.PIPE, preexec_fn=heed_signals) as process:
@@ -171,7 +172,7 @@ def as_the_first_process(program):
             expect(process.wait(20) == 0, f"the status is {process.returncode}")
         finally:
             process.kill()
-    return "; ".join(met)
+    return met
 
 
 def other_shells(program):
