@@ -170,10 +170,11 @@ def fails_to_prove(checkout):
     """Where a program is not built, its scripts fail; where `rt ci` is killed, all ends."""
     checkout.tell("client", "kill -9 $$")
     status, said, last = checkout.run()
-    of_client = ("tests/serve.sh", "tests/package.sh", "tests/fuzz_client.py", "tests/stores.sh", "tests/fuzz.py")
+    of_client = ("tests/serve.sh", "tests/run.sh proxied", "tests/package.sh", "tests/fuzz_client.py",
+                 "tests/stores.sh", "tests/fuzz.py")
     yield "a program that is not built", all(f"bin/test: {it}: " in said for it in of_client) and status == 1
     yield "what needs no other is run", "tests/rows.sh " in checkout.ran("scripts")
-    yield "the count", last.endswith(" passed, 9 failed")
+    yield "the count", last.endswith(" passed, 10 failed")
 
 
 def fails_tests(checkout):

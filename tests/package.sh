@@ -1,7 +1,7 @@
 #!/bin/bash
-# Makes the package twice and compares the bytes, unpacks the archive into an empty folder, verifies its unit by systemd
-# if that is installed, and there types the quick start of README.md on a PATH without the toolchain. The Debian package
-# is looked at by debian.sh. The last line is 'N passed, M failed'; the status is 0 if nothing failed.
+# Makes the package twice and compares the bytes, unpacks the archive into an empty folder, verifies its units by
+# systemd if that is installed, and there types the quick start of README.md on a PATH without the toolchain. The Debian
+# package is looked at by debian.sh. The last line is 'N passed, M failed'; the status is 0 if nothing failed.
 set -u
 . "$(dirname "$0")/lib.sh"
 make_folder
@@ -24,11 +24,11 @@ tools() {
     echo "$found/tools:$(path_without_toolchain)"
 }
 
-# What systemd says of the unit, with the program where it was unpacked, and changed by sed: verify NAME SCRIPT. It
-# speaks of other units of the machine too, which do not count.
+# What systemd says of a unit, with a program that is there, and changed by sed: verify FILE NAME SCRIPT. It speaks of
+# other units of the machine too, which do not count.
 verify() {
-    sed -e "s|/usr/local/bin/brokerd|$unpacked/bin/brokerd|" -e "$2" "$unpacked/dehluvima.service" > "$found/$1.service"
-    systemd-analyze verify "$found/$1.service" 2>&1 | grep -F "$1.service"
+    sed -E "s#/usr/(local/bin/brokerd|bin/stunnel)#$unpacked/bin/brokerd#; $3" "$unpacked/$1" > "$found/$2.service"
+    systemd-analyze verify "$found/$2.service" 2>&1 | grep -F "$2.service"
 }
 
 for turn in 1 2; do
@@ -65,12 +65,14 @@ done
 said=$("$unpacked/bin/dehluvima-run" "$unpacked/bin/brokerd" serve --listen nowhere --stop-on-input 2>&1 > /dev/null)
 if [ $? -eq 1 ] && [ "$said" = 'fault 5' ]; then pass; else fail "dehluvima-run" "$said"; fi
 if command -v systemd-analyze > /dev/null; then
-    said=$(verify dehluvima '')
-    if [ -z "$said" ]; then pass; else fail "the unit" "$said"; fi
-    said=$(verify mistaken 's/^Restart=always$/Restart=sometimes/')
-    if [ -n "$said" ]; then pass; else fail "the unit" "systemd-analyze says nothing of one with a mistake"; fi
+    for unit in dehluvima.service examples/dehluvima-tls.service; do
+        said=$(verify "$unit" verified '')
+        if [ -z "$said" ]; then pass; else fail "$unit" "$said"; fi
+        said=$(verify "$unit" mistaken 's/^Restart=always$/Restart=sometimes/')
+        if [ -n "$said" ]; then pass; else fail "$unit" "systemd-analyze says nothing of one with a mistake"; fi
+    done
 else
-    echo "package: systemd-analyze: not installed, the unit is not verified"
+    echo "package: systemd-analyze: not installed, the units are not verified"
 fi
 
 PATH=$(tools)

@@ -1,11 +1,13 @@
 #!/usr/bin/env python3
-"""Asks a running `brokerd serve` over TLS, through HAProxy and nginx as examples/ configures them.
+"""Asks a running `brokerd serve` over TLS, through HAProxy and nginx as examples/ configures them; and by the client,
+through stunnel and socat before these.
 
     python3 tests/served/proxied.py PROGRAM [--idle] [PROXY..]
 
-Without the name of a proxy, `haproxy` or `nginx`, both are tried (docs/TLS.md), in some five seconds. One that is not
-installed is not, and it says so: apt-get install haproxy nginx. With --idle it also waits until the proxy closes a
-connection to the broker that nobody uses, which takes a minute. The last line is 'N passed, M failed'.
+Without the name of a proxy, `haproxy` or `nginx`, both are tried (docs/TLS.md), in some ten seconds. What is not
+installed is not tried, and it says so: apt-get install haproxy nginx stunnel4 socat. CLIENT names another client. With
+--idle it also waits until the proxy closes a connection to the broker that nobody uses, which takes a minute. The last
+line is 'N passed, M failed'.
 """
 
 import concurrent.futures
@@ -22,6 +24,7 @@ import warnings
 from pathlib import Path
 
 from broker import Broker, connect
+from near_end import NEAR_ENDS, client_program, try_near_end
 from proxy import Listener, Proxy, installed, length_of, make_certificate
 
 LEAST = 80  # checks of a proxy that is installed
@@ -339,17 +342,21 @@ def try_proxy(name, program, is_patient):
 
 def main():
     warnings.simplefilter("ignore", DeprecationWarning)  # of TLS 1.1
-    words = [word for word in sys.argv[1:] if word != "--idle"]
-    passed = failed = 0
-    for name in words[1:] or ("haproxy", "nginx"):
+    program, *names = [word for word in sys.argv[1:] if word != "--idle"]
+    names = names or ["haproxy", "nginx"]
+    for name in (*names, *NEAR_ENDS):
         if not installed(name):
             print(f"proxy: {name}: not installed, not tried")
-            continue
-        more, wrong = try_proxy(name, words[0], "--idle" in sys.argv)
+    names, near_ends = ([*filter(installed, some)] for some in (names, NEAR_ENDS))
+    client = client_program() if names and near_ends else None
+    passed = failed = 0
+    for name in names:
+        more, wrong = try_proxy(name, program, "--idle" in sys.argv)
         if more + wrong < LEAST:
             print(f"proxy: {name}: {more + wrong} checks, which are too few")
             wrong += 1
-        passed, failed = passed + more, failed + wrong
+        outcomes = [(more, wrong), *(try_near_end(near, name, program, client) for near in near_ends)]
+        passed, failed = (count + sum(some) for count, some in zip((passed, failed), zip(*outcomes)))
     print(f"{passed} passed, {failed} failed")
     return failed != 0
 

@@ -1,8 +1,11 @@
-"""A proxy of the distribution in front of a port of the loopback address, with its configuration of examples/; and what
-stands behind it in place of a broker. proxied.py has the checks."""
+"""A program of the distribution that passes on what comes to a port of the loopback address, as examples/ or
+docs/TLS.md have it: a proxy in front of a broker, or the near end of TLS on a client's machine. And the certificates of
+both, and what stands in place of a broker. proxied.py and near_end.py have the checks."""
 
 import contextlib
 import os
+import re
+import shlex
 import shutil
 import socket
 import ssl
@@ -13,10 +16,11 @@ from pathlib import Path
 
 from broker import connect, free_port
 
-EXAMPLES = Path(__file__).resolve().parent.parent.parent / "examples"
+TOP = Path(__file__).resolve().parent.parent.parent
 PATIENCE = 20.0  # seconds until a proxy listens
 
-# What a configuration is given in place of its ports, folders and users: each text occurs once in it.
+# What a configuration is given in place of its ports, folders and users: each text occurs once in it. The name that a
+# near end looks for in a certificate stays.
 CHANGES = {
     "haproxy": {
         ":443 ssl": "127.0.0.1:{outside} ssl",
@@ -34,7 +38,20 @@ CHANGES = {
         "error_log /var/log/nginx/dehluvima-error.log crit;":
             "error_log {folder}/nginx-error.log crit; error_log {folder}/nginx-warned.log warn;",
     },
+    "stunnel": {
+        "accept = 127.0.0.1:8200": "accept = 127.0.0.1:{outside}",
+        "connect = vault.example.org:443": "connect = 127.0.0.1:{inside}",
+        "/etc/dehluvima/ca.pem": "{folder}/ca.pem",
+    },
+    "socat": {
+        "TCP4-LISTEN:8200,": "TCP4-LISTEN:{outside},",
+        "OPENSSL:vault.example.org:443,": "OPENSSL:127.0.0.1:{inside},",
+        "cafile=ca.pem": "cafile={folder}/ca.pem",
+    },
 }
+
+# The words of openssl for a new key.
+NEW_KEY = ("-newkey", "ec", "-pkeyopt", "ec_paramgen_curve:prime256v1", "-nodes")
 
 # The configuration of nginx that reads the example, where Debian has its own.
 AROUND = """daemon off;
@@ -52,8 +69,9 @@ http {{
 }}
 """
 
-FILES = {"haproxy": "haproxy.cfg", "nginx": "nginx.conf"}
-LOGS = {"haproxy": ("haproxy.out",), "nginx": ("nginx.log", "nginx-error.log")}
+FILES = {"haproxy": "haproxy.cfg", "nginx": "nginx.conf", "stunnel": "stunnel.conf"}
+LOGS = {"haproxy": ("haproxy.out",), "nginx": ("nginx.log", "nginx-error.log"), "stunnel": ("stunnel.out",),
+        "socat": ("socat.out",)}
 
 
 def installed(name):
@@ -61,34 +79,70 @@ def installed(name):
     return shutil.which(name, path=f"{os.environ['PATH']}:/usr/sbin")
 
 
-def make_certificate(folder):
-    """A certificate of the loopback address that signs itself, its key, and a file with both."""
-    subprocess.run(["openssl", "req", "-x509", "-newkey", "ec", "-pkeyopt", "ec_paramgen_curve:prime256v1", "-nodes",
-                    "-subj", "/CN=127.0.0.1", "-addext", "subjectAltName=IP:127.0.0.1", "-days", "2",
-                    "-keyout", folder / "key.pem", "-out", folder / "certificate.pem"],
-                   check=True, stdout=subprocess.DEVNULL, stderr=subprocess.DEVNULL)
+def openssl(*words):
+    subprocess.run(["openssl", *words], check=True, stdout=subprocess.DEVNULL, stderr=subprocess.DEVNULL)
+
+
+def write_both(folder):
+    """Writes a certificate and its key into one file, as HAProxy wants them."""
     both = (folder / "certificate.pem").read_bytes() + (folder / "key.pem").read_bytes()
     (folder / "both.pem").write_bytes(both)
 
 
+def make_certificate(folder):
+    """A certificate of the loopback address that signs itself, its key, and a file with both."""
+    openssl("req", "-x509", *NEW_KEY, "-subj", "/CN=127.0.0.1", "-addext", "subjectAltName=IP:127.0.0.1", "-days", "2",
+            "-keyout", folder / "key.pem", "-out", folder / "certificate.pem")
+    write_both(folder)
+
+
+def make_authority(folder):
+    """The certificate of a CA, and its key."""
+    openssl("req", "-x509", *NEW_KEY, "-subj", "/CN=CA", "-days", "2", "-keyout", folder / "ca.key",
+            "-out", folder / "ca.pem")
+
+
+def make_signed(folder, authority, host, days):
+    """A certificate of a host that is signed by the CA of another folder, its key, and a file with both. It expires
+    after so many days; -1 was yesterday."""
+    openssl("req", "-new", *NEW_KEY, "-subj", "/CN=proxy", "-addext", f"subjectAltName=DNS:{host}",
+            "-keyout", folder / "key.pem", "-out", folder / "request.pem")
+    openssl("x509", "-req", "-in", folder / "request.pem", "-copy_extensions", "copy", "-days", str(days),
+            "-CA", authority / "ca.pem", "-CAkey", authority / "ca.key", "-CAcreateserial",
+            "-out", folder / "certificate.pem")
+    write_both(folder)
+
+
+def published(name):
+    """The configuration of examples/, or the command of docs/TLS.md."""
+    if name == "socat":
+        page = (TOP / "docs/TLS.md").read_text(encoding="utf-8").replace("\\\n", " ")
+        return re.search(r"^    (socat .*)$", page, re.MULTILINE)[1]
+    return (TOP / "examples" / FILES[name]).read_text(encoding="utf-8")
+
+
 class Proxy:
-    """A proxy that runs in the foreground until the block ends, in front of the port `inside`. Its files are in a
-    folder, which has the certificate."""
+    """A proxy or a near end that runs in the foreground until the block ends, in front of the port `inside`. Its files
+    are in a folder, which has the certificate of a proxy, or the CA of a near end."""
 
     def __init__(self, name, folder, inside):
         self.name, self.folder, self.inside = name, folder, inside
 
     def configuration(self):
         """The published configuration, with the ports and folders of this run."""
-        text = (EXAMPLES / FILES[self.name]).read_text(encoding="utf-8")
+        text = published(self.name)
         for old, new in CHANGES[self.name].items():
             if text.count(old) != 1:
-                raise SystemExit(f"{FILES[self.name]}: there is not one {old!r}")
+                raise SystemExit(f"the configuration of {self.name}: there is not one {old!r}")
             text = text.replace(old, new.format(outside=self.port, inside=self.inside, folder=self.folder))
         return text
 
     def command(self):
+        if self.name == "socat":
+            return shlex.split(self.configuration())
         (self.folder / "example").write_text(self.configuration(), encoding="utf-8")
+        if self.name == "stunnel":
+            return [installed("stunnel"), self.folder / "example"]
         if self.name == "haproxy":
             return [installed("haproxy"), "-db", "-f", self.folder / "example"]
         (self.folder / "around").write_text(AROUND.format(folder=self.folder), encoding="utf-8")
@@ -110,7 +164,8 @@ class Proxy:
         until = time.monotonic() + PATIENCE
         while self.process.poll() is None and time.monotonic() < until:
             try:
-                connect(self.port, 0.0).close()
+                with contextlib.suppress(ConnectionResetError):  # by a near end that reaches no proxy
+                    connect(self.port, 0.0).close()
                 return True
             except ConnectionRefusedError:
                 time.sleep(0.02)
@@ -152,7 +207,7 @@ class Listener:
     for one whose path has `lost`, after which it closes the connection without a reply."""
 
     def __enter__(self):
-        self.requests = []
+        self.connections, self.requests = 0, []
         self.closed_after = None  # seconds from the last request on a connection until the other side closed it
         self.listening = socket.create_server(("127.0.0.1", 0))
         self.port = self.listening.getsockname()[1]
@@ -168,6 +223,7 @@ class Listener:
                 connection, _ = self.listening.accept()
             except OSError:
                 return
+            self.connections += 1
             threading.Thread(target=self.serve, args=(connection,), daemon=True).start()
 
     def serve(self, connection):
