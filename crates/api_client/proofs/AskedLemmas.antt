@@ -1,5 +1,6 @@
 -- What is sent for a command asks what the command means.
-use Rattle.std.proofs.Common.{◌≡◌, ◌&&◌, ◌==◌, ◌<◌, ◌∷◌, ◌++◌, ℕ, Bool, true, false, cond, List, [], length, drop, map}
+use Rattle.std.proofs.Common.{◌≡◌, ◌&&◌, ◌==◌, ◌<◌, ◌∷◌, ◌++◌, if◌then◌else◌, ℕ, Bool, true, false, cond, List, []}
+use Rattle.std.proofs.Common.{length, drop, map}
 use Rattle.broker_types.specs.Words.{Option, Some, None, Ok, Err, codes, option_map, unwrap_or, refl, ap, ◌∙◌, subst}
 use Rattle.broker_types.specs.Words.{arith, option_or, is_utf8, nat_tests, is_utf8-from_IsUtf8, is_path, without_slash}
 use Rattle.httparse.specs.Grammar.{trim_ows}
@@ -9,29 +10,40 @@ use Rattle.broker_types.specs.declared.refusal.Reason.TheVariants as reason
 use Rattle.http_layer.specs.Words.{asked, bad_request, client_token, path_asked, path_read, token_asked, value_asked}
 use Rattle.http_layer.specs.Words.{verb_asked, wrap_ttl_asked, IsFront, whole, HeadField, parts_of, same_in_any_case}
 use Rattle.http_layer.specs.Words.{PrintedLengthIsRead, PrintedRequestIsFront, printed_head}
-use Rattle.api_client.specs.Asking.{Asks, IsOptionalField, IsPathText, IsSendable, verb_of}
+use Rattle.broker_types.specs.declared.ask.Verb.TheVariants as verbs
+use Rattle.http_layer.specs.Query.{version_asked}
+use Rattle.api_client.specs.Asking.{Asks, IsOptionalField, IsPathText, IsSendable, verb_of, version_text}
 use Rattle.api_client.specs.Commands.{is_field_text}
-use Rattle.api_client.specs.Requests.{body_of, method_of, path_of, sent}
+use Rattle.api_client.specs.Requests.{body_of, method_of, path_of, sent, version_of}
 use Rattle.api_client.specs.declared.command.Command.{Command}
 use Rattle.api_client.specs.declared.command.Request.{Request}
 use Rattle.api_client.specs.declared.command.Request.TheVariants as request
-use Rattle.api_client.proofs.PathLemmas.{percent_decode-escaped, target_of, target_path-target, target_query-target}
-use Rattle.api_client.proofs.PathLemmas.{without_slash-path}
+use Rattle.api_client.proofs.PathLemmas.{lists_no_version, percent_decode-escaped, query_text, target_path-target}
+use Rattle.api_client.proofs.PathLemmas.{target_query-target, target_to, version_asked-query, without_slash-path}
 use Rattle.api_client.proofs.SentLemmas.{optional_field, can_be_sent, client_token_sent, no_credentials, path_good}
 use Rattle.api_client.proofs.SentLemmas.{printed, sent_fields, values_in, wrap_ttl_sent}
 use Rattle.api_client.proofs.TextLemmas.{field_parts, trim_visible, visible_text}
 
-verb : (r : Request) → verb_asked (method_of r) [] ≡ Ok (verb_of r)
-verb (request.Read path) = refl
-verb (request.Write path body) = refl
-verb (request.List path) = refl
-verb (request.Delete path) = refl
-verb (request.Unwrap t) = refl
+verb : (r : Request) → IsSendable r → verb_asked (method_of r) (query_text (version_of r)) ≡ Ok (verb_of r)
+verb (request.Read path version) good =
+    ap (λ (b : Bool). Ok (if b then verbs.List else verbs.Get)) (lists_no_version version good.1)
+verb (request.Write path body) good = refl
+verb (request.List path) good = refl
+verb (request.Delete path) good = refl
+verb (request.Unwrap t) good = refl
+
+-- the version that the query asks for
+version_sent : (r : Request) → IsSendable r → version_asked (query_text (version_of r)) ≡ version_text (version_of r)
+version_sent (request.Read path version) good = version_asked-query version good.1
+version_sent (request.Write path body) good = refl
+version_sent (request.List path) good = refl
+version_sent (request.Delete path) good = refl
+version_sent (request.Unwrap t) good = refl
 
 -- the path that the target names
-path : (p : List ℕ) → IsPathText p → path_asked (target_of p) ≡ Ok p
-path p good =
-    ap (λ (t : List ℕ). path_read (percent_decode (drop 4 t))) (target_path-target p)
+path : (p : List ℕ) (version : Option ℕ) → IsPathText p → path_asked (target_to p version) ≡ Ok p
+path p version good =
+    ap (λ (t : List ℕ). path_read (percent_decode (drop 4 t))) (target_path-target p version)
     ∙ ap path_read (percent_decode-escaped p good.bytes)
     ∙ ap (λ (b : Bool). cond (b && is_path (without_slash p)) (Ok (without_slash p))
     (Err (bad_request reason.InvalidPath))) (is_utf8-from_IsUtf8 p good.text)
@@ -85,8 +97,9 @@ sent_asks law length_law c address vault ttl good =
     let len = option_map length (body_of c.request) in
     let body = unwrap_or (body_of c.request) [] in
     let p = path_of c.request in
-    let h = printed_head (method_of c.request) (target_of p) (sent_fields c len) in
-    let front = law (method_of c.request) (target_of p) (sent_fields c len) body
+    let v = version_of c.request in
+    let h = printed_head (method_of c.request) (target_to p v) (sent_fields c len) in
+    let front = law (method_of c.request) (target_to p v) (sent_fields c len) body
     (can_be_sent length_law c address vault ttl good) in
     record {
       head = parts_of h;
@@ -94,10 +107,11 @@ sent_asks law length_law c address vault ttl good =
       front = subst (λ (bytes : List ℕ). IsFront (bytes ++ body) (whole (length (bytes ++ body)) (parts_of h) body))
           (printed c len) front;
       asks = rw (
-        target_query-target p,
-        verb c.request,
+        target_query-target p v,
+        verb c.request good,
+        version_sent c.request good,
         token c len vault,
         wrap_ttl c len ttl,
-        path p (path_good c.request good),
+        path p v (path_good c.request good),
       ) refl;
     }

@@ -1,5 +1,6 @@
 -- Paths as they are sent in a target.
-use Rattle.std.proofs.Common.{◌≡◌, ◌≢◌, ◌+◌, ◌-◌, ◌*◌, ◌<◌, ◌≤◌, ◌&&◌, ◌∷◌, ◌++◌, ℕ, suc, Bool, true, false, not, cond}
+use Rattle.std.proofs.Common.{◌≡◌, ◌≢◌, ◌+◌, ◌-◌, ◌*◌, ◌^◌, ◌<◌, ◌≤◌, ◌==◌, ◌&&◌, ◌∷◌, ◌++◌, ℕ, suc, Bool, true, false}
+use Rattle.std.proofs.Common.{not, cond}
 use Rattle.broker_types.specs.Words.{List, [], length, take, drop, All, refl, ap, ◌∙◌, subst, arith, length-append}
 use Rattle.broker_types.specs.Words.{nat_lt, nat_le, list_all, position_or_len, drop_of_length-le, and_parts, leb-true}
 use Rattle.broker_types.specs.Words.{ltb-true, false≢true, nat_tests, take_all, All-append, All-cons, All-head, All-nil}
@@ -8,7 +9,15 @@ use Rattle.percent_encoding.specs.Percent.{percent_decode, percent_encode_byte}
 use Rattle.percent_encoding.proofs.PercentLemmas.{All-percent_encode_byte, IsEscapeByte, percent_decode-nil}
 use Rattle.percent_encoding.proofs.PercentLemmas.{percent_decode_not_percent, percent_decode-percent_encode_byte}
 use Rattle.broker_types.specs.PathLaws.{slash_not_last}
-use Rattle.http_layer.specs.Words.{is_query_mark, target_path, target_query}
+use Rattle.std.proofs.Math.Seq.{take-append_seam}
+use Rattle.std.proofs.lemmas.List.Splits.{slice_split_none}
+use Rattle.std.specs.List.{find}
+use Rattle.broker_types.specs.Words.{Option, Some, None, IfSome, codes, decimal, digit_value, AllDigits, append-nil}
+use Rattle.broker_types.specs.Words.{decimal_is_IsNumeral, list_any, option_map_or, slice_split}
+use Rattle.http_layer.specs.Query.{lists, version_asked}
+use Rattle.http_layer.specs.Words.{is_list_part, is_query_mark, is_version_part, target_path, target_query}
+use Rattle.api_client.specs.Asking.{version_text}
+use Rattle.api_client.specs.Requests.{query_line}
 use Rattle.api_client.specs.Commands.{is_visible}
 use Rattle.api_client.specs.Escaping.{escaped, escaped_byte, is_plain}
 use Rattle.api_client.proofs.TextLemmas.{AreVisible}
@@ -102,9 +111,32 @@ all_before (b ∷ bs) none =
     one_more : (n : ℕ) → 1 + n ≡ suc n
     one_more n = omega arith
 
--- the target of a path
+-- before a `?` that none precedes
+mark_at : (t rest : List ℕ) → All (λ b. is_query_mark b ≡ false) t
+    → position_or_len is_query_mark (t ++ 63 ∷ rest) ≡ length t
+mark_at [] rest none = refl
+mark_at (b ∷ bs) rest none =
+    ap (λ (q : Bool). cond (not q) (1 + position_or_len is_query_mark (bs ++ 63 ∷ rest)) 0)
+    (All-head (λ c. is_query_mark c ≡ false) b bs none)
+    ∙ ap (λ (n : ℕ). 1 + n) (mark_at bs rest (All-tail (λ c. is_query_mark c ≡ false) b bs none)) ∙ one_more (length bs)
+  where
+    one_more : (n : ℕ) → 1 + n ≡ suc n
+    one_more n = omega arith
+
+-- ---- the target of a path, and of a version of it
+
+-- the target up to the query
 abbrev pub target_of : List ℕ → List ℕ
 target_of path = 47 ∷ 118 ∷ 49 ∷ 47 ∷ escaped path
+
+-- the target, with the query that asks for a version
+abbrev pub target_to : List ℕ → Option ℕ → List ℕ
+target_to path version = 47 ∷ 118 ∷ 49 ∷ 47 ∷ (escaped path ++ query_line version)
+
+-- the query
+abbrev pub query_text : Option ℕ → List ℕ
+query_text None = []
+query_text (Some version) = codes "version=" ++ decimal version
 
 no_query : (path : List ℕ) → All (λ b. is_query_mark b ≡ false) (target_of path)
 no_query path =
@@ -115,12 +147,64 @@ no_query path =
         → All (λ c. is_query_mark c ≡ false) (b ∷ bs)
     more b bs is rest = All-cons (λ c. is_query_mark c ≡ false) b bs is rest
 
-pub target_path-target : (path : List ℕ) → target_path (target_of path) ≡ target_of path
-target_path-target path =
-    let t = target_of path in
-    ap (λ (n : ℕ). take n t) (all_before t (no_query path)) ∙ take_all (length t) t (omega arith)
+-- without a version it ends with the path
+ends : (path : List ℕ) → target_to path None ≡ target_of path
+ends path = ap (λ (e : List ℕ). 47 ∷ 118 ∷ 49 ∷ 47 ∷ e) (append-nil (escaped path))
 
-pub target_query-target : (path : List ℕ) → target_query (target_of path) ≡ []
-target_query-target path =
+pub target_path-target : (path : List ℕ) (version : Option ℕ) → target_path (target_to path version) ≡ target_of path
+target_path-target path None =
     let t = target_of path in
-    ap (λ (n : ℕ). drop (n + 1) t) (all_before t (no_query path)) ∙ drop_of_length-le t (omega arith)
+    ap target_path (ends path) ∙ ap (λ (n : ℕ). take n t) (all_before t (no_query path))
+    ∙ take_all (length t) t (omega arith)
+target_path-target path (Some version) =
+    let t = target_of path in
+    let query = query_text (Some version) in
+    ap (λ (n : ℕ). take n (t ++ 63 ∷ query)) (mark_at t query (no_query path)) ∙ take-append_seam t (63 ∷ query)
+
+pub target_query-target : (path : List ℕ) (version : Option ℕ)
+    → target_query (target_to path version) ≡ query_text version
+target_query-target path None =
+    let t = target_of path in
+    ap target_query (ends path) ∙ ap (λ (n : ℕ). drop (n + 1) t) (all_before t (no_query path))
+    ∙ drop_of_length-le t (omega arith)
+target_query-target path (Some version) =
+    let t = target_of path in
+    let query = query_text (Some version) in
+    ap (λ (n : ℕ). drop (n + 1) (t ++ 63 ∷ query)) (mark_at t query (no_query path)) ∙ drop_past t 63 query
+  where
+    one_more : (n : ℕ) → suc n + 1 ≡ suc (n + 1)
+    one_more n = omega arith
+
+    drop_past : (t : List ℕ) (b : ℕ) (rest : List ℕ) → drop (length t + 1) (t ++ b ∷ rest) ≡ rest
+    drop_past [] b rest = refl
+    drop_past (c ∷ cs) b rest =
+        ap (λ (n : ℕ). drop n (c ∷ (cs ++ b ∷ rest))) (one_more (length cs)) ∙ drop_past cs b rest
+
+-- ---- what the query asks for
+
+abbrev is_and : ℕ → Bool
+is_and b = b == 38
+
+digit_no_and : (c : ℕ) → digit_value c < 10 → is_and c ≡ false
+digit_no_and c small = grind (arith, nat_tests)
+
+digits_no_and : (ds : List ℕ) → AllDigits 10 ds → All (λ b. is_and b ≡ false) ds
+digits_no_and [] h = All-nil (λ b. is_and b ≡ false)
+digits_no_and (c ∷ cs) h = All-cons (λ b. is_and b ≡ false) c cs (digit_no_and c h.0) (digits_no_and cs h.1)
+
+-- the query of a version is one part
+one_part : (version : ℕ) → version < 2 ^ 64
+    → slice_split (λ b. b == 38) (query_text (Some version)) ≡ query_text (Some version) ∷ []
+one_part version small =
+    rw (slice_split_none (λ b. b == 38) (decimal version)
+    (digits_no_and (decimal version) (decimal_is_IsNumeral version small).0.1)) refl
+
+pub lists_no_version : (version : Option ℕ) → IfSome version (λ n. n < 2 ^ 64) → lists (query_text version) ≡ false
+lists_no_version None small = refl
+lists_no_version (Some version) small = ap (list_any is_list_part) (one_part version small)
+
+pub version_asked-query : (version : Option ℕ) → IfSome version (λ n. n < 2 ^ 64)
+    → version_asked (query_text version) ≡ version_text version
+version_asked-query None small = refl
+version_asked-query (Some version) small =
+    ap (λ (parts : List (List ℕ)). option_map_or (drop 8) (find is_version_part parts) []) (one_part version small)

@@ -1,5 +1,6 @@
 -- What is sent for a command is a request of the grammar of HTTP, with its body.
-use Rattle.std.proofs.Common.{◌≡◌, ◌+◌, ◌*◌, ◌/◌, ◌%◌, ◌<◌, ◌≤◌, ◌∷◌, ◌++◌, ℕ, nat_lt, Bool, true, false, cond, List}
+use Rattle.std.proofs.Common.{◌≡◌, ◌+◌, ◌*◌, ◌/◌, ◌%◌, ◌^◌, ◌<◌, ◌≤◌, ◌∷◌, ◌++◌, ℕ, nat_lt, Bool, true, false, cond}
+use Rattle.std.proofs.Common.{List}
 use Rattle.broker_types.specs.Words.{[], length, map, All, IfSome, Option, Some, None, Ok, codes, decimal, option_map}
 use Rattle.broker_types.specs.Words.{unwrap_or, refl, sym, ap, ap₂, ◌∙◌, subst, arith, lit<, append_assoc, append-nil}
 use Rattle.broker_types.specs.Words.{length-append, filter, flat_map, map-append, filter-append, All-append, All-cons}
@@ -16,11 +17,11 @@ use Rattle.api_client.specs.Asking.{IsOptionalField, IsPathText, IsSendable}
 use Rattle.api_client.specs.Commands.{is_field_text, is_short_text, is_visible}
 use Rattle.api_client.specs.Escaping.{escaped}
 use Rattle.api_client.specs.Requests.{body_of, field_line, head_lines, length_line, method_of, optional_line, path_of}
-use Rattle.api_client.specs.Requests.{request_line, unwrap_object}
+use Rattle.api_client.specs.Requests.{query_line, request_line, unwrap_object, version_of}
 use Rattle.api_client.specs.declared.command.Command.{Command}
 use Rattle.api_client.specs.declared.command.Request.{Request}
 use Rattle.api_client.specs.declared.command.Request.TheVariants as request
-use Rattle.api_client.proofs.PathLemmas.{escaped_visible, length-escaped, path_parts, target_of}
+use Rattle.api_client.proofs.PathLemmas.{escaped_visible, length-escaped, path_parts, target_to}
 use Rattle.api_client.proofs.TextLemmas.{AreVisible, decimal_visible, field_parts, field_raw, trim_visible}
 use Rattle.api_client.proofs.TextLemmas.{visible_text}
 
@@ -75,21 +76,23 @@ print_fields c len =
     ∙ ap₂ (λ (a b : List ℕ). a ++ b) (print_optional (codes "X-Vault-Wrap-TTL") c.wrap_ttl)
     (ap₂ (λ (a b : List ℕ). a ++ b) (print_one (codes "Connection") (codes "close")) (print_length len))))
 
-regroup : (m e h t w k l : List ℕ)
-    → m ++ (32 ∷ 47 ∷ 118 ∷ 49 ∷ 47 ∷ e) ++ codes " HTTP/1.1" ++ (13 ∷ 10 ∷ [])
+regroup : (m e q h t w k l : List ℕ)
+    → m ++ (32 ∷ 47 ∷ 118 ∷ 49 ∷ 47 ∷ (e ++ q)) ++ codes " HTTP/1.1" ++ (13 ∷ 10 ∷ [])
     ++ (h ++ (t ++ (w ++ (k ++ l))) ++ (13 ∷ 10 ∷ []))
-    ≡ m ++ codes " /v1/" ++ e ++ codes " HTTP/1.1" ++ (13 ∷ 10 ∷ []) ++ h ++ t ++ w ++ k ++ l ++ (13 ∷ 10 ∷ [])
-regroup m e h t w k l = simp append_assoc
+    ≡ m ++ codes " /v1/" ++ e ++ q ++ codes " HTTP/1.1" ++ (13 ∷ 10 ∷ []) ++ h ++ t ++ w ++ k ++ l ++ (13 ∷ 10 ∷ [])
+regroup m e q h t w k l = simp append_assoc
 
 pub printed : (c : Command) (len : Option ℕ) → print_request
-    (printed_head (method_of c.request) (target_of (path_of c.request)) (sent_fields c len)) ≡ head_lines c len
+    (printed_head (method_of c.request) (target_to (path_of c.request) (version_of c.request)) (sent_fields c len))
+    ≡ head_lines c len
 unfolding print_request
 printed c len =
     let m = method_of c.request in
     let e = escaped (path_of c.request) in
-    ap (λ (fs : List ℕ). m ++ (32 ∷ 47 ∷ 118 ∷ 49 ∷ 47 ∷ e) ++ codes " HTTP/1.1" ++ (13 ∷ 10 ∷ [])
+    let q = query_line (version_of c.request) in
+    ap (λ (fs : List ℕ). m ++ (32 ∷ 47 ∷ 118 ∷ 49 ∷ 47 ∷ (e ++ q)) ++ codes " HTTP/1.1" ++ (13 ∷ 10 ∷ [])
     ++ (fs ++ (13 ∷ 10 ∷ []))) (print_fields c len)
-    ∙ regroup m e (field_line (codes "Host") c.address) (optional_line (codes "X-Vault-Token") c.token)
+    ∙ regroup m e q (field_line (codes "Host") c.address) (optional_line (codes "X-Vault-Token") c.token)
     (optional_line (codes "X-Vault-Wrap-TTL") c.wrap_ttl)
     (field_line (codes "Connection") (codes "close")) (length_line len)
 
@@ -197,7 +200,7 @@ length_sent c len =
 
 method_token : (r : Request) → IsToken (method_of r)
 unfolding is_token_byte
-method_token (request.Read path) = (lit< tt, AllPass-from_list_all is_token_byte (codes "GET") refl)
+method_token (request.Read path version) = (lit< tt, AllPass-from_list_all is_token_byte (codes "GET") refl)
 method_token (request.Write path body) = (lit< tt, AllPass-from_list_all is_token_byte (codes "POST") refl)
 method_token (request.List path) = (lit< tt, AllPass-from_list_all is_token_byte (codes "LIST") refl)
 method_token (request.Delete path) = (lit< tt, AllPass-from_list_all is_token_byte (codes "DELETE") refl)
@@ -206,10 +209,19 @@ method_token (request.Unwrap t) = (lit< tt, AllPass-from_list_all is_token_byte 
 uri_byte : (b : ℕ) → is_visible b ≡ true → is_uri_byte b ≡ true
 uri_byte b visible = grind (arith, nat_tests)
 
-target_visible : (path : List ℕ) → AreVisible (target_of path)
-target_visible path =
-    more 47 (118 ∷ 49 ∷ 47 ∷ escaped path) refl (more 118 (49 ∷ 47 ∷ escaped path) refl
-    (more 49 (47 ∷ escaped path) refl (more 47 (escaped path) refl (escaped_visible path))))
+query_visible : (version : Option ℕ) → IfSome version (λ n. n < 2 ^ 64) → AreVisible (query_line version)
+query_visible None small = All-nil (λ b. is_visible b ≡ true)
+query_visible (Some version) small =
+    All-append (λ b. is_visible b ≡ true) (codes "?version=") (decimal version)
+    (AllPass-from_list_all is_visible (codes "?version=") refl) (decimal_visible version small)
+
+target_visible : (path : List ℕ) (version : Option ℕ) → IfSome version (λ n. n < 2 ^ 64)
+    → AreVisible (target_to path version)
+target_visible path version small =
+    let rest : List ℕ = escaped path ++ query_line version in
+    more 47 (118 ∷ 49 ∷ 47 ∷ rest) refl (more 118 (49 ∷ 47 ∷ rest) refl (more 49 (47 ∷ rest) refl (more 47 rest refl
+    (All-append (λ b. is_visible b ≡ true) (escaped path) (query_line version) (escaped_visible path)
+    (query_visible version small)))))
   where
     more : (b : ℕ) (bs : List ℕ) → is_visible b ≡ true → AreVisible bs → AreVisible (b ∷ bs)
     more b bs is rest = All-cons (λ c. is_visible c ≡ true) b bs is rest
@@ -326,19 +338,34 @@ length_short (Some n) short = omega (
 )
 
 method_short : (r : Request) → length (method_of r) ≤ 6
-method_short (request.Read path) = omega arith
+method_short (request.Read path version) = omega arith
 method_short (request.Write path body) = omega arith
 method_short (request.List path) = omega arith
 method_short (request.Delete path) = omega arith
 method_short (request.Unwrap t) = omega arith
 
-line_length : (m e : List ℕ) → length (m ++ codes " /v1/" ++ e ++ codes " HTTP/1.1" ++ (13 ∷ 10 ∷ [])) ≡ length m + 5
-    + length e + 9 + 2
-line_length m e = simp length-append
+line_length : (m e q : List ℕ) → length (m ++ codes " /v1/" ++ e ++ q ++ codes " HTTP/1.1" ++ (13 ∷ 10 ∷ []))
+    ≡ length m + 5 + length e + length q + 9 + 2
+line_length m e q = simp length-append
 
-line_short : (r : Request) → length (path_of r) ≤ 512 → length (request_line r) ≤ 1600
-line_short r short =
-    omega (arith, line_length (method_of r) (escaped (path_of r)), method_short r, length-escaped (path_of r))
+query_short : (version : Option ℕ) → IfSome version (λ n. n < 2 ^ 64) → length (query_line version) ≤ 29
+query_short None small = omega arith
+query_short (Some version) small = omega (
+  arith,
+  length-append (codes "?version=") (decimal version),
+  length-decimal-le 20 version (lit< tt) (omega arith) small,
+)
+
+line_short : (r : Request) → IfSome (version_of r) (λ n. n < 2 ^ 64) → length (path_of r) ≤ 512
+    → length (request_line r) ≤ 1629
+line_short r small short =
+    omega (
+      arith,
+      line_length (method_of r) (escaped (path_of r)) (query_line (version_of r)),
+      method_short r,
+      length-escaped (path_of r),
+      query_short (version_of r) small,
+    )
 
 pub lines_length : (a b d e f g : List ℕ) → length (a ++ b ++ d ++ e ++ f ++ g ++ (13 ∷ 10 ∷ [])) ≡ length a + length b
     + length d + length e + length f + length g + 2
@@ -346,15 +373,16 @@ lines_length a b d e f g = simp length-append
 
 head_short : (c : Command) (len : Option ℕ) → is_field_text c.address ≡ true → IsOptionalField c.token
     → IsOptionalField c.wrap_ttl → IfSome len (λ n. n ≤ longest_body)
-    → length (path_of c.request) ≤ 512 → length (head_lines c len) ≤ longest_head
-head_short c len address vault ttl short path =
+    → IfSome (version_of c.request) (λ n. n < 2 ^ 64) → length (path_of c.request) ≤ 512
+    → length (head_lines c len) ≤ longest_head
+head_short c len address vault ttl short small path =
     let token = optional_line (codes "X-Vault-Token") c.token in
     let wrap_ttl = optional_line (codes "X-Vault-Wrap-TTL") c.wrap_ttl in
     omega (
       arith,
       lines_length (request_line c.request) (field_line (codes "Host") c.address) token wrap_ttl
           (field_line (codes "Connection") (codes "close")) (length_line len),
-      line_short c.request path,
+      line_short c.request small path,
       length-field_line (codes "Host") c.address,
       (field_parts c.address address).1,
       optional_short (codes "X-Vault-Token") c.token vault,
@@ -365,7 +393,7 @@ head_short c len address vault ttl short path =
 -- ---- the paths and bodies of requests
 
 pub path_good : (r : Request) → IsSendable r → IsPathText (path_of r)
-path_good (request.Read path) good = good
+path_good (request.Read path version) good = good.0
 path_good (request.Write path body) good = good.0
 path_good (request.List path) good = good
 path_good (request.Delete path) good = good
@@ -379,6 +407,13 @@ path_good (request.Unwrap t) good = record {
   where
     byte : (b : ℕ) → is_visible b ≡ true → b < 256
     byte b visible = grind (arith, nat_tests)
+
+pub version_small : (r : Request) → IsSendable r → IfSome (version_of r) (λ n. n < 2 ^ 64)
+version_small (request.Read path version) good = good.1
+version_small (request.Write path body) good = tt
+version_small (request.List path) good = tt
+version_small (request.Delete path) good = tt
+version_small (request.Unwrap t) good = tt
 
 escape_short : (b : ℕ) → length (escape_byte b) ≤ 6
 unfolding escape_byte
@@ -406,7 +441,7 @@ unwrap_short (Some t) good =
     whole k e = simp length-append (omega arith)
 
 pub body_short : (r : Request) → IsSendable r → IfSome (option_map length (body_of r)) (λ n. n ≤ longest_body)
-body_short (request.Read path) good = tt
+body_short (request.Read path version) good = tt
 body_short (request.Write path body) good = good.1
 body_short (request.List path) good = tt
 body_short (request.Delete path) good = tt
@@ -426,29 +461,31 @@ told law (Some body) short =
 
 pub can_be_sent : PrintedLengthIsRead → (c : Command) → is_field_text c.address ≡ true → IsOptionalField c.token
     → IsOptionalField c.wrap_ttl → IsSendable c.request
-    → CanBeSent (printed_head (method_of c.request) (target_of (path_of c.request))
+    → CanBeSent (printed_head (method_of c.request) (target_to (path_of c.request) (version_of c.request))
     (sent_fields c (option_map length (body_of c.request)))) (unwrap_or (body_of c.request) [])
 can_be_sent law c address vault ttl good =
     let len = option_map length (body_of c.request) in
     let path = path_of c.request in
     let short = body_short c.request good in
-    let visible = target_visible path in
+    let small = version_small c.request good in
+    let target = target_to path (version_of c.request) in
+    let visible = target_visible path (version_of c.request) small in
     record {
       valid = record {
         method = method_token c.request;
         target = (
           omega arith,
           All-weaker (λ b. is_visible b ≡ true) (λ b. is_uri_byte b ≡ true) uri_byte
-              (target_of path) visible,
+              target visible,
         );
-        target_text = visible_text (target_of path) visible;
+        target_text = visible_text target visible;
         minor = omega arith;
         fields = fields_valid c len address vault ttl short;
       };
       ends = fields_end c len;
       few = few c len;
       short = subst (λ (bytes : List ℕ). length bytes ≤ longest_head) (sym (printed c len))
-          (head_short c len address vault ttl short (path_parts path (path_good c.request good).good).1);
+          (head_short c len address vault ttl short small (path_parts path (path_good c.request good).good).1);
       host = host_once c len;
       uncoded = uncoded c len;
       body_length = ap content_length (length_sent c len) ∙ told law (body_of c.request) short;

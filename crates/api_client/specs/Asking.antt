@@ -1,12 +1,14 @@
 -- What the requests of the client ask (Vault's documentation, "HTTP API" and "Response wrapping").
-use Rattle.std.specs.Prelude.{◌≡◌, ◌<◌, ◌≤◌, ℕ, true, List, [], length, unwrap_or, Option, IfSome, All, IsUtf8, Result}
+use Rattle.std.specs.Prelude.{◌≡◌, ◌^◌, ◌<◌, ◌≤◌, ℕ, true, List, [], length, unwrap_or, Option, IfSome, All, IsUtf8}
+use Rattle.std.specs.Prelude.{Result}
+use Rattle.std.specs.Prelude.{Some, None, decimal}
 use Rattle.broker_types.specs.Words.{Ok, longest_body, is_path, Text}
 use Rattle.broker_types.specs.declared.ask.Ask.{Ask}
 use Rattle.broker_types.specs.declared.ask.Verb.{Verb}
 use Rattle.broker_types.specs.declared.ask.Verb.TheVariants as verb
 use Rattle.http_layer.specs.Words.{asked, wrap_ttl_read, IsFront, whole, HeadParts, RefusalParts, ◌>>=◌}
 use Rattle.api_client.specs.Commands.{is_field_text, is_short_text}
-use Rattle.api_client.specs.Requests.{body_of, path_of}
+use Rattle.api_client.specs.Requests.{body_of, path_of, version_of}
 use Rattle.api_client.specs.declared.command.Command.{Command}
 use Rattle.api_client.specs.declared.command.Request.{Request}
 use Rattle.api_client.specs.declared.command.Request.TheVariants as request
@@ -14,11 +16,16 @@ use Rattle.api_client.specs.declared.command.Request.TheVariants as request
 -- ---- what a command means
 
 abbrev pub verb_of : Request → Verb
-verb_of (request.Read path) = verb.Get
+verb_of (request.Read path version) = verb.Get
 verb_of (request.Write path body) = verb.Write
 verb_of (request.List path) = verb.List
 verb_of (request.Delete path) = verb.Delete
 verb_of (request.Unwrap token) = verb.Write
+
+-- the version that is asked for, as it is written
+abbrev pub version_text : Option ℕ → Text
+version_text None = []
+version_text (Some version) = decimal version
 
 -- the ask that a command means, or the refusal of a wrap TTL that is no duration
 abbrev pub ask_meant : Command → Result Ask RefusalParts
@@ -27,7 +34,7 @@ ask_meant c = do
   Ok (record {
     verb = verb_of c.request;
     path = path_of c.request;
-    version = [];
+    version = version_text (version_of c.request);
     token = c.token;
     wrap_ttl = wrap_ttl;
     body = unwrap_or (body_of c.request) [];
@@ -48,7 +55,7 @@ pub record IsPathText (path : List ℕ) : Type 0 where
   pub bytes : All (λ b. b < 256) path
 
 abbrev pub IsSendable : Request → Type 0
-IsSendable (request.Read path) = IsPathText path
+IsSendable (request.Read path version) = IsPathText path × IfSome version (λ n. n < 2 ^ 64)
 IsSendable (request.Write path body) = IsPathText path × (length body ≤ longest_body)
 IsSendable (request.List path) = IsPathText path
 IsSendable (request.Delete path) = IsPathText path

@@ -15,7 +15,7 @@ use Rattle.api_client.specs.declared.command.Request.TheVariants as request
 
 -- its method (Vault's documentation, "HTTP API", for LIST)
 abbrev pub method_of : Request → Text
-method_of (request.Read path) = codes "GET"
+method_of (request.Read path version) = codes "GET"
 method_of (request.Write path body) = codes "POST"
 method_of (request.List path) = codes "LIST"
 method_of (request.Delete path) = codes "DELETE"
@@ -23,11 +23,16 @@ method_of (request.Unwrap token) = codes "POST"
 
 -- its path, below `/v1/`
 abbrev pub path_of : Request → Text
-path_of (request.Read path) = path
+path_of (request.Read path version) = path
 path_of (request.Write path body) = path
 path_of (request.List path) = path
 path_of (request.Delete path) = path
 path_of (request.Unwrap token) = codes "sys/wrapping/unwrap"
+
+-- the version that it asks for
+abbrev pub version_of : Request → Option ℕ
+version_of (request.Read path version) = version
+version_of _ = None
 
 -- the object that names a wrapping token (Vault's documentation, "/sys/wrapping/unwrap")
 abbrev pub unwrap_object : Option Text → Data
@@ -51,9 +56,15 @@ NamesToken _ = ⊤
 
 -- ---- its lines
 
+-- the query that asks for a version (Vault's documentation, "KV secrets engine, version 2", "Read secret version")
+abbrev pub query_line : Option ℕ → Text
+query_line None = []
+query_line (Some version) = codes "?version=" ++ decimal version
+
 -- the request line (RFC 9112, section 3)
 abbrev pub request_line : Request → Text
-request_line r = method_of r ++ codes " /v1/" ++ escaped (path_of r) ++ codes " HTTP/1.1" ++ crlf
+request_line r =
+    method_of r ++ codes " /v1/" ++ escaped (path_of r) ++ query_line (version_of r) ++ codes " HTTP/1.1" ++ crlf
 
 -- the line of a field (RFC 9112, section 5)
 abbrev pub field_line : Text → Text → Text

@@ -1,6 +1,6 @@
 //! What is sent is read as it was meant: functions that do nothing, each with a fact as its contract.
 
-ghost use Rattle.std.specs.Prelude.{◌<◌, All};
+ghost use Rattle.std.specs.Prelude.{◌^◌, ◌<◌, All, IfSome};
 ghost use Rattle.api_client.specs.Asking.{Asks, IsOptionalField, IsPathText, IsSendable};
 ghost use Rattle.api_client.specs.Requests.{sent};
 
@@ -33,7 +33,11 @@ fn is_sendable(request: &Request<'_>)
     ensures { IsSendable request.now }
 {
     match request {
-        Request::Read(path) | Request::List(path) | Request::Delete(path) => is_path_text(path),
+        Request::Read(path, version) => {
+            is_path_text(path);
+            is_version(version);
+        }
+        Request::List(path) | Request::Delete(path) => is_path_text(path),
         Request::Write(path, body) => {
             is_path_text(path);
             let _ = body.as_slice();
@@ -42,6 +46,14 @@ fn is_sendable(request: &Request<'_>)
             let _ = token.as_str();
         }
         Request::Unwrap(None) => {}
+    }
+}
+
+fn is_version(version: &Option<u64>)
+    ensures { IfSome version.now (λ n. n < 2 ^ 64) }
+{
+    if let Some(version) = version {
+        let _version = *version;
     }
 }
 

@@ -19,7 +19,8 @@ pub struct Command<'a> {
 /// What is asked of a server (Vault's documentation, "HTTP API" and "Response wrapping").
 #[derive(Drop)]
 pub enum Request<'a> {
-    Read(Path<'a>),
+    /// What is at a path, or a version of it (Vault's documentation, "KV secrets engine, version 2").
+    Read(Path<'a>, Option<u64>),
     Write(Path<'a>, BodyBytes<'a>),
     List(Path<'a>),
     Delete(Path<'a>),

@@ -1,153 +1,123 @@
 //! The command line of the client, with its help.
 
-ghost use Rattle.std.specs.Prelude.{◌≡◌, IfOk, codes, false};
-ghost use Rattle.clap.specs.Words.{app_of, rule_of};
-ghost use Rattle.api_client.specs.CommandLine.{client_app, options_app, path_app, write_app, unwrap_app};
-ghost use Rattle.api_client.specs.CommandLine.{option_rule, value_rule, wanted};
+ghost use Rattle.std.specs.Prelude.{◌≡◌, IfOk};
+ghost use Rattle.clap.specs.Words.{app_of};
+ghost use Rattle.api_client.specs.CommandLine.{client_app, options_app, request_app, with_time_rules};
 
-use clap::Arg;
+use crate::arguments::{flag, option, wanted_option};
+use crate::subcommands::{with_leases, with_paths, with_policies, with_secrets, with_tokens};
 use endpoints::VERSION;
 use std::alloc::{AllocError, Global};
 
 const AFTER_HELP: &str =
-    "The body of the reply goes to standard output. The exit status is 0 after a reply\n\
-    with the status 200 or 204; 1 after any other reply, or if there is none, which\n\
-    standard error explains; 2 if the command line is wrong. A script reads it so:\n\n    \
-    if body=$(client --addr 127.0.0.1:8200 --token \"$TOKEN\" read secret/data/app)\n    \
-    then echo \"$body\"\n    \
-    else echo \"no secret\" >&2\n    \
-    fi\n\n\
-    VAULT_ADDR=http://HOST:PORT and VAULT_TOKEN in the environment take the place of --addr\n\
-    and --token.";
+    "Options may stand before or after the command, and be written with one dash.\n\
+    VAULT_ADDR=http://HOST:PORT takes the place of --addr. The token is that of --token,\n\
+    VAULT_TOKEN, the file of --token-file, that of VAULT_TOKEN_FILE, or ~/.vault-token.\n\n\
+    Examples:\n  \
+    export VAULT_ADDR=http://127.0.0.1:8200 VAULT_TOKEN_FILE=/run/app/token\n  \
+    client kv put secret/app user=app password=@password\n  \
+    password=$(client kv get --field password secret/app) || exit\n  \
+    client kv list secret\n  \
+    client kv delete secret/app\n  \
+    client token create --policy app --period 24h --field client_token > token\n  \
+    client token lookup --field ttl\n  \
+    client token renew --keep\n  \
+    client token revoke --accessor 083138d6-2df2-16c0-6e4c-ef963681c07b\n  \
+    client token list\n  \
+    client policy write app app.json\n  \
+    client policy read app --field policy\n  \
+    client policy delete app\n  \
+    client policy list\n  \
+    client lease renew db/creds/app/5a1dd4b5-60b6-4de5-a1ba-ef67e2a86a9e --increment 1h\n  \
+    client lease revoke db/creds/app/5a1dd4b5-60b6-4de5-a1ba-ef67e2a86a9e\n  \
+    client --wrap-ttl 5m --field wrap_info.token kv get secret/app > wrapping-token\n  \
+    client unwrap --token-file wrapping-token --field password\n  \
+    client write cubbyhole/a '{\"k\":\"v\"}'\n  \
+    client read cubbyhole/a\n  \
+    client list cubbyhole\n  \
+    client delete cubbyhole/a\n\n\
+    The exit status is 0 after a reply with the status 200 or 204; 1 after any other reply,\n\
+    or if there is none, which standard error explains (--exit-codes tells more); 2 if the\n\
+    command line is wrong.";
 
 /// The parser of the command line.
 pub(crate) fn client<'a>(alloc: Global) -> Result<clap::Command<'a>, AllocError>
     ensures { IfOk result (λ c. app_of c ≡ client_app) }
 {
-    options(alloc)?
-        .subcommand(read(alloc)?)?
-        .subcommand(write(alloc)?)?
-        .subcommand(list(alloc)?)?
-        .subcommand(delete(alloc)?)?
-        .subcommand(unwrap(alloc)?)
+    let client = with_paths(alloc, options(alloc)?)?;
+    let client = with_secrets(alloc, client)?;
+    let client = with_tokens(alloc, client)?;
+    let client = with_policies(alloc, client)?;
+    with_leases(alloc, client)
 }
 
-/// The client without its requests.
+/// The client without its commands.
 fn options<'a>(alloc: Global) -> Result<clap::Command<'a>, AllocError>
     ensures { IfOk result (λ c. app_of c ≡ options_app) }
 {
+    let client = request_options(alloc)?
+        .arg(option(
+            alloc,
+            "field",
+            "NAME",
+            "Print this member of the reply alone, as data.data.password or password",
+        ))?
+        .arg(option(
+            alloc,
+            "token-file",
+            "FILE",
+            "The file whose first line is the client token",
+        ))?;
+    time_options(alloc, client)
+}
+
+/// The client with the options of its request.
+fn request_options<'a>(alloc: Global) -> Result<clap::Command<'a>, AllocError>
+    ensures { IfOk result (λ c. app_of c ≡ request_app) }
+{
     clap::Command::new(alloc, "client")
-        .about("Sends one request to a Vault server, and prints the body of its reply")
+        .about("Asks a Vault server, and prints its reply")
         .after_help(AFTER_HELP)
         .version(VERSION)
         .subcommand_required(true)
-        .arg(address(alloc))?
-        .arg(token(alloc))?
-        .arg(wrap_ttl(alloc))
+        .arg(wanted_option(
+            alloc,
+            "addr",
+            "ADDR",
+            "The server: a host and a port, as 127.0.0.1:8200",
+        ))?
+        .arg(option(
+            alloc,
+            "token",
+            "T",
+            "The client token, which other users see in the list of processes",
+        ))?
+        .arg(option(
+            alloc,
+            "wrap-ttl",
+            "D",
+            "Wrap the reply: keep it so long, as 60 or 1h30m, for a token",
+        ))
 }
 
-fn address<'a>(alloc: Global) -> Arg<'a>
-    ensures rule { rule_of result ≡ wanted (option_rule (codes "addr")) }
-    ensures local { result.global ≡ false }
+/// Adds how long the client waits, and how it exits.
+fn time_options<'a>(
+    alloc: Global,
+    client: clap::Command<'a>,
+) -> Result<clap::Command<'a>, AllocError>
+    ensures { IfOk result (λ c. app_of c ≡ with_time_rules (app_of client.entry)) }
 {
-    Arg::new(alloc, "addr")
-        .long("addr")
-        .value_name("ADDR")
-        .required(true)
-        .help("The server: a host and a port, as 127.0.0.1:8200")
-}
-
-fn token<'a>(alloc: Global) -> Arg<'a>
-    ensures rule { rule_of result ≡ option_rule (codes "token") }
-    ensures local { result.global ≡ false }
-{
-    Arg::new(alloc, "token").long("token").value_name("T").help(
-        "The client token, which the server asks for with most requests",
-    )
-}
-
-fn wrap_ttl<'a>(alloc: Global) -> Arg<'a>
-    ensures rule { rule_of result ≡ option_rule (codes "wrap-ttl") }
-    ensures local { result.global ≡ false }
-{
-    Arg::new(alloc, "wrap-ttl")
-        .long("wrap-ttl")
-        .value_name("D")
-        .help("Wrap the reply: keep it so long, as 60 or 1h30m, for a token")
-}
-
-fn read<'a>(alloc: Global) -> Result<clap::Command<'a>, AllocError>
-    ensures { IfOk result (λ c. app_of c ≡ path_app (codes "read")) }
-{
-    clap::Command::new(alloc, "read")
-        .about("Reads what is at a path")
-        .after_help("Example: client --addr 127.0.0.1:8200 --token hvs.x read secret/data/app")
-        .arg(path(alloc))
-}
-
-fn write<'a>(alloc: Global) -> Result<clap::Command<'a>, AllocError>
-    ensures { IfOk result (λ c. app_of c ≡ write_app) }
-{
-    clap::Command::new(alloc, "write")
-        .about("Writes a JSON object to a path")
-        .after_help(
-            "Example: client --addr 127.0.0.1:8200 --token hvs.x write cubbyhole/a '{\"k\":\"v\"}'",
-        )
-        .arg(path(alloc))?
-        .arg(body(alloc))
-}
-
-fn list<'a>(alloc: Global) -> Result<clap::Command<'a>, AllocError>
-    ensures { IfOk result (λ c. app_of c ≡ path_app (codes "list")) }
-{
-    clap::Command::new(alloc, "list")
-        .about("Lists the names under a path")
-        .after_help("Example: client --addr 127.0.0.1:8200 --token hvs.x list secret/metadata")
-        .arg(path(alloc))
-}
-
-fn delete<'a>(alloc: Global) -> Result<clap::Command<'a>, AllocError>
-    ensures { IfOk result (λ c. app_of c ≡ path_app (codes "delete")) }
-{
-    clap::Command::new(alloc, "delete")
-        .about("Deletes what is at a path")
-        .after_help("Example: client --addr 127.0.0.1:8200 --token hvs.x delete secret/data/app")
-        .arg(path(alloc))
-}
-
-fn unwrap<'a>(alloc: Global) -> Result<clap::Command<'a>, AllocError>
-    ensures { IfOk result (λ c. app_of c ≡ unwrap_app) }
-{
-    clap::Command::new(alloc, "unwrap")
-        .about("Takes the reply that waits for a wrapping token")
-        .after_help("Example: client --addr 127.0.0.1:8200 --token hvs.w unwrap")
-        .arg(wrapping_token(alloc))
-}
-
-fn path<'a>(alloc: Global) -> Arg<'a>
-    ensures rule { rule_of result ≡ wanted (value_rule (codes "path")) }
-    ensures local { result.global ≡ false }
-{
-    Arg::new(alloc, "path")
-        .value_name("PATH")
-        .required(true)
-        .help("The path, without /v1/ before it")
-}
-
-fn body<'a>(alloc: Global) -> Arg<'a>
-    ensures rule { rule_of result ≡ value_rule (codes "body") }
-    ensures local { result.global ≡ false }
-{
-    Arg::new(alloc, "body").value_name("BODY").help(
-        "The object, as JSON; {} if it is left out; - reads it from standard input",
-    )
-}
-
-fn wrapping_token<'a>(alloc: Global) -> Arg<'a>
-    ensures rule { rule_of result ≡ value_rule (codes "token") }
-    ensures local { result.global ≡ false }
-{
-    Arg::new(alloc, "token")
-        .value_name("TOKEN")
-        .help("The wrapping token; the client token if it is left out")
+    client
+        .arg(option(alloc, "wait", "SECONDS", "Try so long to reach the server"))?
+        .arg(option(
+            alloc,
+            "timeout",
+            "SECONDS",
+            "How long to wait for the server's reply; 30 if it is left out",
+        ))?
+        .arg(flag(
+            alloc,
+            "exit-codes",
+            "Exit with 3 if there is no server, 4 if it refuses (403), 5 if nothing is there (404)",
+        ))
 }

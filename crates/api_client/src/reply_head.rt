@@ -1,14 +1,12 @@
 //! Heads of replies read: the status, and how long a body follows.
 
 ghost use Rattle.std.specs.Prelude.{◌≡◌, All, codes, length, map, option_map, slice_get};
-ghost use Rattle.std.specs.Char.{is_ascii_digit};
-ghost use Rattle.std.specs.List.{list_all};
 ghost use Rattle.httparse.specs.Spans.{IsHeaderWithin, header_bytes};
-ghost use Rattle.http_layer.specs.Front.{is_number};
 ghost use Rattle.http_layer.specs.HeadParts.{values_named};
 ghost use Rattle.api_client.specs.Replies.{length_told, reply_length};
 ghost use Rattle.api_client.specs.ReplyHeads.{IsHeadRead};
 
+use crate::numbers::is_number;
 use httparse::spans::{EMPTY_HEADER_SPAN, HeaderSpan, parse_response};
 use std::str;
 
@@ -91,17 +89,4 @@ fn length_of(value: &[u8]) -> Option<usize>
         Ok(len) if len <= BODY_LIMIT => Some(len as usize),
         _ => None,
     }
-}
-
-/// Whether the value is one or more digits.
-fn is_number(value: &[u8]) -> bool
-    ensures { result ≡ is_number value.now }
-{
-    !value.is_empty() && has_digits_alone(value)
-}
-
-fn has_digits_alone(value: &[u8]) -> bool
-    ensures { result ≡ list_all is_ascii_digit value.now }
-{
-    value.iter().all(|byte| byte.is_ascii_digit())
 }

@@ -5,7 +5,8 @@ ghost use Rattle.serde_json.specs.View.{view};
 ghost use Rattle.serde_json.specs.Written.{compact_text};
 ghost use Rattle.api_client.specs.Asking.{Asks};
 ghost use Rattle.api_client.specs.Requests.{body_of, field_line, head_lines, length_line, method_of, optional_line};
-ghost use Rattle.api_client.specs.Requests.{path_of, request_line, sent, unwrap_object, IsReadBack, NamesToken};
+ghost use Rattle.api_client.specs.Requests.{path_of, query_line, request_line, sent, unwrap_object};
+ghost use Rattle.api_client.specs.Requests.{version_of, IsReadBack, NamesToken};
 
 use crate::argument::{FieldText, ShortText};
 use crate::asking::is_read_as_meant;
@@ -56,7 +57,7 @@ fn head_of(
     ensures { IfOk result (λ head. string_bytes head ≡ head_lines command.now body_len) }
 {
     let mut head = String::new(alloc);
-    push_request_line(&mut head, &command.request)?;
+    push_request_line(alloc, &mut head, &command.request)?;
     push_field(&mut head, "Host", command.address.as_str())?;
     push_optional_field(&mut head, "X-Vault-Token", &command.token)?;
     push_optional_field(&mut head, "X-Vault-Wrap-TTL", &command.wrap_ttl)?;
@@ -66,21 +67,48 @@ fn head_of(
     Ok(head)
 }
 
-fn push_request_line(text: &mut String, request: &Request<'_>) -> Result<(), AllocError>
+fn push_request_line(
+    alloc: Global,
+    text: &mut String,
+    request: &Request<'_>,
+) -> Result<(), AllocError>
     ensures { OnOk result (string_bytes text.new ≡ string_bytes text.old ++ request_line request.now) }
 {
     text.push_str(method_of(request))?;
     text.push_str(" /v1/")?;
     push_escaped(text, path_of(request))?;
+    push_query(alloc, text, version_of(request))?;
     text.push_str(" HTTP/1.1")?;
     text.push_str("\r\n")
+}
+
+/// Adds the query that asks for a version, if one is asked for.
+fn push_query(alloc: Global, text: &mut String, version: Option<u64>) -> Result<(), AllocError>
+    ensures { OnOk result (string_bytes text.new ≡ string_bytes text.old ++ query_line version) }
+{
+    match version {
+        Some(version) => {
+            text.push_str("?version=")?;
+            text.push_str(version.to_string(alloc)?.as_str())
+        }
+        None => Ok(()),
+    }
+}
+
+fn version_of(request: &Request<'_>) -> Option<u64>
+    ensures { result ≡ version_of request.now }
+{
+    match request {
+        Request::Read(_, version) => *version,
+        _ => None,
+    }
 }
 
 fn method_of(request: &Request<'_>) -> &'static str
     ensures { result.now ≡ method_of request.now }
 {
     match request {
-        Request::Read(_) => "GET",
+        Request::Read(_, _) => "GET",
         Request::Write(_, _) | Request::Unwrap(_) => "POST",
         Request::List(_) => "LIST",
         Request::Delete(_) => "DELETE",
@@ -91,7 +119,7 @@ fn path_of<'c>(request: &'c Request<'_>) -> &'c str
     ensures { result.now ≡ path_of request.now }
 {
     match request {
-        Request::Read(path) | Request::Write(path, _) => path.as_str(),
+        Request::Read(path, _) | Request::Write(path, _) => path.as_str(),
         Request::List(path) | Request::Delete(path) => path.as_str(),
         Request::Unwrap(_) => "sys/wrapping/unwrap",
     }

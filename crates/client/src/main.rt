@@ -1,80 +1,78 @@
-//! The program `client`: one request to a Vault server.
+//! The program `client`: asks a Vault server, and prints its reply.
 #![tactic(auto)]
 
-ghost use Rattle.std.specs.Prelude.{◌≡◌, ◌≢◌, ◌≤◌, IfOk};
+ghost use Rattle.std.specs.Prelude.{◌≡◌, ◌≢◌, IfOk};
 ghost use Rattle.std.specs.IoError.{error_kind};
 ghost use Rattle.std.specs.declared.io.ErrorKind.TheVariants.{OutOfMemory};
 ghost use Rattle.std.specs.Process.{exit_status};
 ghost use Rattle.clap.specs.Words.{kind_of};
-ghost use Rattle.api_client.specs.declared.failure.Failure.TheVariants.{Memory, Unreached};
 
-mod words;
+mod environment;
+mod inputs;
+mod renewing;
+mod server;
+mod stopped;
+mod tasks;
 
-use api_client::{Command, Failure, NoCommand, Peer, command_of, exchange, tell};
+use api_client::{NoCommand, arranged, line_of, tell};
 use clap::error::{Error, ErrorKind};
-use endpoints::{Reading, Writing};
-use std::io::{Eprint, Print, Write};
-use std::net::{Net, TcpListener, TcpStream};
+use endpoints::Writing;
+use environment::complete;
+use std::alloc::Global;
+use std::io::{Eprint, Print};
 use std::process::ExitCode;
 use std::{env, io};
-use words::{Incomplete, complete};
+use stopped::Stopped;
+use tasks::run;
 
 fn main(rt: HostRuntime) -> anyhow::Result<ExitCode> {
     let alloc = rt.alloc();
-    let mut words = match env::args(&rt).and_then(|words| Ok(words.collect::<Vec<String>>(
-        alloc,
-    )?)) {
+    let words = match env::args(&rt).and_then(|words| Ok(words.collect::<Vec<String>>(alloc)?)) {
         Ok(words) => words,
         Err(error) => return refuse_words(&rt, &error),
     };
-    if let Err(why) = complete(&rt, &mut words) {
-        return refuse_incomplete(&rt, words.as_slice(), why);
+    let mut words = match arranged(alloc, words.as_slice()) {
+        Ok(words) => words,
+        Err(error) => return end(&rt, error.into()),
+    };
+    if let Err(stopped) = complete(&rt, &mut words) {
+        return end(&rt, help_or(alloc, words.as_slice(), stopped));
     }
-    match command_of(alloc, words.as_slice()) {
-        Ok(command) => {
-            let status = send(&rt, &command, rt.stdout(), rt.stderr());
-            Ok(ExitCode::from(status))
-        }
-        Err(NoCommand::Usage(error)) => refuse(&rt, &error),
-        Err(NoCommand::Fault(_)) => {
-            let status = tell(Failure::Memory, &mut Writing::new(rt.stderr()));
-            Ok(ExitCode::from(status))
-        }
+    match run(&rt, words.as_slice()) {
+        Ok(status) => Ok(ExitCode::from(status)),
+        Err(stopped) => end(&rt, stopped),
     }
 }
 
-/// Sends the request of a command to its server, prints the body of the reply, and answers the exit
-/// status.
-fn send<R, W, E>(rt: &R, command: &Command<'_>, out: W, err: E) -> u8
-where
-    R: Net<Listener = TcpListener, Stream = TcpStream> + AllocGlobal,
-    W: Write + Drop,
-    E: Write + Drop,
-    ensures { result ≤ 1 }
-{
-    let mut out = Writing::new(out);
-    let mut err = Writing::new(err);
-    match TcpStream::connect(rt, command.address.as_str()) {
-        Ok(stream) => {
-            let mut peer = Peer {
-                reader: Reading::new(&stream),
-                writer: Writing::new(&stream),
-            };
-            exchange(rt.alloc(), command, &mut peer, &mut out, &mut err)
+/// The help, or the version, if the words ask for it; else why they cannot be completed.
+fn help_or(alloc: Global, words: &[String], stopped: Stopped) -> Stopped {
+    let error = match line_of(alloc, words) {
+        Ok(line) => {
+            drop(line);
+            return stopped;
         }
-        Err(error) => tell(unreached(&error), &mut err),
-    }
-}
-
-/// Why a server was not reached.
-fn unreached(error: &io::Error) -> Failure
-    ensures memory { error_kind error.now ≡ OutOfMemory → result ≡ Memory }
-    ensures other { error_kind error.now ≢ OutOfMemory → result ≡ Unreached }
-{
-    if error.kind() == io::ErrorKind::OutOfMemory {
-        Failure::Memory
+        Err(NoCommand::Fault(_fault)) => return stopped,
+        Err(NoCommand::Usage(error)) => error,
+    };
+    if error.exit_code() == 0 {
+        Stopped::Usage(error)
     } else {
-        Failure::Unreached
+        stopped
+    }
+}
+
+/// Says why the client ends without having asked.
+fn end(rt: &HostRuntime, stopped: Stopped) -> anyhow::Result<ExitCode> {
+    match stopped {
+        Stopped::Usage(error) => refuse(rt, &error),
+        Stopped::Mistake(text) => {
+            eprintln!(rt; "client: {text}")?;
+            Ok(ExitCode::from(2))
+        }
+        Stopped::Failure(failure) => {
+            let status = tell(failure, &mut Writing::new(rt.stderr()));
+            Ok(ExitCode::from(status))
+        }
     }
 }
 
@@ -92,29 +90,6 @@ fn refuse_words<R: Eprint>(rt: &R, error: &io::Error) -> anyhow::Result<ExitCode
     }
     eprintln!(rt; "client: {error}")?;
     Ok(ExitCode::from(2))
-}
-
-/// Says why the words cannot be completed, unless they ask for help or for the version.
-fn refuse_incomplete<R: AllocGlobal + Eprint + Print>(
-    rt: &R,
-    words: &[String],
-    why: Incomplete,
-) -> anyhow::Result<ExitCode> {
-    let fault = match why {
-        Incomplete::Mistake(text) => {
-            if let Err(NoCommand::Usage(error)) = command_of(rt.alloc(), words)
-                && error.exit_code() == 0
-            {
-                return refuse(rt, &error);
-            }
-            eprintln!(rt; "client: {text}")?;
-            return Ok(ExitCode::from(2));
-        }
-        Incomplete::Memory => 1,
-        Incomplete::Unread => 5,
-    };
-    eprintln!(rt; "fault {fault}")?;
-    Ok(ExitCode::from(1))
 }
 
 /// Prints the text of a command line that names no command: on standard error with status 2, or, if help or

@@ -1,6 +1,6 @@
 //! Command lines with the requests that they send, and lines that are no commands.
 
-use api_client::{NoCommand, command_of, request_of};
+use api_client::{BodyWord, Line, NoCommand, arranged, command_of, line_of, request_of};
 use std::alloc::{AllocError, Global};
 use std::test::Fail;
 
@@ -11,13 +11,34 @@ fn words(alloc: Global, line: &[&str]) -> Result<Vec<String>, AllocError> {
     for word in line {
         words.push(String::from_str(alloc, word)?)?;
     }
+    arranged(alloc, words.as_slice())
+}
+
+/// The words that give a body, none of which names a file or standard input.
+fn body_words<'a>(alloc: Global, line: &Line<'a>) -> Result<Vec<BodyWord<'a>>, AllocError> {
+    let mut words = Vec::new(alloc);
+    let Some(typed) = line.words() else {
+        return Ok(words);
+    };
+    for word in typed {
+        words.push(BodyWord {
+            word: *word,
+            text: None,
+        })?;
+    }
     Ok(words)
 }
 
 /// Whether the words are a command that sends this.
 fn sends(alloc: Global, line: &[&str], want: &str) -> Result<bool, Fail> {
     let line = words(alloc, line)?;
-    let Ok(command) = command_of(alloc, line.as_slice()) else {
+    let Ok(line) = line_of(alloc, line.as_slice()) else {
+        return Ok(false);
+    };
+    let Ok(words) = body_words(alloc, &line) else {
+        return Ok(false);
+    };
+    let Ok(command) = command_of(alloc, &line, words.as_slice()) else {
         return Ok(false);
     };
     let bytes = request_of(alloc, &command)?;
@@ -34,7 +55,7 @@ fn first_unsent<'t>(alloc: Global, rows: &[(&[&str], &'t str)]) -> Result<Option
     Ok(None)
 }
 
-/// Computes `client_app`, `command_meant`, `sent`, `unwrap_object`, `Asks`.
+/// Computes `arranged`, `client_app`, `line_read`, `command_in`, `sent`, `unwrap_object`, `Asks`.
 #[test]
 fn requests(rt: HostRuntime) -> Result<(), Fail> {
     let unsent = first_unsent(
@@ -54,6 +75,34 @@ fn requests(rt: HostRuntime) -> Result<(), Fail> {
                 "POST /v1/sys/wrapping/unwrap HTTP/1.1\r\nHost: b\r\nX-Vault-Wrap-TTL: 60\r\nConnection: close\r\n\
                 Content-Length: 16\r\n\r\n{\"token\":\"a\\\"b\"}",
             ),
+            (
+                &["kv", "get", "secret/app", "-addr=b", "--version", "3"],
+                "GET /v1/secret/data/app?version=3 HTTP/1.1\r\nHost: b\r\nConnection: close\r\n\r\n",
+            ),
+            (
+                &[
+                    "--addr",
+                    "b",
+                    "kv",
+                    "put",
+                    "-cas",
+                    "0",
+                    "secret/app",
+                    "k=v",
+                    "n:=1",
+                    "k=w",
+                ],
+                "POST /v1/secret/data/app HTTP/1.1\r\nHost: b\r\nConnection: close\r\n\
+                Content-Length: 44\r\n\r\n{\"data\":{\"k\":\"w\",\"n\":1},\"options\":{\"cas\":0}}",
+            ),
+            (
+                &[
+                    "--addr", "b", "token", "create", "--policy", "a", "--policy", "b", "--ttl",
+                    "1h",
+                ],
+                "POST /v1/auth/token/create HTTP/1.1\r\nHost: b\r\nConnection: close\r\n\
+                Content-Length: 33\r\n\r\n{\"policies\":[\"a\",\"b\"],\"ttl\":\"1h\"}",
+            ),
         ],
     )?;
     assert_eq!(rt; unsent, None);
@@ -63,7 +112,10 @@ fn requests(rt: HostRuntime) -> Result<(), Fail> {
 /// Whether the words are no command, and are told to the user.
 fn is_usage(alloc: Global, line: &[&str]) -> Result<bool, Fail> {
     let line = words(alloc, line)?;
-    Ok(matches!(command_of(alloc, line.as_slice()), Err(NoCommand::Usage(_))))
+    match line_of(alloc, line.as_slice()) {
+        Ok(line) => Ok(matches!(command_of(alloc, &line, &[]), Err(NoCommand::Usage(_)))),
+        Err(error) => Ok(matches!(error, NoCommand::Usage(_))),
+    }
 }
 
 /// The place of the first of these lines that is a command, or ends otherwise than by what is told to the user.
@@ -76,7 +128,7 @@ fn first_command(alloc: Global, lines: &[&[&str]]) -> Result<Option<usize>, Fail
     Ok(None)
 }
 
-/// Computes `command_meant`, `IsNoCommand`.
+/// Computes `line_read`, `command_in`, `IsNoLine`, `IsNoCommand`.
 #[test]
 fn wrong_command_lines(rt: HostRuntime) -> Result<(), Fail> {
     let first = first_command(

@@ -6,21 +6,8 @@ use Rattle.broker_types.specs.Words.{without_leading_plus}
 use Rattle.broker_types.specs.DecimalLaws.{all_digits}
 use Rattle.http_layer.specs.Words.{is_number}
 use Rattle.api_client.specs.Replies.{length_told, longest_reply_body}
+use Rattle.api_client.proofs.NumberLemmas.{numeral, plain}
 use Rattle.api_client.proofs.reply_head.length_of.Goals as goal
-
-not_plus : (ds : List ℕ) → list_all is_ascii_digit ds ≡ true → without_leading_plus ds ≡ ds
-not_plus [] h = refl
-not_plus (c ∷ cs) h = ap (λ (b : Bool). drop (cond b 1 0) (c ∷ cs))
-    (other c (and_parts (is_ascii_digit c) (list_all is_ascii_digit cs) h).0)
-  where
-    other : (c : ℕ) → is_ascii_digit c ≡ true → (c == 43) ≡ false
-    other c digit = grind (arith, nat_tests)
-
--- a number has digits alone
-numeral : (v : List ℕ) → is_number v ≡ true → IsNumeral 10 v
-numeral v number =
-    let p = and_parts (nat_lt 0 (length v)) (list_all is_ascii_digit v) number in
-    (ltb-true 0 (length v) p.0, all_digits v p.1)
 
 is_text : {T E : Type 0} (r : Result T E) (v : List ℕ) (P : T → Type 0) (Q : E → Type 0)
     → MatchResult r P (λ e. ¬ (IsUtf8 v) × Q e) → IsUtf8 v → IsOk r
@@ -39,11 +26,10 @@ too_great : (v : List ℕ) → is_number v ≡ true → ¬
     (IsNumeral 10 (without_leading_plus v) × (digits_value 10 (without_leading_plus v) < 2 ^ 32)) → None ≡ length_told v
 too_great v number unfit =
     let digits = numeral v number in
-    let plain : without_leading_plus v ≡ v =
-    not_plus v (and_parts (nat_lt 0 (length v)) (list_all is_ascii_digit v) number).1 in
+    let same : without_leading_plus v ≡ v = plain v number in
     let beyond : nat_le (digits_value 10 v) longest_reply_body ≡ false = past (digits_value 10 v) (λ small. unfit (
-      subst (λ (ds : List ℕ). IsNumeral 10 ds) (sym plain) digits,
-      subst (λ (ds : List ℕ). digits_value 10 ds < 2 ^ 32) (sym plain) small,
+      subst (λ (ds : List ℕ). IsNumeral 10 ds) (sym same) digits,
+      subst (λ (ds : List ℕ). digits_value 10 ds < 2 ^ 32) (sym same) small,
     )) in
     ap (λ (b : Bool). cond b (Some (digits_value 10 v)) None)
     (sym (ap (λ (b : Bool). is_number v && b) beyond ∙ both (is_number v)))

@@ -1,0 +1,10 @@
+use Rattle.std.proofs.Common.{◌≡◌, drop}
+use Rattle.serde_json.specs.Data.{no_members}
+use Rattle.serde_json.specs.View.{members_view}
+use Rattle.api_client.specs.Bodies.{members_with}
+use Rattle.api_client.proofs.bodies.members_given.Given as goal
+
+-- with the words that are left they become the members of all
+abbrev pub invariant-loop-word : goal.invariant-loop-word
+invariant-loop-word l = members_with (members_view l.members.entries) (drop l.word-index l.words)
+    ≡ members_with no_members l.words

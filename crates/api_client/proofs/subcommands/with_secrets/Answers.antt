@@ -1,0 +1,13 @@
+use Rattle.std.proofs.Common.{refl}
+use Rattle.broker_types.specs.Words.{IfOk-weaker}
+use Rattle.api_client.proofs.SubcommandLemmas.{added}
+use Rattle.api_client.proofs.subcommands.with_secrets.Goals as goal
+
+pub returns : goal.returns
+returns c =
+    let one = added _ _ _ _ _ c.in_ok-subcommand.ensures refl c.in_ok-get_secret.ensures refl in
+    let two = added _ _ _ _ _ c.in_ok-subcommand-2.ensures one c.in_ok-put_secret.ensures refl in
+    let three = added _ _ _ _ _ c.in_ok-subcommand-3.ensures two c.in_ok-list.ensures refl in
+    IfOk-weaker c.subcommand-4.result _ _
+    (λ d h. added _ _ _ _ _ h three c.in_ok-delete.ensures refl)
+    c.subcommand-4.ensures
