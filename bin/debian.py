@@ -13,8 +13,11 @@ from repository import TOP
 
 PAGES = "usr/share/doc/dehluvima"
 UNIT = "usr/lib/systemd/system/dehluvima.service"
-PLACES = {"bin/brokerd": "usr/bin/brokerd", "bin/client": "usr/bin/dehluvima-client"}
-PLACES |= {"bin/dehluvima-run": "usr/bin/dehluvima-run"}
+PLACES = {"bin/brokerd": "usr/bin/brokerd", "bin/client": "usr/bin/dehluvima-client",
+          "bin/dehluvima-run": "usr/bin/dehluvima-run",
+          "examples/client.bash": "usr/share/bash-completion/completions/dehluvima-client"}
+CALL = re.compile(rb"(?<![\w/.-])client (?=-|[a-z]+ )")  # of a script, where a page shows it too
+SHOWN = re.compile(rb"^```sh\n.*?^```$", re.MULTILINE | re.DOTALL)
 MAINTAINER_SCRIPTS = ("postinst", "prerm", "postrm")
 
 
@@ -31,6 +34,11 @@ def changelog(version, built_from, seconds):
     return gzip.compress(said.encode(), 9, mtime=0)
 
 
+def called_as_installed(data):
+    """A script that calls the client by the name that it has here."""
+    return CALL.sub(b"dehluvima-client ", data)
+
+
 def installed(files, version, built_from, seconds):
     """What is installed, by its paths, from the files of the archive."""
     placed = {}
@@ -40,7 +48,10 @@ def installed(files, version, built_from, seconds):
         elif path in PLACES:
             placed[PLACES[path]] = (data, mode)
         elif path.startswith("docs/"):
-            placed[f"{PAGES}/{Path(path).name}"] = (data.replace(b"](../examples/", b"](examples/"), mode)
+            page = SHOWN.sub(lambda it: called_as_installed(it[0]), data)
+            placed[f"{PAGES}/{Path(path).name}"] = (page.replace(b"](../examples/", b"](examples/"), mode)
+        elif path.endswith(".sh"):
+            placed[f"{PAGES}/{path}"] = (called_as_installed(data), mode)
         elif path != "SHA256SUMS":  # dpkg keeps sums of its own
             placed[f"{PAGES}/{path}"] = (data, mode)
     placed[f"{PAGES}/copyright"] = (source("copyright").encode(), 0o644)

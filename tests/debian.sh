@@ -81,6 +81,21 @@ asked() {
     if grep -q 'hvs\.[0-9a-f]' "$found/log"; then fail "the log" "it has a token"; else pass; fi
 }
 
+# The scripts call the client by its name in the package, and are otherwise as they stand on the page there.
+called_otherwise() {
+    local name script pages=$found/unpacked/usr/share/doc/dehluvima
+    for name in agent leaked once rotate; do
+        script=$pages/examples/$name.sh
+        same "what $name.sh calls" "$(grep -cE '(^|[^-])client ' "$script")" 0
+        same "$name.sh" "$(diff "examples/$name.sh" <(sed 's/dehluvima-client /client /g' "$script"))" ""
+        if [[ $(< "$pages/CLIENT.md") == *$'```sh\n'"$(< "$script")"$'\n```'* ]]; then
+            pass
+        else
+            fail "$name.sh" "CLIENT.md has another one"
+        fi
+    done
+}
+
 # Makes the new Debian in `system`: that of this machine if it is one, else the stable one.
 make_system() {
     local suite
@@ -136,9 +151,13 @@ Depends: adduser, libc6 (>= 2.34)"
 listed=$(dpkg-deb -c "$found/1/$package")
 same "the owners" "$(awk '{ print $2 }' <<< "$listed" | sort -u)" root/root
 same "the modes" "$(awk '{ print $1 }' <<< "$listed" | sort -u | xargs)" "-rw-r--r-- -rwxr-xr-x drwxr-xr-x"
-same "what is run" "$(awk '/^-rwx/ { print $6 }' <<< "$listed" | xargs)" \
-    "./usr/bin/brokerd ./usr/bin/dehluvima-client ./usr/bin/dehluvima-run ./usr/share/doc/dehluvima/examples/backup.sh"
+scripts=$(printf './usr/share/doc/dehluvima/examples/%s.sh ' agent backup leaked once rotate)
+same "what is run" "$(awk '/^-rwx/ { print $6 }' <<< "$listed" | sort | xargs)" \
+    "./usr/bin/brokerd ./usr/bin/dehluvima-client ./usr/bin/dehluvima-run ${scripts% }"
 dpkg-deb -x "$found/1/$package" "$found/unpacked"
+same "the completion" "$(cmp "$found/unpacked/usr/share/bash-completion/completions/dehluvima-client" \
+    examples/client.bash 2>&1)" ""
+called_otherwise
 same "brokerd --version" "$("$found/unpacked/usr/bin/brokerd" --version)" "brokerd $version"
 same "dehluvima-client --version" "$("$found/unpacked/usr/bin/dehluvima-client" --version)" "client $version"
 

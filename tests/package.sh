@@ -1,7 +1,8 @@
 #!/bin/bash
 # Makes the package twice and compares the bytes, unpacks the archive into an empty folder, verifies its units by
-# systemd if that is installed, and there types the quick start of README.md on a PATH without the toolchain. The Debian
-# package is looked at by debian.sh. The last line is 'N passed, M failed'; the status is 0 if nothing failed.
+# systemd if that is installed, tries its completion for bash, and types the quick start of README.md there, on a PATH
+# without the toolchain. The Debian package is looked at by debian.sh. The last line is 'N passed, M failed'; the status
+# is 0 if nothing failed.
 set -u
 . "$(dirname "$0")/lib.sh"
 make_folder
@@ -74,6 +75,9 @@ if command -v systemd-analyze > /dev/null; then
 else
     echo "package: systemd-analyze: not installed, the units are not verified"
 fi
+
+python3 tests/completion.py "$unpacked/examples/client.bash" > "$found/completed" 2>&1
+tally "$found/completed" "completion"
 
 PATH=$(tools)
 export PATH

@@ -1,6 +1,6 @@
 #!/usr/bin/env python3
 """Types the quick start of README.md in a folder, and compares what the commands print with what the page shows. Then
-it types how SERVE.md makes a token for an app, and how CLIENT.md hands on the secret that this token can read.
+it types how SERVE.md makes a token for an app, and hands on the password that this token can read, as CLIENT.md does.
 
 usage: tests/quick_start.py FOLDER
 
@@ -9,7 +9,6 @@ commands of the shell are run as they stand, but for the port, which is a free o
 was printed. In what the page shows, `..` is any text, and a time is any time. The last line is 'N passed, M failed'.
 """
 
-import json
 import os
 import re
 import select
@@ -28,6 +27,8 @@ TIME = re.compile(r"\d{4}-\d\d-\d\dT\d\d\\:\d\d\\:\d\dZ|\d{4}\\-\d\d\\-\d\dT\d\d
 IDENTIFIER = re.compile(r"[0-9a-f]{8}(?:\\?-[0-9a-f]{4}){3}\\?-[0-9a-f]{12}")
 BLOCK = re.compile(r"(?:^    .*\n)+", re.MULTILINE)
 COMMANDS = ("bin/", "curl ", "export ")
+SHOWN = re.compile(r"    (?:\{|root token: |\w+$)")
+PASSWORD = "correct horse"
 SECONDS = 30
 
 
@@ -40,7 +41,7 @@ def steps():
         is_command = line.startswith("    ") and line.strip().startswith(COMMANDS)
         if is_command and not line.split()[0].endswith(":"):
             found.append((line.strip(), []))
-        elif line.startswith("    {") or line.startswith("    root token: "):
+        elif SHOWN.match(line):
             found[-1][1].append(line.strip())
     return found
 
@@ -115,11 +116,15 @@ def typed(page, title, folder, token, port, compare):
 
 
 def hand_on(folder, token, port, compare):
-    """Makes a token for an app, and hands on a secret with it."""
-    _, made, *_ = typed("docs/SERVE.md", "Tokens for apps", folder, token, port, compare)
-    app = json.loads(made)["auth"]["client_token"]
-    typed("docs/CLIENT.md", "Handing on a secret", folder, app, port, compare)
-    (folder / "wrapping-token").unlink(missing_ok=True)
+    """Makes a token for an app, and hands on a password with it."""
+    typed("docs/SERVE.md", "Tokens for apps", folder, token, port, compare)
+    made = [folder / "app-token", folder / "service-token"]
+    app = made[0].read_text(encoding="ascii").strip()
+    run(f"printf %s '{PASSWORD}' | bin/client kv put secret/app user=app password=-", folder, token, port)
+    command = "PATH=$PWD/bin:$PATH examples/once.sh secret/app sh -c 'echo \"$PASSWORD\"'"
+    compare(command, run(command, folder, app, port), PASSWORD)
+    for file in made:
+        file.unlink()
 
 
 def main():

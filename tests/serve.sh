@@ -1,10 +1,10 @@
 #!/bin/bash
 # Starts `brokerd serve` and asks it as its users do: by curl, by `client` if it is there, by Python's hvac and by
 # Ansible if they are installed, and on one connection 10,000 times; then by wrong command lines, over a file that is
-# opened again, over one that an earlier program wrote, for what changes after a hundred replies, by many peers at once,
-# some of which are idle or slow, by drawn requests on 64 connections, and on 100,000 connections. It takes some two
-# minutes, and more with Ansible. BROKERD and CLIENT name other programs. The last line is 'N passed, M failed'; the
-# status is 0 if nothing failed.
+# opened again, by each command of `client` and by scripts that call it, over a file that an earlier program wrote, for
+# what changes after a hundred replies, by many peers at once, some of which are idle or slow, by drawn requests on 64
+# connections, and on 100,000 connections. It takes some three minutes, and more with Ansible. BROKERD and CLIENT name
+# other programs. The last line is 'N passed, M failed'; the status is 0 if nothing failed.
 set -u
 . "$(dirname "$0")/lib.sh"
 make_folder
@@ -151,12 +151,13 @@ ask_by_client() {
     if [ $? -eq 1 ] && grep -qF 'wrapping token is' "$found/body"; then pass; else fail "client" "another unwrap"; fi
 }
 
-# Runs the client with VAULT_ADDR and VAULT_TOKEN, and compares its status and what it writes to a stream:
-# client_says NAME STATUS out|err TEXT ARGUMENT..
+# Runs the client with VAULT_ADDR and VAULT_TOKEN, in a home without a token, and compares its status and what it writes
+# to a stream: client_says NAME STATUS out|err TEXT ARGUMENT..
 client_says() {
     local name=$1 wanted=$2 stream=$3 text=$4 status
     shift 4
-    VAULT_ADDR=$url VAULT_TOKEN=$token timeout 20 "${CLIENT:-bin/client}" "$@" > "$found/out" 2> "$found/err"
+    HOME=$found VAULT_TOKEN_FILE='' VAULT_ADDR=$url VAULT_TOKEN=$token \
+        timeout 20 "${CLIENT:-bin/client}" "$@" > "$found/out" 2> "$found/err"
     status=$?
     if [ "$status" != "$wanted" ]; then
         fail "client, $name" "status $status in place of $wanted: $(head -c 200 "$found/err")"
@@ -319,6 +320,8 @@ fi
 
 serve_without_an_end
 keep_in_a_file
+if [ -z "${CLIENT:-}" ]; then bin/run-program --build client; fi # before three scripts call it
+count_together client_sends.py client_asks.py client_scripts.py
 count python3 tests/served/databases.py "$program"
 count python3 tests/served/large_files.py "$program"
 count python3 tests/served/damaged.py "$program"
