@@ -1,5 +1,5 @@
 -- Wrapping, computed on a small broker; and which paths ask for `sudo`.
-use Rattle.std.proofs.Common.{◌≡◌, ◌∷◌, [], None, Some, true, false, codes, refl}
+use Rattle.std.proofs.Common.{◌≡◌, ◌∷◌, ◌++◌, [], None, Some, true, false, codes, refl}
 use Rattle.broker_model.specs.Words.{digits, same, get, get-put, Broker, Waiting, first_broker, Names, nothing, reply}
 use Rattle.broker_model.specs.Words.{plainly, civil, day_from_year, day_from_month, Ask, Reply, asks_sudo, name_text}
 use Rattle.broker_model.specs.Words.{wrap_object, reply_text, act, Command, wrap_info, wraps, wrap_200, Wrapped}
@@ -22,7 +22,8 @@ response = record {
 }
 
 told : wrap_info (codes "hvs.t") response (Some (codes "m"))
-    ≡ codes "{\"accessor\":\"a\",\"creation_path\":\"p\",\"creation_time\":\"1970-01-01T00:01:40Z\",\"token\":\"hvs.t\",\"ttl\":5,\"wrapped_accessor\":\"m\"}"
+    ≡ codes "{\"accessor\":\"a\",\"creation_path\":\"p\",\"creation_time\":\"1970-01-01T00:01:40Z\","
+    ++ codes "\"token\":\"hvs.t\",\"ttl\":5,\"wrapped_accessor\":\"m\"}"
 unfolding wrap_object name_text digits escape_byte civil day_from_year day_from_month printing.with_member
     printing.with_item printing.quoted
     printing.whole_number printing.time

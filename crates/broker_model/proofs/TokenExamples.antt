@@ -226,8 +226,9 @@ token_text_at_1040 : object.token_object
     (looked_up 1040 child_text (token_entry (record child { ends = Some 1140; meta = empty })))
     ≡ codes "{\"accessor\":\"00000000-0000-0000-0000-000000000012\",\"creation_time\":1000,\"creation_ttl\":100,"
     ++ codes "\"expire_time\":\"1970-01-01T00:19:00Z\",\"explicit_max_ttl\":150,"
-    ++ codes "\"id\":\"hvs.00000000-0000-0000-0000-000000000011\",\"issue_time\":\"1970-01-01T00:16:40Z\",\"meta\":null,"
-    ++ codes "\"num_uses\":0,\"orphan\":false,\"policies\":[\"root\"],\"renewable\":true,\"ttl\":100,\"type\":\"service\"}"
+    ++ codes "\"id\":\"hvs.00000000-0000-0000-0000-000000000011\",\"issue_time\":\"1970-01-01T00:16:40Z\","
+    ++ codes "\"meta\":null,\"num_uses\":0,\"orphan\":false,\"policies\":[\"root\"],\"renewable\":true,\"ttl\":100,"
+    ++ codes "\"type\":\"service\"}"
 unfolding child asked same object.token_object name_text digits escape_byte printing.with_member printing.with_item
     printing.quoted
     printing.null_text printing.whole_number printing.bool_text printing.texts printing.pairs printing.time

@@ -1,4 +1,5 @@
-use Rattle.std.proofs.Common.{◌≡◌, ◌∷◌, [], ap, sym, ◌∙◌, refl, subst}
+use Rattle.std.proofs.Common.{◌≡◌, ◌∷◌, [], ap, sym, ◌∙◌, refl, subst, Some}
+use Rattle.std.specs.FinMap as map
 use Rattle.records.specs.Words.{none-some, err_from_is_err_and, of_tokens, KeepsOthers, table_of, honest_before}
 use Rattle.records.specs.Words.{goes_further, fault_then, not_damaged, read_fault, none_of, IsHonest, rows_under}
 use Rattle.records.specs.Words.{rows_owned}
@@ -12,6 +13,52 @@ use Rattle.token_tree.proofs.Removals.{others_stay}
 use Rattle.token_tree.proofs.Taken.{without_ended}
 use Rattle.token_tree.proofs.TokenEnds.{ends_alone, damage_alone}
 use Rattle.token_tree.proofs.orphaning.revoke_one.Goals as goal
+use Rattle.token_tree.proofs.orphaning.revoke_one.Goals.{After-remove_token, After-vec}
+
+-- ---- what several ways out share, if the storage is honest afterwards
+
+-- the row of the token was found
+found : (g : _) (c : goal.After-remove_token g) → IsHonest (g.T.RecordsTx.seen c.remove_token.new.tx)
+    → map.get (g.T.RecordsTx.seen c.args.tx.now).rows (kind.Token, c.args.token.now) ≡ Some c.in-Some.row
+found g c honest =
+    let seen = g.T.RecordsTx.seen in
+    let early = honest_before (seen c.by_owner.new.self)
+    (seen c.remove_token.new.tx) _ c.remove_token.ensures.call.goes_on honest in
+    let first = honest_before (seen c.get.new.self)
+    (seen c.by_owner.new.self) _ c.in_ok-children.ensures.call.goes_on early in
+    sym (c.in_ok-row.ensures.found first) ∙ c.in-Some.is
+
+-- it was found and removed, and then its children have no parent
+ended : (g : _) (c : goal.After-vec g) → IsHonest (g.T.RecordsTx.seen c.orphan_children.new.tx)
+    → (map.get (g.T.RecordsTx.seen c.args.tx.now).rows (kind.Token, c.args.token.now) ≡ Some c.in-Some.row)
+    × ((g.T.RecordsTx.seen c.remove_token.new.tx).rows
+    ≡ without_ended (c.args.token.now ∷ []) (rows_under (g.T.RecordsTx.seen c.args.tx.now).rows kind.Token [])
+    (g.T.RecordsTx.seen c.args.tx.now).rows)
+    × ((g.T.RecordsTx.seen c.orphan_children.new.tx).rows
+    ≡ without_parent c.args.token.now (rows_under (g.T.RecordsTx.seen c.args.tx.now).rows kind.Token [])
+    (g.T.RecordsTx.seen c.remove_token.new.tx).rows)
+ended g c honest =
+    let seen = g.T.RecordsTx.seen in
+    let rows = (seen c.args.tx.now).rows in
+    let t = c.args.token.now in
+    let mid = honest_before (seen c.remove_token.new.tx)
+    (seen c.orphan_children.new.tx) _ c.orphan_children.ensures.call.goes_on honest in
+    let early = honest_before (seen c.by_owner.new.self)
+    (seen c.remove_token.new.tx) _ c.in_ok-remove_token.ensures.call.goes_on mid in
+    let first = honest_before (seen c.get.new.self)
+    (seen c.by_owner.new.self) _ c.in_ok-children.ensures.call.goes_on early in
+    let is = sym (c.in_ok-row.ensures.found first) ∙ c.in-Some.is in
+    let was = c.in_ok-children.ensures.call.same early ∙ c.in_ok-row.ensures.call.same first in (
+      is,
+      c.in_ok-remove_token.ensures.rows mid
+          ∙ (λ i. without_token (was i) ((kind.Token, c.in_ok-copied.ensures i), c.in-Some.row))
+          ∙ lone_without rows t c.in-Some.row is,
+      c.in_ok-orphan_children.ensures.rows honest
+          ∙ (λ i. without_parent t ((c.deref.ensures.value ∙ c.in_ok-children.ensures.entries early
+          ∙ ap (λ m. rows_owned m kind.Token t) (c.in_ok-row.ensures.call.same first)) i)
+          (seen c.remove_token.new.tx).rows)
+          ∙ owned_orphans t rows (seen c.remove_token.new.tx).rows,
+    )
 
 -- ---- an unknown text
 
@@ -34,11 +81,7 @@ returns-in_err-remove_token-clause-wants g c honest forms b stands =
     let seen = g.T.RecordsTx.seen in
     let rows = (seen c.args.tx.now).rows in
     let t = c.args.token.now in
-    let early = honest_before (seen c.by_owner.new.self)
-    (seen c.remove_token.new.tx) _ c.remove_token.ensures.call.goes_on honest in
-    let first = honest_before (seen c.get.new.self)
-    (seen c.by_owner.new.self) _ c.in_ok-children.ensures.call.goes_on early in
-    let is = sym (c.in_ok-row.ensures.found first) ∙ c.in-Some.is in
+    let is = found g (goal.at.returns-in_err-remove_token-clause-wants g c).After-remove_token honest in
     let p = err_from_is_err_and c.from_residual-in_err-remove_token.result
     c.from_residual-in_err-remove_token.ensures.1 in
     rw (p.1, p.2) (not_damaged (λ damage. damage
@@ -52,41 +95,18 @@ returns-clause-told g c honest forms b stands =
     let seen = g.T.RecordsTx.seen in
     let rows = (seen c.args.tx.now).rows in
     let t = c.args.token.now in
-    let mid = honest_before (seen c.remove_token.new.tx)
-    (seen c.orphan_children.new.tx) _ c.orphan_children.ensures.call.goes_on honest in
-    let early = honest_before (seen c.by_owner.new.self)
-    (seen c.remove_token.new.tx) _ c.in_ok-remove_token.ensures.call.goes_on mid in
-    let first = honest_before (seen c.get.new.self)
-    (seen c.by_owner.new.self) _ c.in_ok-children.ensures.call.goes_on early in
-    let is = sym (c.in_ok-row.ensures.found first) ∙ c.in-Some.is in
-    let was = c.in_ok-children.ensures.call.same early ∙ c.in_ok-row.ensures.call.same first in
-    let is_mid : (seen c.remove_token.new.tx).rows ≡ without_ended (t ∷ []) (rows_under rows kind.Token []) rows =
-    c.in_ok-remove_token.ensures.rows mid
-    ∙ (λ i. without_token (was i) ((kind.Token, c.in_ok-copied.ensures i), c.in-Some.row))
-    ∙ lone_without rows t c.in-Some.row is in
-    let is_new : (seen c.orphan_children.new.tx).rows ≡ without_parent t (rows_under rows kind.Token [])
-    (seen c.remove_token.new.tx).rows =
-    c.in_ok-orphan_children.ensures.rows honest
-    ∙ (λ i. without_parent t ((c.deref.ensures.value ∙ c.in_ok-children.ensures.entries early
-    ∙ ap (λ m. rows_owned m kind.Token t) (c.in_ok-row.ensures.call.same first)) i) (seen c.remove_token.new.tx).rows)
-    ∙ owned_orphans t rows (seen c.remove_token.new.tx).rows in
+    let done = ended g (goal.at.returns-clause-told g c).After-vec honest in
     revoked_one forms b rows stands t (rows_under rows kind.Token []) (rows_under rows kind.Token [])
     (t ∷ []) refl refl refl
-    (seen c.remove_token.new.tx).rows is_mid (seen c.orphan_children.new.tx).rows is_new
+    (seen c.remove_token.new.tx).rows done.1 (seen c.orphan_children.new.tx).rows done.2
 
 pub returns-clause-ended : goal.returns-clause-ended
 returns-clause-ended g c honest forms b stands =
     let seen = g.T.RecordsTx.seen in
     let rows = (seen c.args.tx.now).rows in
     let t = c.args.token.now in
-    let mid = honest_before (seen c.remove_token.new.tx)
-    (seen c.orphan_children.new.tx) _ c.orphan_children.ensures.call.goes_on honest in
-    let early = honest_before (seen c.by_owner.new.self)
-    (seen c.remove_token.new.tx) _ c.in_ok-remove_token.ensures.call.goes_on mid in
-    let first = honest_before (seen c.get.new.self)
-    (seen c.by_owner.new.self) _ c.in_ok-children.ensures.call.goes_on early in
-    let is = sym (c.in_ok-row.ensures.found first) ∙ c.in-Some.is in
-    revoked_one_each forms b rows stands t c.in-Some.row is c.in_ok-vec.field-0.items
+    let done = ended g (goal.at.returns-clause-ended g c).After-vec honest in
+    revoked_one_each forms b rows stands t c.in-Some.row done.0 c.in_ok-vec.field-0.items
     (c.in_ok-vec.ensures.items ∙ ap (λ key. key ∷ []) c.in_ok-copied.ensures)
 
 pub returns-clause-unknown : goal.returns-clause-unknown
@@ -94,14 +114,8 @@ returns-clause-unknown g c honest forms b stands none =
     let seen = g.T.RecordsTx.seen in
     let rows = (seen c.args.tx.now).rows in
     let t = c.args.token.now in
-    let mid = honest_before (seen c.remove_token.new.tx)
-    (seen c.orphan_children.new.tx) _ c.orphan_children.ensures.call.goes_on honest in
-    let early = honest_before (seen c.by_owner.new.self)
-    (seen c.remove_token.new.tx) _ c.in_ok-remove_token.ensures.call.goes_on mid in
-    let first = honest_before (seen c.get.new.self)
-    (seen c.by_owner.new.self) _ c.in_ok-children.ensures.call.goes_on early in
-    let is = sym (c.in_ok-row.ensures.found first) ∙ c.in-Some.is in
-    let x = is_token forms b rows stands t c.in-Some.row is in
+    let done = ended g (goal.at.returns-clause-unknown g c).After-vec honest in
+    let x = is_token forms b rows stands t c.in-Some.row done.0 in
     absurd (none-some _ (sym none ∙ x.1))
 
 pub returns-clause-call : goal.returns-clause-call
@@ -111,28 +125,10 @@ returns-clause-call g c =
           let seen = g.T.RecordsTx.seen in
           let rows = (seen c.args.tx.now).rows in
           let t = c.args.token.now in
-          let mid = honest_before (seen c.remove_token.new.tx)
-          (seen c.orphan_children.new.tx) _ c.orphan_children.ensures.call.goes_on honest in
-          let early = honest_before (seen c.by_owner.new.self)
-          (seen c.remove_token.new.tx) _ c.in_ok-remove_token.ensures.call.goes_on mid in
-          let first = honest_before (seen c.get.new.self)
-          (seen c.by_owner.new.self) _ c.in_ok-children.ensures.call.goes_on early in
-          let is = sym (c.in_ok-row.ensures.found first) ∙ c.in-Some.is in
-          let was = c.in_ok-children.ensures.call.same early ∙ c.in_ok-row.ensures.call.same first in
-          let is_mid : (seen c.remove_token.new.tx).rows ≡ without_ended (t ∷ []) (rows_under rows kind.Token []) rows =
-          c.in_ok-remove_token.ensures.rows mid
-          ∙ (λ i. without_token (was i) ((kind.Token, c.in_ok-copied.ensures i), c.in-Some.row))
-          ∙ lone_without rows t c.in-Some.row is in
-          let is_new : (seen c.orphan_children.new.tx).rows ≡ without_parent t (rows_under rows kind.Token [])
-          (seen c.remove_token.new.tx).rows =
-          c.in_ok-orphan_children.ensures.rows honest
-          ∙ (λ i. without_parent t ((c.deref.ensures.value ∙ c.in_ok-children.ensures.entries early
-          ∙ ap (λ m. rows_owned m kind.Token t) (c.in_ok-row.ensures.call.same first)) i)
-          (seen c.remove_token.new.tx).rows)
-          ∙ owned_orphans t rows (seen c.remove_token.new.tx).rows in
-          subst (λ m. KeepsOthers of_tokens (table_of rows) (table_of m)) (sym is_new) (λ k q h.
+          let done = ended g (goal.at.returns-clause-call g c).After-vec honest in
+          subst (λ m. KeepsOthers of_tokens (table_of rows) (table_of m)) (sym done.2) (λ k q h.
           parents_keep t (rows_under rows kind.Token []) (seen c.remove_token.new.tx).rows k q h
-          ∙ ap (λ m. table_of m k q) is_mid ∙ others_stay (t ∷ []) (rows_under rows kind.Token []) rows k q h);
+          ∙ ap (λ m. table_of m k q) done.1 ∙ others_stay (t ∷ []) (rows_under rows kind.Token []) rows k q h);
       faults = tt;
       goes_on = goes_further _ _ _ _ (goes_further _ _ _ _
           (goes_further _ _ _ _ c.in_ok-row.ensures.call.goes_on c.in_ok-children.ensures.call.goes_on)
@@ -144,30 +140,13 @@ returns-clause-rows g c honest =
     let seen = g.T.RecordsTx.seen in
     let rows = (seen c.args.tx.now).rows in
     let t = c.args.token.now in
-    let mid = honest_before (seen c.remove_token.new.tx)
-    (seen c.orphan_children.new.tx) _ c.orphan_children.ensures.call.goes_on honest in
-    let early = honest_before (seen c.by_owner.new.self)
-    (seen c.remove_token.new.tx) _ c.in_ok-remove_token.ensures.call.goes_on mid in
-    let first = honest_before (seen c.get.new.self)
-    (seen c.by_owner.new.self) _ c.in_ok-children.ensures.call.goes_on early in
-    let is = sym (c.in_ok-row.ensures.found first) ∙ c.in-Some.is in
-    let was = c.in_ok-children.ensures.call.same early ∙ c.in_ok-row.ensures.call.same first in
-    let is_mid : (seen c.remove_token.new.tx).rows ≡ without_ended (t ∷ []) (rows_under rows kind.Token []) rows =
-    c.in_ok-remove_token.ensures.rows mid
-    ∙ (λ i. without_token (was i) ((kind.Token, c.in_ok-copied.ensures i), c.in-Some.row))
-    ∙ lone_without rows t c.in-Some.row is in
-    let is_new : (seen c.orphan_children.new.tx).rows ≡ without_parent t (rows_under rows kind.Token [])
-    (seen c.remove_token.new.tx).rows =
-    c.in_ok-orphan_children.ensures.rows honest
-    ∙ (λ i. without_parent t ((c.deref.ensures.value ∙ c.in_ok-children.ensures.entries early
-    ∙ ap (λ m. rows_owned m kind.Token t) (c.in_ok-row.ensures.call.same first)) i) (seen c.remove_token.new.tx).rows)
-    ∙ owned_orphans t rows (seen c.remove_token.new.tx).rows in
-    ends_alone rows t c.in-Some.row is (rows_under rows kind.Token []) (t ∷ []) refl refl
-    (lone_readable rows t c.in-Some.row is
+    let done = ended g (goal.at.returns-clause-rows g c).After-vec honest in
+    ends_alone rows t c.in-Some.row done.0 (rows_under rows kind.Token []) (t ∷ []) refl refl
+    (lone_readable rows t c.in-Some.row done.0
     (subst (λ key. IsTokenRow ((kind.Token, key), c.in-Some.row)) c.in_ok-copied.ensures
     c.in_ok-remove_token.ensures.readable))
     (rows_under rows kind.Token []) refl (seen c.remove_token.new.tx).rows
-    (seen c.orphan_children.new.tx).rows is_mid is_new
+    (seen c.orphan_children.new.tx).rows done.1 done.2
     c.in_ok-vec.field-0.items (c.in_ok-vec.ensures.items ∙ ap (λ key. key ∷ []) c.in_ok-copied.ensures)
 
 pub returns-in_err-remove_token-clause-call : goal.returns-in_err-remove_token-clause-call
@@ -181,11 +160,7 @@ returns-in_err-remove_token-clause-call g c =
     → IsHonest (seen c.remove_token.new.tx)
     → IsDamagedToken (table_of rows) t =
     λ damage honest.
-    let early = honest_before (seen c.by_owner.new.self)
-    (seen c.remove_token.new.tx) _ c.remove_token.ensures.call.goes_on honest in
-    let first = honest_before (seen c.get.new.self)
-    (seen c.by_owner.new.self) _ c.in_ok-children.ensures.call.goes_on early in
-    let is = sym (c.in_ok-row.ensures.found first) ∙ c.in-Some.is in
+    let is = found g (goal.at.returns-in_err-remove_token-clause-call g c).After-remove_token honest in
     damage_alone rows t c.in-Some.row is (rows_under rows kind.Token []) (t ∷ []) refl refl (λ all. damage
     (subst (λ key. IsTokenRow ((kind.Token, key), c.in-Some.row)) (sym c.in_ok-copied.ensures)
     (readable_lone rows t c.in-Some.row is all))) in
