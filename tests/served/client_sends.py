@@ -174,6 +174,19 @@ WRONG = (
     "read a --token-file",
 )
 
+# First words of two, each with the command whose example stands for a second one that there is not.
+GROUPS = {"kv": "kv get", "token": "token lookup", "policy": "policy read", "lease": "lease renew"}
+
+# All commands.
+EACH = ("read", "write", "list", "delete", "unwrap", "kv get", "kv put", "kv list", "kv delete", "token create",
+        "token lookup", "token renew", "token revoke", "token list", "policy write", "policy read", "policy delete",
+        "policy list", "lease renew", "lease revoke")
+
+# Command lines whose last word is an option that lacks its value; the words before it would be another command.
+UNVALUED = (("read unwrap --field", "--field <NAME>"), ("kv get unwrap -field", "--field <NAME>"),
+            ("--field", "--field <NAME>"), ("write unwrap --token-file", "--token-file <FILE>"),
+            ("read list b --timeout", "--timeout <SECONDS>"), ("token create unwrap --wrap-ttl", "--wrap-ttl <D>"))
+
 # Command lines that name what is no text, or too long.
 UNUSABLE = ("write a a=@bytes", "write a @bytes", "policy write app bytes", "read a --token-file bytes",
             "write a @long", "kv put secret/a a=@long", "policy write app long")
@@ -340,6 +353,9 @@ def fields(tried):
     for line, body in (("read a --field a", "<html>"), ("kv get a/b --field a", ""), ("read a --field a", '{"a":1')):
         said = tried.call(line, reply(body))
         tried.same(f"a field of {body!r}", (said.status, said.out, said.err), (1, b"", b"bad reply\n"))
+    for line in ("write a b=c --field d", "kv delete a/b --field d", "token revoke --field d"):
+        said = tried.call(line, DONE)
+        tried.same(f"{line}, without content", (said.status, said.out, said.err), (1, b"", b"client: no field d\n"))
 
 
 def refusals(tried):
@@ -415,13 +431,53 @@ def files_of_tokens(tried):
         tried.holds(f"the token {token[:10]}", is_refused, f"{said}, {tried.server.sent}")
 
 
+def example_for(tried, line):
+    """The example that is right for a command line: that of its command's help; where the client has no such command,
+    that of another one with its first word, or of `kv get`."""
+    words = [word for word in shlex.split(line) if not word.startswith("-")]
+    name = " ".join(words[:2 if words[:1] and words[0] in GROUPS else 1])
+    found = re.search(r"^Example: .*$", tried.call(f"{name} --help").out.decode(), re.MULTILINE)
+    if found is None or name == "":
+        return example_for(tried, GROUPS.get(name.split(" ")[0], "kv get"))
+    return found[0]
+
+
+def has_example(tried, told, example, server=""):
+    """Whether what is told ends in this example, and has one alone; the example is sent."""
+    lines = told.decode().splitlines()
+    examples = [line for line in lines if line.startswith("Example")]
+    return lines[-1:] == examples == [example.replace("Example: ", f"Example: {server}")]
+
+
+def examples(tried):
+    """Each example is a command line that is sent. Where no server is known, it names one."""
+    for name, text in (("app.json", POLICY), ("password", "p w"), ("wrapping-token", "hvs.w\n")):
+        tried.client.file(name, text)
+    for name in EACH:
+        line = example_for(tried, name)
+        words = shlex.split(line, comments=True)[2:]
+        said = tried.call(shlex.join(words), VAULT_TOKEN=None)
+        tried.holds(line, said.status in (0, 1) and len(tried.server.sent) == 1, f"{said}, sent {tried.server.sent}")
+        tried.holds(f"the command of {line}", re.fullmatch(rf"Example: client (?:--\S+ \S+ )*{name}\b.*", line), name)
+        said = tried.call(f"{name} --nothing", VAULT_ADDR=None)
+        is_told = has_example(tried, said.err, line, "VAULT_ADDR=http://127.0.0.1:8200 ")
+        tried.holds(f"{name}, without a server", said.status == 2 and is_told, str(said))
+    for line, option in UNVALUED:
+        said = tried.call(line)
+        is_told = f"a value is required for '{option}" in said.err.decode() and tried.server.sent == []
+        tried.holds(f"'{line}', which lacks a value", is_told, f"{said}, sent {tried.server.sent}")
+
+
 def wrong_lines(tried):
     """Wrong command lines are told with an example that is right; nothing is sent."""
     for line in WRONG:
         said = tried.call(line, given="x")
         is_usage = said.status == 2 and said.out == b"" and tried.server.sent == []
         tried.holds(f"the line '{line}'", is_usage, f"{said}, sent {tried.server.sent}")
-        is_told = re.search(rb"Usage: client|such as|as in|--help", said.err)
+        if said.err.startswith(b"client: "):
+            is_told = re.search(rb"such as|as in|: .*: ", said.err)
+        else:
+            is_told = has_example(tried, said.err, example_for(tried, line))
         tried.holds(f"what is right for '{line}'", is_told, str(said))
     for line in UNREADABLE:
         said, name = tried.call(line, VAULT_TOKEN=None), line.split()[-1].rpartition("=")[2]
@@ -514,7 +570,7 @@ def main():
             print("".join(f"{json.dumps(taken_down(tried, *case))}\n" for case in BEFORE), end="")
             return 0
         for part in (requests, lists_of_tokens, bodies, fields, refusals, tokens, files_of_tokens, wrong_lines,
-                     policies, help_of, outputs, kept):
+                     examples, policies, help_of, outputs, kept):
             part(tried)
     return tried.end()
 

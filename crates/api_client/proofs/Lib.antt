@@ -1,12 +1,9 @@
 pub mod AskedLemmas
-pub mod BodyLemmas
 pub mod EscapingLemmas
 pub mod FieldLemmas
 pub mod NumberLemmas
 pub mod PathLemmas
 pub mod ReplyLemmas
 pub mod SentLemmas
-pub mod SubcommandLemmas
 pub mod TextLemmas
-pub mod WordLemmas
 pub mod WrittenLemmas

@@ -40,6 +40,11 @@ field_shown name NoJson = show [] (codes "bad reply" ++ 10 ∷ []) 1
 abbrev pub IsFieldShown : List ℕ → Text → Shown → Type 0
 IsFieldShown body name shown = (field : Field) × IsField body name field × (shown ≡ field_shown name field)
 
+-- the same by whether the reply has no content (204), and so no members
+abbrev pub IsMemberShown : Bool → List ℕ → Text → Shown → Type 0
+IsMemberShown true body name shown = shown ≡ field_shown name Missing
+IsMemberShown false body name shown = IsFieldShown body name shown
+
 -- Of a refusal the status is told, and after it why, in words of which this says nothing.
 abbrev pub IsRefusalShown : Bool → Reply → Shown → Type 0
 IsRefusalShown exit_codes reply shown =
@@ -48,13 +53,13 @@ IsRefusalShown exit_codes reply shown =
     (refusal_status exit_codes reply.status))
 
 -- what is printed of a reply that is no refusal: the member that is asked for, or nothing, or the body
-abbrev pub IsSuccessShown : Option Text → Bool → List ℕ → Shown → Type 0
-IsSuccessShown (Some name) silent body shown = IsFieldShown body name shown
-IsSuccessShown None silent body shown = shown ≡ show (if silent then [] else body) [] 0
+abbrev pub IsSuccessShown : Option Text → Bool → Reply → Shown → Type 0
+IsSuccessShown (Some name) silent reply shown = IsMemberShown (reply.status == 204) reply.body name shown
+IsSuccessShown None silent reply shown = shown ≡ show (if silent then [] else reply.body) [] 0
 
 -- the same by whether the reply is no refusal
 abbrev pub IsShownBy : Bool → Manner → Reply → Shown → Type 0
-IsShownBy true manner reply shown = IsSuccessShown manner.field manner.silent reply.body shown
+IsShownBy true manner reply shown = IsSuccessShown manner.field manner.silent reply shown
 IsShownBy false manner reply shown = IsRefusalShown manner.exit_codes reply shown
 
 -- the same by whether the manner is plain

@@ -1,15 +1,14 @@
-//! JSON values read from texts (RFC 8259), and whether a number in one is a float.
+//! JSON values read from texts (RFC 8259).
 
 ghost use Rattle.std.specs.Prelude.{◌≡◌, IfOk, option_map};
 ghost use Rattle.serde_json.specs.Read.{read};
-ghost use Rattle.serde_json.specs.View.{view, items_view, members_view};
-ghost use Rattle.serde_json.specs.Written.{has_float, items_have_float, members_have_float};
+ghost use Rattle.serde_json.specs.View.{view};
 
-use serde_json::{Map, Value};
+use serde_json::Value;
 use std::alloc::{AllocError, Global};
 
 /// The value that a text is, if it is JSON of at most 127 levels. The only error is running out of memory.
-pub(crate) fn parsed(alloc: Global, text: &str) -> Result<Option<Value>, AllocError>
+pub fn parsed(alloc: Global, text: &str) -> Result<Option<Value>, AllocError>
     ensures { IfOk result (λ o. option_map view o ≡ read text.now) }
 {
     match Value::from_str(alloc, text) {
@@ -22,44 +21,4 @@ pub(crate) fn parsed(alloc: Global, text: &str) -> Result<Option<Value>, AllocEr
             }
         }
     }
-}
-
-/// Whether a number in the value is a float: one with a fraction or an exponent, `-0`, or a whole number below -2^63
-/// or above 2^64-1.
-#[cycle(floats)]
-pub(crate) fn holds_float(value: &Value) -> bool
-    ensures { result ≡ has_float (view value.now) }
-{
-    match value {
-        Value::Null => false,
-        Value::Bool(_) => false,
-        Value::String(_) => false,
-        Value::Number(number) => number.is_f64(),
-        Value::Array(items) => items_hold_float(items),
-        Value::Object(members) => members_hold_float(members),
-    }
-}
-
-#[cycle(floats)]
-fn items_hold_float(items: &Vec<Value>) -> bool
-    ensures { result ≡ items_have_float (items_view items.now.items) }
-{
-    for item in items {
-        if holds_float(item) {
-            return true;
-        }
-    }
-    false
-}
-
-#[cycle(floats)]
-fn members_hold_float(members: &Map<String, Value>) -> bool
-    ensures { result ≡ members_have_float (members_view members.now.entries) }
-{
-    for (_, member) in members.iter() {
-        if holds_float(member) {
-            return true;
-        }
-    }
-    false
 }

@@ -1,63 +1,36 @@
-//! The client of the API: command lines read, requests sent, and replies read and shown (RFC 9110, RFC 9112).
+//! The client of the API: requests sent, and replies read and shown (RFC 9110, RFC 9112).
 #![tactic(auto)]
 
 mod argument;
-mod arguments;
-mod arranging;
 mod asking;
-mod bodies;
-mod body_words;
 mod command;
-mod command_line;
 mod escaping;
 mod exchanging;
 mod failure;
 mod field;
 mod json_values;
 mod laws;
-mod line;
 mod manner;
-mod meaning;
-mod mistake;
-mod no_body;
-mod no_command;
-mod no_request;
 mod numbers;
-mod objects;
-mod policy_form;
-mod policy_places;
 mod refusal_text;
 mod renewal;
 mod reply;
 mod reply_head;
 mod replying;
 mod requesting;
-mod settings;
 mod shown;
-mod subcommands;
-mod task;
 mod token_list;
-mod token_places;
-mod values;
 
 pub use argument::{FieldText, ShortText};
-pub use arranging::arranged;
-pub use body_words::{BodyWord, Origin, origin_of};
 pub use command::{Command, Request};
 pub use exchanging::{Peer, answer_of, exchange, report, tell};
 pub use failure::Failure;
+pub use json_values::parsed;
 pub use laws::written_replies_are_read;
-pub use line::{Line, command_of, line_of, usage};
 pub use manner::Manner;
-pub use mistake::Mistake;
-pub use no_body::BodyMistake;
-pub use no_command::NoCommand;
-pub use policy_form::{FormMistake, policy_mistake};
+pub use numbers::number_of;
 pub use renewal::{pause_before_renewal, seconds_left};
 pub use reply::{Reply, ReplyError};
 pub use replying::reply_of;
 pub use requesting::request_of;
-pub use settings::Settings;
-pub use task::Task;
-pub use token_list::{accessors_in, look_up, token_line};
-pub use token_places::{TokenPlace, first_line, token_place};
+pub use token_list::{accessors_in, token_line};

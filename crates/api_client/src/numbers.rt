@@ -4,10 +4,10 @@ ghost use Rattle.std.specs.Prelude.{◌≡◌};
 ghost use Rattle.std.specs.Char.{is_ascii_digit};
 ghost use Rattle.std.specs.List.{list_all};
 ghost use Rattle.http_layer.specs.Front.{is_number};
-ghost use Rattle.api_client.specs.Settings.{number_told};
+ghost use Rattle.api_client.specs.Numbers.{number_told};
 
 /// The number that digits tell, if it has at most 64 bits.
-pub(crate) fn number_of(text: &str) -> Option<u64>
+pub fn number_of(text: &str) -> Option<u64>
     ensures { result ≡ number_told text.now }
 {
     if !is_number(text.as_bytes()) {

@@ -1,8 +1,8 @@
 //! What is printed of a reply.
 
-ghost use Rattle.std.specs.Prelude.{◌≡◌, IfOk, IsOk, [], true};
-ghost use Rattle.api_client.specs.Shows.{IsFieldShown, IsRefusalShown, IsShown, is_success, missing_line};
-ghost use Rattle.api_client.specs.Shows.{refusal_status, show, status_after};
+ghost use Rattle.std.specs.Prelude.{◌≡◌, ◌==◌, IfOk, IsOk, [], true};
+ghost use Rattle.api_client.specs.Shows.{IsFieldShown, IsMemberShown, IsRefusalShown, IsShown, is_success};
+ghost use Rattle.api_client.specs.Shows.{missing_line, refusal_status, show, status_after};
 
 use crate::field::{Field, field_of};
 use crate::manner::Manner;
@@ -38,7 +38,7 @@ pub(crate) fn shown_of<'r>(
         return refused(alloc, manner, reply);
     }
     match &manner.field {
-        Some(name) => field(alloc, reply, name.as_str()),
+        Some(name) => member(alloc, reply, name.as_str()),
         None if manner.silent => Ok(nothing(alloc)),
         None => Ok(whole(alloc, reply, 0)),
     }
@@ -90,7 +90,17 @@ fn told<'r>(line: Vec<u8>, status: u8) -> Shown<'r>
     }
 }
 
-/// The member of this name.
+/// The member of this name, which a reply without content does not have.
+fn member<'r>(alloc: Global, reply: &Reply, name: &str) -> Result<Shown<'r>, AllocError>
+    ensures { IfOk result (IsMemberShown (reply.now.status == 204) reply.now.body name.now) }
+{
+    if reply.status == 204 {
+        return Ok(told(missing(alloc, name)?, 1));
+    }
+    field(alloc, reply, name)
+}
+
+/// The member of this name in the body.
 fn field<'r>(alloc: Global, reply: &Reply, name: &str) -> Result<Shown<'r>, AllocError>
     ensures { IfOk result (IsFieldShown reply.now.body name.now) }
 {

@@ -1,9 +1,6 @@
 //! All tokens, a line each. Nothing is claimed of these functions but that they are safe and end.
 
-use crate::command::Request;
 use crate::json_values::parsed;
-use crate::meaning::look_up_token;
-use crate::no_request::NoRequest;
 use serde_json::Value;
 use std::alloc::{AllocError, Global};
 use std::str;
@@ -24,15 +21,6 @@ pub fn accessors_in(alloc: Global, body: &[u8]) -> Result<Option<Vec<String>>, A
         }
     }
     Ok(Some(accessors))
-}
-
-/// The look-up of the token of an accessor. The only error is running out of memory, for an accessor that is shorter
-/// than a body may be.
-pub fn look_up<'a>(alloc: Global, accessor: &str) -> Result<Request<'a>, AllocError> {
-    match look_up_token(alloc, Some(accessor)) {
-        Ok(request) => Ok(request),
-        Err(NoRequest::Mistaken(_)) | Err(NoRequest::Fault(_)) => Err(AllocError),
-    }
 }
 
 /// The line of a token, by the body of the reply to its look-up: its accessor, its policies with commas between, and

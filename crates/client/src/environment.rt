@@ -2,7 +2,8 @@
 
 use crate::inputs::token_in_file;
 use crate::stopped::Stopped;
-use api_client::{Failure, FieldText, TokenPlace, line_of, token_place};
+use api_client::{Failure, FieldText};
+use command_line::{TokenPlace, line_of, token_place};
 use std::alloc::Global;
 use std::env::{self, VarError};
 use std::fs;
@@ -18,6 +19,8 @@ const OPTIONS: [&str; 7] = [
     "--wait",
     "--timeout",
 ];
+
+const WRONG_ADDRESS: &str = "VAULT_ADDR is not http://HOST:PORT, as http://127.0.0.1:8200";
 
 const WRONG_TOKEN: &str =
     "the token of VAULT_TOKEN or of the file is not 1 to 1,024 visible ASCII characters";
@@ -91,6 +94,14 @@ fn home_file(rt: &HostRuntime) -> Result<Option<String>, Stopped> {
     }
 }
 
+/// Whether the words name a server.
+pub(crate) fn has_server(words: &[String]) -> bool {
+    match words.last() {
+        Some(word) => is_given(words, "--addr") && word.as_str() != "--addr",
+        None => false,
+    }
+}
+
 /// Whether an option is among those before the command.
 fn is_given(words: &[String], option: &str) -> bool {
     let mut is_value = false;
@@ -156,12 +167,12 @@ fn address_of(url: &str) -> Result<&str, &'static str> {
         );
     }
     let Some(rest) = url.strip_prefix("http://") else {
-        return Err("VAULT_ADDR is not http://HOST:PORT");
+        return Err(WRONG_ADDRESS);
     };
     let address = rest.strip_suffix('/').unwrap_or(rest);
     match address.rsplit_once(':') {
         Some((host, port)) if !host.is_empty() && port.parse::<u16>().is_ok() => Ok(address),
-        _ => Err("VAULT_ADDR is not http://HOST:PORT"),
+        _ => Err(WRONG_ADDRESS),
     }
 }
 

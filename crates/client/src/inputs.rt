@@ -1,9 +1,13 @@
 //! What is read for a command: files, and standard input.
 
+ghost use Rattle.std.specs.Prelude.{◌≡◌, ◌++◌, [], IfOk, OnOk, map, unwrap_or};
+ghost use Rattle.command_line.specs.Meaning.{words_entered};
+
 use crate::environment::mistake;
 use crate::stopped::Stopped;
-use api_client::{BodyWord, Failure, Line, Origin, Task, first_line, origin_of, policy_mistake};
+use api_client::Failure;
 use broker_types::TextBuf;
+use command_line::{BodyWord, Line, Origin, Task, first_line, origin_of, policy_mistake};
 use std::fs::{self, File};
 use std::io::{self, Read};
 use std::os::unix::fs::PermissionsExt;
@@ -18,38 +22,76 @@ const LONGEST_BODY: usize = 1_048_576;
 pub(crate) fn body_words<'a>(
     rt: &HostRuntime,
     line: &Line<'a>,
-) -> Result<Vec<BodyWord<'a>>, Stopped> {
-    let is_policy = line.task() == Task::WritePolicy;
+) -> Result<Vec<BodyWord<'a>>, Stopped>
+    ensures { IfOk result (λ words. map (λ w. w.word.now) words.items ≡ unwrap_or (words_entered line.now.1) []) }
+{
     let mut words = Vec::new(rt.alloc());
-    let mut has_input = false;
     let Some(typed) = line.words() else {
         return Ok(words);
     };
+    read_words(rt, typed, line.task() == Task::WritePolicy, &mut words)?;
+    Ok(words)
+}
+
+/// Adds words at the end, each with the text that is read for it.
+fn read_words<'a>(
+    rt: &HostRuntime,
+    typed: &[&'a str],
+    is_policy: bool,
+    words: &mut Vec<BodyWord<'a>>,
+) -> Result<(), Stopped>
+    ensures { OnOk result (map (λ w. w.word.now) words.new.items
+        ≡ map (λ w. w.word.now) words.old.items ++ map (λ t. t.now) typed.now) }
+{
+    let mut has_input = false;
     for word in typed {
-        let word = *word;
-        let origin = if is_policy {
-            Some(policy_origin(word))
-        } else {
-            origin_of(word)
+        let word = match read_word(rt, *word, is_policy, &mut has_input) {
+            Ok(word) => word,
+            Err(stopped) => return Err(stopped),
         };
-        if let Some(Origin::Input) = origin {
-            if has_input {
-                return mistake(
-                    rt.alloc(),
-                    "standard input is named twice: name it once, as in password=-",
-                );
-            }
-            has_input = true;
-        }
-        let text = read(rt, word, origin)?;
-        if is_policy && let Some(text) = &text {
-            check_policy(rt, word, text.as_str())?;
-        }
-        if words.push(BodyWord { word, text }).is_err() {
+        if words.push(word).is_err() {
             return Err(Stopped::Failure(Failure::Memory));
         }
     }
-    Ok(words)
+    Ok(())
+}
+
+/// A word with the text that is read for it. Standard input is read once.
+fn read_word<'a>(
+    rt: &HostRuntime,
+    word: &'a str,
+    is_policy: bool,
+    has_input: &mut bool,
+) -> Result<BodyWord<'a>, Stopped>
+    ensures { IfOk result (λ w. w.word.now ≡ word.now) }
+{
+    let origin = if is_policy {
+        Some(policy_origin(word))
+    } else {
+        origin_of(word)
+    };
+    if let Some(Origin::Input) = origin {
+        if *has_input {
+            return Err(named_twice(rt));
+        }
+        *has_input = true;
+    }
+    let text = read(rt, word, origin)?;
+    if is_policy && let Some(text) = &text {
+        check_policy(rt, word, text.as_str())?;
+    }
+    Ok(BodyWord { word, text })
+}
+
+/// What the user is told who has standard input read twice.
+fn named_twice(rt: &HostRuntime) -> Stopped {
+    match String::from_str(
+        rt.alloc(),
+        "standard input is named twice: name it once, as in password=-",
+    ) {
+        Ok(text) => Stopped::Mistake(text),
+        Err(error) => error.into(),
+    }
 }
 
 /// Where the text of a policy comes from.

@@ -14,10 +14,11 @@ mod server;
 mod stopped;
 mod tasks;
 
-use api_client::{NoCommand, arranged, line_of, tell};
+use api_client::tell;
 use clap::error::{Error, ErrorKind};
+use command_line::{NoCommand, arranged, example_of, line_of};
 use endpoints::Writing;
-use environment::complete;
+use environment::{complete, has_server};
 use std::alloc::Global;
 use std::io::{Eprint, Print};
 use std::process::ExitCode;
@@ -27,20 +28,36 @@ use tasks::run;
 
 fn main(rt: HostRuntime) -> anyhow::Result<ExitCode> {
     let alloc = rt.alloc();
-    let words = match env::args(&rt).and_then(|words| Ok(words.collect::<Vec<String>>(alloc)?)) {
-        Ok(words) => words,
-        Err(error) => return refuse_words(&rt, &error),
-    };
-    let mut words = match arranged(alloc, words.as_slice()) {
-        Ok(words) => words,
-        Err(error) => return end(&rt, error.into()),
-    };
-    if let Err(stopped) = complete(&rt, &mut words) {
-        return end(&rt, help_or(alloc, words.as_slice(), stopped));
+    match env::args(&rt).and_then(|words| Ok(words.collect::<Vec<String>>(alloc)?)) {
+        Ok(words) => answer(&rt, words.as_slice()),
+        Err(error) => refuse_words(&rt, &error),
     }
-    match run(&rt, words.as_slice()) {
+}
+
+/// Does what the words of a command line ask for, or says why not.
+fn answer(rt: &HostRuntime, typed: &[String]) -> anyhow::Result<ExitCode> {
+    let mut words = match arranged(rt.alloc(), typed) {
+        Ok(words) => words,
+        Err(error) => return end(rt, error.into()),
+    };
+    match done(rt, &mut words) {
         Ok(status) => Ok(ExitCode::from(status)),
-        Err(stopped) => end(&rt, stopped),
+        Err(Stopped::Usage(error)) => {
+            let status = refuse(rt, &error)?;
+            if error.exit_code() != 0 {
+                tell_example(rt, typed, has_server(words.as_slice()))?;
+            }
+            Ok(status)
+        }
+        Err(stopped) => end(rt, stopped),
+    }
+}
+
+/// Does what words ask for that are in order, and answers the exit status.
+fn done(rt: &HostRuntime, words: &mut Vec<String>) -> Result<u8, Stopped> {
+    match complete(rt, words) {
+        Ok(()) => run(rt, words.as_slice()),
+        Err(stopped) => Err(help_or(rt.alloc(), words.as_slice(), stopped)),
     }
 }
 
@@ -59,6 +76,14 @@ fn help_or(alloc: Global, words: &[String], stopped: Stopped) -> Stopped {
     } else {
         stopped
     }
+}
+
+/// Tells an example of the command that was typed, if there is memory for it.
+fn tell_example(rt: &HostRuntime, typed: &[String], has_server: bool) -> anyhow::Result<()> {
+    if let Ok(example) = example_of(rt.alloc(), typed, has_server) {
+        eprintln!(rt; "{example}")?;
+    }
+    Ok(())
 }
 
 /// Says why the client ends without having asked.

@@ -5,7 +5,8 @@ ghost use Rattle.std.specs.IoError.{error_kind};
 ghost use Rattle.std.specs.declared.io.ErrorKind.TheVariants.{OutOfMemory};
 ghost use Rattle.api_client.specs.declared.failure.Failure.TheVariants.{Memory, Unreached};
 
-use api_client::{Command, Failure, Manner, Peer, Reply, Settings, answer_of, exchange, report};
+use api_client::{Command, Failure, Manner, Peer, Reply, answer_of, exchange, report};
+use command_line::Settings;
 use endpoints::{Reading, Source, Writing};
 use std::net::{TcpStream, ToSocketAddrs};
 use std::rt::HostRuntime;

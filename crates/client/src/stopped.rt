@@ -1,7 +1,8 @@
 //! Why the client ends without having asked.
 
-use api_client::{Failure, NoCommand};
+use api_client::Failure;
 use clap::error::Error;
+use command_line::NoCommand;
 use std::alloc::AllocError;
 
 /// Why the client ends without having asked.

@@ -4,16 +4,19 @@ use crate::inputs::body_words;
 use crate::renewing::keep_renewing;
 use crate::server::{Patience, ask, send};
 use crate::stopped::Stopped;
-use api_client::{
-    Command, Failure, Line, Manner, Task, accessors_in, command_of, line_of, look_up, report, tell,
-    token_line, usage,
-};
+use api_client::{Command, Failure, Manner, accessors_in, report, tell, token_line};
+use command_line::{Line, Task, command_of, line_of, look_up, usage};
 use endpoints::{Sink, Writing};
 use std::rt::HostRuntime;
 
 /// Does what the words ask for, and answers the exit status.
 pub(crate) fn run(rt: &HostRuntime, words: &[String]) -> Result<u8, Stopped> {
     let line = line_of(rt.alloc(), words)?;
+    answered(rt, &line)
+}
+
+/// Does what a line asks for, and answers the exit status.
+fn answered(rt: &HostRuntime, line: &Line<'_>) -> Result<u8, Stopped> {
     let manner = match line.manner() {
         Ok(manner) => manner,
         Err(mistake) => return Err(usage(rt.alloc(), mistake.text()).into()),
@@ -22,13 +25,29 @@ pub(crate) fn run(rt: &HostRuntime, words: &[String]) -> Result<u8, Stopped> {
         Ok(settings) => Patience::of(&settings),
         Err(mistake) => return Err(usage(rt.alloc(), mistake.text()).into()),
     };
-    let given = body_words(rt, &line)?;
-    let mut command = command_of(rt.alloc(), &line, given.as_slice())?;
-    match line.task() {
-        Task::Ask | Task::Renew | Task::WritePolicy => Ok(send(rt, &command, &manner, patience)),
-        Task::KeepRenewing => Ok(keep_renewing(rt, &command, &manner, patience)),
-        Task::ListTokens if manner.field.is_some() => Ok(send(rt, &command, &manner, patience)),
-        Task::ListTokens => list_tokens(rt, &mut command, &manner, patience),
+    let mut command = command(rt, line)?;
+    perform(rt, line.task(), &mut command, &manner, patience)
+}
+
+/// The command of a line, with what is read for its body.
+fn command<'a>(rt: &HostRuntime, line: &Line<'a>) -> Result<Command<'a>, Stopped> {
+    let words = body_words(rt, line)?;
+    Ok(command_of(rt.alloc(), line, words.as_slice())?)
+}
+
+/// Does a task, and answers the exit status.
+fn perform(
+    rt: &HostRuntime,
+    task: Task,
+    command: &mut Command<'_>,
+    manner: &Manner<'_>,
+    patience: Patience,
+) -> Result<u8, Stopped> {
+    match task {
+        Task::Ask | Task::Renew | Task::WritePolicy => Ok(send(rt, command, manner, patience)),
+        Task::KeepRenewing => Ok(keep_renewing(rt, command, manner, patience)),
+        Task::ListTokens if manner.field.is_some() => Ok(send(rt, command, manner, patience)),
+        Task::ListTokens => list_tokens(rt, command, manner, patience),
     }
 }
 

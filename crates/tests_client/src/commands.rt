@@ -1,17 +1,24 @@
 //! Command lines with the requests that they send, and lines that are no commands.
 
-use api_client::{BodyWord, Line, NoCommand, arranged, command_of, line_of, request_of};
+use api_client::request_of;
+use command_line::{BodyWord, Line, NoCommand, arranged, command_of, example_of, line_of};
 use std::alloc::{AllocError, Global};
 use std::test::Fail;
 
 /// The words of a command line. The first is the name of the program.
-fn words(alloc: Global, line: &[&str]) -> Result<Vec<String>, AllocError> {
+fn typed(alloc: Global, line: &[&str]) -> Result<Vec<String>, AllocError> {
     let mut words = Vec::new(alloc);
     words.push(String::from_str(alloc, "client")?)?;
     for word in line {
         words.push(String::from_str(alloc, word)?)?;
     }
-    arranged(alloc, words.as_slice())
+    Ok(words)
+}
+
+/// The words of a command line, put in order.
+fn words(alloc: Global, line: &[&str]) -> Result<Vec<String>, AllocError> {
+    let typed = typed(alloc, line)?;
+    arranged(alloc, typed.as_slice())
 }
 
 /// The words that give a body, none of which names a file or standard input.
@@ -140,8 +147,26 @@ fn wrong_command_lines(rt: HostRuntime) -> Result<(), Fail> {
             &["--addr", "b", "--token", "a b", "read", "a"],
             &["--addr", "b", "read", "a//b"],
             &["--addr", "b", "read", "a", "b"],
+            &["--addr", "b", "read", "unwrap", "--field"],
         ],
     )?;
     assert_eq!(rt; first, None);
+    Ok(())
+}
+
+/// Whether this is the example for the words, of which the first is the name of the program.
+fn has_example(alloc: Global, line: &[&str], has_server: bool, want: &str) -> Result<bool, Fail> {
+    let words = typed(alloc, line)?;
+    let example = example_of(alloc, words.as_slice(), has_server)?;
+    Ok(example.as_str() == want)
+}
+
+/// Computes `command_words`, `example_of`.
+#[test]
+fn examples(rt: HostRuntime) -> Result<(), Fail> {
+    let read = "Example: client read secret/data/app";
+    assert!(rt; has_example(rt.alloc(), &["read", "a", "--field"], true, read)?);
+    let lookup = "Example: VAULT_ADDR=http://127.0.0.1:8200 client token lookup --field ttl";
+    assert!(rt; has_example(rt.alloc(), &["-wait", "3", "token", "show"], false, lookup)?);
     Ok(())
 }

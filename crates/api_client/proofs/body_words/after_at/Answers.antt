@@ -1,8 +1,0 @@
-use Rattle.std.proofs.Common.{lit<}
-use Rattle.broker_types.specs.Words.{strip_prefix_char}
-use Rattle.api_client.proofs.WordLemmas.{stripped_at}
-use Rattle.api_client.proofs.body_words.after_at.Goals as goal
-
-pub returns : goal.returns
-returns c = stripped_at c.args.text.now c.strip_prefix.result
-    (strip_prefix_char 64 c.args.text.now c.strip_prefix.result c.strip_prefix.ensures.cases (lit< tt))

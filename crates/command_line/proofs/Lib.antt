@@ -1,0 +1,4 @@
+pub mod ArrangingLemmas
+pub mod BodyLemmas
+pub mod SubcommandLemmas
+pub mod WordLemmas

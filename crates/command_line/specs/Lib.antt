@@ -1,0 +1,14 @@
+pub mod Arranging
+pub mod Bodies
+pub mod BodyWords
+pub mod CommandLine
+pub mod Examples
+pub mod Found
+pub mod Laws
+pub mod Meaning
+pub mod Objects
+pub mod PolicyForms
+pub mod Refusing
+pub mod Settings
+pub mod Tasks
+pub mod TokenPlaces
