@@ -1,0 +1,15 @@
+pub mod Counts
+pub mod Families
+pub mod Health
+pub mod Html
+pub mod Laws
+pub mod Members
+pub mod Names
+pub mod Numbers
+pub mod Objects
+pub mod Page
+pub mod Printed
+pub mod Printing
+pub mod Replies
+pub mod Samples
+pub mod Timings
