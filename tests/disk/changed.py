@@ -307,7 +307,7 @@ def judge_database(trial, base, served, read):
         expect(end.is_fault(2) or rows is None or rows != base.rows, f"the rows are as before, but {end}")
         expect(not end.is_fault(4) or rows is None or CLOCK not in rows, "the clock is there, but fault 4")
     if not replies:
-        return {"fault 2": "refused", "fault 3": "damaged", "fault 4": "without the clock"}[end.said.strip()], end
+        return {2: "refused", 3: "damaged", 4: "without the clock"}[end.fault()], end
     expected, left = reference_replies(base.rows if rows is None else rows, base.questions, replies)
     if expected is not None:
         expect(replies == expected, f"SQLite reads other rows: {first_other(replies, expected)}")
@@ -316,7 +316,7 @@ def judge_database(trial, base, served, read):
         copied, copied_end = copied_replies(trial, place / "copy.db", base, rows)
         found, copied = plain(replies), plain(copied)
         expect(found == copied, f"over a copy of its rows: {first_other(found, copied)}")
-        expect(end.said == copied_end.said, f"over a copy of its rows: {copied_end} in place of {end}")
+        expect(end.fault() == copied_end.fault(), f"over a copy of its rows: {copied_end} in place of {end}")
     if not end.is_kill():
         return "damaged", end
     return "the same rows served" if rows in (None, base.rows) else "other rows served", end

@@ -18,7 +18,7 @@ from broker.connections import Server
 from broker.parts import TODAY
 from broker.rows import number, rows_of, text
 from kept import in_a_format, rows_of_tests, write
-from program import Running, expect
+from program import FAULT, Running, expect
 from rows import rows_in
 from trial import FAULT_OF_STORAGE, MOMENT, NOBODY, Tally, side_by_side
 
@@ -56,6 +56,12 @@ def run(trial, *words):
     """A run of the program until it ends."""
     return subprocess.run([trial.program, *words], stdin=subprocess.DEVNULL, capture_output=True, timeout=SECONDS,
                           text=True)
+
+
+def fault_in(ended):
+    """The fault that a program told after a line that says why; None if it told none so."""
+    found = FAULT.fullmatch(ended.stderr)
+    return int(found[1]) if found else None
 
 
 def check(trial, file):
@@ -107,7 +113,8 @@ def refuse_to_serve(trial, file, said):
         connection = running.connect()
         expect(connection is None, "it listens")
         end = running.close()
-    expect((end.status, end.printed, end.said) == (1, "", said), f"{end} in place of {said}")
+    found = end.said if end.fault() is None else f"fault {end.fault()}\n"
+    expect((end.status, end.printed, found) == (1, "", said), f"{end} in place of {said}")
     expect(rows_in(file) == before, "a row has changed")
 
 
@@ -342,21 +349,21 @@ def try_files(trial):
     for file in (absent, empty, other):
         before = file.exists() and file.read_bytes()
         ended = run(trial, "check", "--db", file)
-        expect((ended.returncode, ended.stdout, ended.stderr) == (1, "", f"fault {FAULT_OF_STORAGE}\n"),
+        expect((ended.returncode, ended.stdout, fault_in(ended)) == (1, "", FAULT_OF_STORAGE),
                f"of {file.name}: {ended}")
         expect((file.exists() and file.read_bytes()) == before, f"{file.name} has changed")
     for file in (absent, empty):
         expect(serve(trial, file) is not None, f"of {file.name}: no root token is printed")
         expect(serve(trial, file) is None, f"of {file.name}: a root token is printed twice")
     ended = run(trial, "serve", "--listen", "127.0.0.1:0", "--connections", "1", "--check", "--db", other)
-    expect((ended.returncode, ended.stdout, ended.stderr) == (1, "", f"fault {FAULT_OF_STORAGE}\n"), f"{ended}")
+    expect((ended.returncode, ended.stdout, fault_in(ended)) == (1, "", FAULT_OF_STORAGE), f"{ended}")
     ended = run(trial, "serve", "--listen", "127.0.0.1:0", "--check")
     expect((ended.returncode, ended.stdout, ended.stderr) == (2, "", WITHOUT_FILE), f"{ended}")
     with Running(trial.program, place / "used.db", {}) as running:
         running.told_root()
         ended = run(trial, "check", "--db", place / "used.db")
         running.close()
-    expect((ended.returncode, ended.stderr) == (1, f"fault {FAULT_OF_STORAGE}\n"), f"of a file in use: {ended}")
+    expect((ended.returncode, fault_in(ended)) == (1, FAULT_OF_STORAGE), f"of a file in use: {ended}")
     return ["files"]
 
 

@@ -16,6 +16,7 @@ PATIENCE = 200  # seconds until a program listens, answers or has ended by itsel
 PAUSE = 0.001  # between two looks at it
 IDLE = 0.15  # after which the program may have closed a connection: it does after 0.25
 PORTS = itertools.count()
+FAULT = re.compile(r".*\S.*\nfault ([1-6])\n")  # what a program says last that ends by a fault
 OPENING = re.compile(r"\Aopening .*: \d+ MB\n")  # what a start says first of a large database
 
 
@@ -43,7 +44,12 @@ class End:
 
     def is_fault(self, *numbers):
         """Whether it ended with one of these faults, as the pages for users say."""
-        return self.status == 1 and self.said in [f"fault {number}\n" for number in numbers]
+        return self.status == 1 and self.fault() in numbers
+
+    def fault(self):
+        """The fault that it told after a line that says why; None if it told none so."""
+        found = FAULT.fullmatch(self.said)
+        return int(found[1]) if found else None
 
     def is_kill(self):
         """Whether it was stopped by SIGKILL, and had said nothing until then."""

@@ -1,6 +1,7 @@
 //! A store in a database.
 
 ghost use Rattle.std.specs.Prelude.{◌≡◌, ◌≢◌, ◌⊎◌, ◌≤◌, IsTrue, IfOk, IfErr, OnOk, OnErr, Err, None, false};
+ghost use Rattle.std.specs.Prelude.{is_some};
 ghost use Rattle.std.specs.FinMap as map;
 ghost use Rattle.sqlite.specs.Files.{over_files};
 ghost use Rattle.broker_types.specs.Answer.{HasRoom, response_of};
@@ -21,11 +22,11 @@ ghost use Rattle.broker_sql.specs.Atomic.{IsAtomic};
 ghost use Rattle.broker_sql.specs.SqlKept.{sql_kept};
 
 use crate::emptiness::is_empty;
-use broker::{Aids, Store, handle_with};
+use broker::{Aids, Noticed, Store, handle_with};
 use broker_rows::write_first_rows;
 use broker_types::{Answer, Ask, Fault, Moment, TokenText, Words};
 use ram_disk::RamFile;
-use records_sql::SqlRecords;
+use records_sql::{Cause, SqlRecords};
 use sqlite::{Alter, FileStore};
 use std::alloc::Global;
 
@@ -65,6 +66,13 @@ impl<S: Alter> SqlStore<S> {
             aids: _,
         } = self;
         records
+    }
+
+    /// Why the last `one` failed; there is a cause exactly if it answered `Storage`.
+    pub fn cause(&self) -> Option<Cause>
+        ensures { is_some result ≡ (sql_kept S.Store self.now).has_failed }
+    {
+        self.records.cause()
     }
 
     /// Makes the first broker at a moment, with the root token (Vault's documentation, "Tokens") of word 1 and the
@@ -176,5 +184,9 @@ impl<S: Alter> Store for SqlStore<S> {
 
     fn failed(&self) -> bool {
         self.records.failed()
+    }
+
+    fn noticed(&self) -> Noticed {
+        Aids::noticed(&self.aids)
     }
 }

@@ -1,6 +1,6 @@
 //! A database that is checked, row by row.
 
-ghost use Rattle.std.specs.Prelude.{◌≡◌, ◌⊎◌, ◌≤◌, Err, IsTrue, IfNone, IfOk, IfErr, IfSome, OnOk};
+ghost use Rattle.std.specs.Prelude.{◌≡◌, ◌⊎◌, ◌≤◌, Err, IsTrue, IfNone, IfOk, IfErr, IfSome, OnOk, is_some};
 ghost use Rattle.sqlite.specs.Files.{over_files};
 ghost use Rattle.sqlite.specs.WalFiles.{image_at};
 ghost use Rattle.broker_types.specs.Fault.{IsMemoryOrStorage};
@@ -20,7 +20,7 @@ use crate::counts::Counts;
 use crate::defect::Defect;
 use broker_types::Fault;
 use records::{Kind, RecordsTx, upgrade_keys};
-use records_sql::SqlRecords;
+use records_sql::{Cause, CausedFault, SqlRecords};
 use soundness::{broken_rows_are_of_no_broker, check};
 use sqlite::{Alter, FileFrom, FileStore, Start, Unknown};
 use std::alloc::Global;
@@ -145,12 +145,12 @@ fn find_if_started<T: RecordsTx>(alloc: Global, tx: &mut T) -> Result<Option<Def
 /// Whether a file and its log, which is beside it, keep the rows of a sound broker, and the records that were
 /// checked. `S` stands for what they hold. No row is changed, and no program may have the file open meanwhile. It
 /// fails with `Memory` if memory runs out, and with `Storage` if there is no such file, it is empty, it cannot be
-/// opened as a database of a broker (`SqlRecords::open_from`), or the storage fails.
+/// opened as a database of a broker (`SqlRecords::open_from`), or the storage fails; then there is a cause.
 pub fn check_from<S: Start>(
     rt: &HostRuntime,
     path: &str,
     start: S,
-) -> Result<(Finding, SqlRecords<FileStore<FileFrom<S>>>), Fault>
+) -> Result<(Finding, SqlRecords<FileStore<FileFrom<S>>>), CausedFault>
     ensures sound { IfOk result (λ checked. IsHonestStore (kept_records over_files checked.1)
         → IfSound checked.0 (KeepABroker (image_at S.Start))) }
     ensures unsound { IfOk result (λ checked. IsHonestStore (kept_records over_files checked.1)
@@ -158,15 +158,14 @@ pub fn check_from<S: Start>(
     ensures same { IfOk result (λ checked. IsHonestStore (kept_records over_files checked.1)
         → IsTrue (kept_records over_files checked.1).is_open
         → IsKeptIn (image_at S.Start) (kept_records over_files checked.1).rows) }
-    ensures faults { IfErr result IsMemoryOrStorage }
+    ensures faults { IfErr result (λ caused. IsMemoryOrStorage caused.fault) }
+    ensures cause { IfErr result (λ caused. caused.fault ≡ Fault.Storage → IsTrue (is_some caused.cause)) }
 {
     // To open it would make the file, or the table in an empty one.
-    if !has_bytes(rt, path) {
-        return Err(Fault::Storage);
-    }
+    find_bytes(rt, path)?;
     match SqlRecords::open_from(rt, path, start) {
         Ok(records) => check_opened(rt.alloc(), records),
-        Err(fault) => Err(fault),
+        Err(cause) => Err(CausedFault::from(cause)),
     }
 }
 
@@ -175,7 +174,7 @@ pub fn check_from<S: Start>(
 fn check_opened<S: Alter + Drop>(
     alloc: Global,
     records: SqlRecords<S>,
-) -> Result<(Finding, SqlRecords<S>), Fault>
+) -> Result<(Finding, SqlRecords<S>), CausedFault>
     ensures sound { IfOk result (λ checked. IsHonestStore (kept_records S.Store checked.1)
         → IfSound checked.0 (OpenAsCounted (kept_records S.Store records).rows)) }
     ensures unsound { IfOk result (λ checked. IsHonestStore (kept_records S.Store checked.1)
@@ -185,25 +184,33 @@ fn check_opened<S: Alter + Drop>(
         → (kept_records S.Store checked.1).rows ≡ (kept_records S.Store records).rows) }
     ensures mismatches { IfOk result (λ checked.
         (kept_records S.Store records).mismatches ≤ (kept_records S.Store checked.1).mismatches) }
-    ensures faults { IfErr result IsMemoryOrStorage }
+    ensures faults { IfErr result (λ caused. IsMemoryOrStorage caused.fault) }
+    ensures cause { IfErr result (λ caused. caused.fault ≡ Fault.Storage → IsTrue (is_some caused.cause)) }
 {
     let mut records = records;
-    let finding = check_records(alloc, &mut records)?;
-    Ok((finding, records))
+    match check_records(alloc, &mut records) {
+        Ok(finding) => Ok((finding, records)),
+        Err(fault) => Err(CausedFault {
+            fault,
+            cause: records.cause(),
+        }),
+    }
 }
 
 /// What `check_from` finds of a file, of whose contents nothing is supposed.
-pub fn check_file(rt: &HostRuntime, path: &str) -> Result<Finding, Fault>
-    ensures { IfErr result IsMemoryOrStorage }
+pub fn check_file(rt: &HostRuntime, path: &str) -> Result<Finding, CausedFault>
+    ensures faults { IfErr result (λ caused. IsMemoryOrStorage caused.fault) }
+    ensures cause { IfErr result (λ caused. caused.fault ≡ Fault.Storage → IsTrue (is_some caused.cause)) }
 {
     let (finding, _records) = check_from(rt, path, Unknown)?;
     Ok(finding)
 }
 
 /// Whether there is a file that is not empty.
-fn has_bytes(rt: &HostRuntime, path: &str) -> bool {
+fn find_bytes(rt: &HostRuntime, path: &str) -> Result<(), Cause> {
     match fs::metadata(rt, path) {
-        Ok(found) => found.len() > 0,
-        Err(_) => false,
+        Ok(found) if found.len() > 0 => Ok(()),
+        Ok(_) => Err(Cause::Empty),
+        Err(error) => Err(Cause::of_kind(error.kind())),
     }
 }

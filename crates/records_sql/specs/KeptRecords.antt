@@ -1,4 +1,5 @@
 -- What contracts see of the rows in a database between transactions (this project's definition).
+use Rattle.std.specs.Prelude.{is_some}
 use Rattle.sqlite_trees.specs.declared.store.Store as store
 use Rattle.sqlite.specs.Held.{state}
 use Rattle.records.specs.Words.{Kept}
@@ -11,6 +12,6 @@ kept_records g r =
     record {
       rows = rows_of (state g r.conn).committed.trees;
       mismatches = mismatches (state g r.conn);
-      has_failed = r.failed;
+      has_failed = is_some r.failure;
       is_open = is_open (state g r.conn);
     }

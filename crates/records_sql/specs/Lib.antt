@@ -1,5 +1,6 @@
 pub mod Adopted
 pub mod Bounds
+pub mod Causes
 pub mod KeptRecords
 pub mod Made
 pub mod Memory

@@ -5,6 +5,7 @@ pub use Rattle.records.specs.declared.row.Row.{Row}
 -- definitions
 pub use Rattle.records_sql.specs.Adopted.{HasRows, IsAdopted, IsKeptIn, IsSettled}
 pub use Rattle.records_sql.specs.Bounds.{IsAbove, IsLater}
+pub use Rattle.records_sql.specs.Causes.{after, cause_of, cause_of_code, KeepsCause}
 pub use Rattle.records_sql.specs.KeptRecords.{kept_records}
 pub use Rattle.records_sql.specs.Made.{IsNewTable}
 pub use Rattle.records_sql.specs.Memory.{Agrees, AreFound, IsCalmUntil, IsDueFrom, Memory, others}

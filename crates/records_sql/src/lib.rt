@@ -2,6 +2,9 @@
 //! transaction to the next.
 #![tactic(auto)]
 
+mod cause;
+mod failure;
+mod numbers;
 mod opening;
 mod reading;
 mod remembered;
@@ -11,6 +14,9 @@ mod sql_records;
 mod statements;
 mod tx;
 
+pub use cause::{Cause, CausedFault};
+pub use failure::LastCause;
+pub use numbers::Numbers;
 pub use row_memory::RowMemory;
 pub use sql_records::SqlRecords;
 pub use tx::SqlTx;

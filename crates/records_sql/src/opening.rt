@@ -1,6 +1,6 @@
 //! Rows in a database that was there before, or in a new one.
 
-ghost use Rattle.std.specs.Prelude.{◌≡◌, ◌≤◌, codes, false, IsTrue, IfOk, IfErr, OnOk, Err};
+ghost use Rattle.std.specs.Prelude.{◌≡◌, ◌≤◌, codes, false, None, IsTrue, IfOk, OnOk, Err};
 ghost use Rattle.std.specs.FinMap as map;
 ghost use Rattle.sqlite.specs.WalFiles.{image_at};
 ghost use Rattle.sqlite.specs.Files.{IsOpened, file_state};
@@ -11,17 +11,20 @@ ghost use Rattle.records_sql.specs.Adopted.{HasRows, IsAdopted, IsKeptIn, IsSett
 ghost use Rattle.records_sql.specs.Made.{IsNewTable};
 ghost use Rattle.records_sql.specs.SqlTable.{IsStore, IsUsable, broker_schema, mismatches, no_schema, rows_of};
 
+use crate::cause::Cause;
+use crate::failure::Failure;
+use crate::numbers::Numbers;
 use crate::reading::check_numbers;
 use crate::row_memory::RowMemory;
 use crate::schema::{is_blank, is_ours};
 use crate::sql_records::SqlRecords;
 use crate::statements;
-use broker_types::Fault;
 use ram_disk::RamFile;
 use sqlite::{Alter, Connection, FileFrom, FileStore, Options, Start};
 use std::alloc::Global;
 use std::fs;
 use std::hash::{BuildHasher, RandomState};
+use std::io::Read;
 use std::rt::HostRuntime;
 
 /// How many bytes a page of a database has.
@@ -34,68 +37,57 @@ const FEWEST_PAGES: u64 = 2_000;
 const MOST_PAGES: u64 = 16_384;
 
 /// Makes the table and its indexes in one transaction, so that a database never has a part of them.
-fn make_table<S: Alter>(conn: &mut Connection<S>) -> Result<(), Fault>
+fn make_table<S: Alter>(conn: &mut Connection<S>) -> Result<(), Cause>
     ensures made { HasCleanDisk (state S.Store conn.new) → (state S.Store conn.old).now.schema ≡ no_schema
         → OnOk result (IsTrue (state S.Store conn.old).is_open × IsNewTable (state S.Store conn.new)) }
     ensures mismatches { mismatches (state S.Store conn.old) ≤ mismatches (state S.Store conn.new) }
-    ensures faults { IfErr result (λ fault. fault ≡ Fault.Storage) }
 {
-    let Ok(_) = statements::begin(conn) else {
-        return Err(Fault::Storage);
-    };
-    let Ok(_) = statements::create(conn) else {
-        return Err(Fault::Storage);
-    };
-    let Ok(_) = statements::create_owner(conn) else {
-        return Err(Fault::Storage);
-    };
-    let Ok(_) = statements::create_due(conn) else {
-        return Err(Fault::Storage);
-    };
-    let Ok(_) = statements::commit(conn) else {
-        return Err(Fault::Storage);
-    };
+    statements::begin(conn)?;
+    statements::create(conn)?;
+    statements::create_owner(conn)?;
+    statements::create_due(conn)?;
+    statements::commit(conn)?;
     Ok(())
 }
 
 /// Asks the table for its rows, and whether each is one that this crate writes. SQLite has tested what the schema says
 /// of them: the kinds of their values, and that no two have one key.
-fn check_rows<S: Alter>(conn: &mut Connection<S>) -> Result<(), Fault>
+fn check_rows<S: Alter>(conn: &mut Connection<S>) -> Result<Numbers, Cause>
     ensures sound { HasCleanDisk (state S.Store conn.new) → (state S.Store conn.old).now.schema ≡ broker_schema
         → IsLive (state S.Store conn.old) → OnOk result (IsStore (state S.Store conn.old).now) }
     ensures same { HasCleanDisk (state S.Store conn.new) → (state S.Store conn.old).now.schema ≡ broker_schema
         → OnOk result (IsUnchanged (state S.Store conn.old) (state S.Store conn.new)) }
     ensures mismatches { mismatches (state S.Store conn.old) ≤ mismatches (state S.Store conn.new) }
-    ensures faults { IfErr result (λ fault. fault ≡ Fault.Storage) }
 {
-    let Ok(rows) = statements::numbers(conn) else {
-        return Err(Fault::Storage);
-    };
-    check_numbers(&rows)
+    let rows = statements::numbers(conn)?;
+    match check_numbers(&rows) {
+        Ok(numbers) => Ok(numbers),
+        Err(_) => Err(Cause::Damaged),
+    }
 }
 
 /// Makes the table if the database has none, and else asks whether it is one that this crate made.
-fn find_table<S: Alter>(conn: &mut Connection<S>) -> Result<(), Fault>
+fn find_table<S: Alter>(conn: &mut Connection<S>) -> Result<Numbers, Cause>
     ensures found { HasCleanDisk (state S.Store conn.new) → IsSettled (state S.Store conn.old)
         → OnOk result (IsAdopted (state S.Store conn.old) (state S.Store conn.new)) }
     ensures mismatches { mismatches (state S.Store conn.old) ≤ mismatches (state S.Store conn.new) }
-    ensures faults { IfErr result (λ fault. fault ≡ Fault.Storage) }
 {
     if is_blank(conn.schema()) {
-        return make_table(conn);
+        make_table(conn)?;
+        return Ok(Numbers::none());
     }
     if !is_ours(conn.schema()) {
-        return Err(Fault::Storage);
+        return Err(Cause::OtherTables);
     }
     check_rows(conn)
 }
 
 impl<S: Alter + Drop> SqlRecords<S> {
-    /// The rows of a database that was there before; one without a table is given the table, without a row. The only
-    /// error is `Storage`: a transaction is open, the database has another table, index or view than this crate makes,
-    /// a row is none that this crate writes, or the storage failed. The connection is gone then, and the rows are as
-    /// before.
-    pub fn adopt(alloc: Global, mut conn: Connection<S>) -> Result<SqlRecords<S>, Fault>
+    /// The rows of a database that was there before; one without a table is given the table, without a row. It fails if
+    /// a transaction is open (`Refused`), the database has another table, index or view than this crate makes
+    /// (`OtherTables`), a row is none that this crate writes (`Damaged`), or the storage failed. The connection is gone
+    /// then, and the rows are as before.
+    pub fn adopt(alloc: Global, mut conn: Connection<S>) -> Result<SqlRecords<S>, Cause>
         ensures found { IfOk result (λ records. HasCleanDisk (state S.Store records.conn)
             → HasRows (state S.Store conn).committed (rows_of (state S.Store records.conn).committed.trees)) }
         ensures usable { IfOk result (λ records. HasCleanDisk (state S.Store records.conn)
@@ -103,19 +95,19 @@ impl<S: Alter + Drop> SqlRecords<S> {
         ensures autocommit { OnOk result ((state S.Store conn).in_transaction ≡ false) }
         ensures mismatches { IfOk result (λ records.
             mismatches (state S.Store conn) ≤ mismatches (state S.Store records.conn)) }
-        ensures failing { IfOk result (λ records. records.failed ≡ false) }
-        ensures faults { IfErr result (λ fault. fault ≡ Fault.Storage) }
+        ensures failing { IfOk result (λ records. records.failure ≡ None) }
     {
         if !conn.is_autocommit() {
-            return Err(Fault::Storage);
+            return Err(Cause::Refused);
         }
-        find_table(&mut conn)?;
+        let numbers = find_table(&mut conn)?;
         Ok(SqlRecords {
             alloc,
             conn,
             is_active: false,
-            failed: false,
+            failure: Failure::none(),
             memory: RowMemory::new(alloc),
+            numbers,
         })
     }
 }
@@ -129,23 +121,23 @@ impl<S: Alter> SqlRecords<S> {
             alloc: _,
             conn,
             is_active: _,
-            failed: _,
+            failure: _,
             memory: _,
+            numbers: _,
         } = self;
         conn
     }
 }
 
 impl SqlRecords<FileStore<RamFile>> {
-    /// Records in memory, without a row. The only error is `Storage`, if the database cannot be made.
-    pub fn in_memory(alloc: Global) -> Result<SqlRecords<FileStore<RamFile>>, Fault>
+    /// Records in memory, without a row. It fails if memory runs out for the database.
+    pub fn in_memory(alloc: Global) -> Result<SqlRecords<FileStore<RamFile>>, Cause>
         ensures empty { IfOk result (λ records. rows_of (file_state records.conn).committed.trees ≡ map.empty) }
         ensures ready { IfOk result (λ records. IsUsable (file_state records.conn)) }
-        ensures failing { IfOk result (λ records. records.failed ≡ false) }
-        ensures faults { IfErr result (λ fault. fault ≡ Fault.Storage) }
+        ensures failing { IfOk result (λ records. records.failure ≡ None) }
     {
         let Ok(conn) = ram_disk::open(alloc) else {
-            return Err(Fault::Storage);
+            return Err(Cause::Memory);
         };
         SqlRecords::adopt(alloc, conn)
     }
@@ -153,20 +145,18 @@ impl SqlRecords<FileStore<RamFile>> {
 
 impl<S: Start> SqlRecords<FileStore<FileFrom<S>>> {
     /// The rows of a file and its log, which is beside it (SQLite's "Write-Ahead Logging"); a file that is not there is
-    /// made. `S` stands for what they hold. The only error is `Storage`: the file cannot be opened, or what `adopt`
-    /// refuses.
+    /// made. `S` stands for what they hold. It fails if the file cannot be opened, and as `adopt` does.
     pub fn open_from(
         rt: &HostRuntime,
         path: &str,
         start: S,
-    ) -> Result<SqlRecords<FileStore<FileFrom<S>>>, Fault>
+    ) -> Result<SqlRecords<FileStore<FileFrom<S>>>, Cause>
         ensures found { IfOk result (λ records. HasCleanDisk (file_state records.conn)
             → IsKeptIn (image_at S.Start) (rows_of (file_state records.conn).committed.trees)) }
         ensures usable { IfOk result (λ records. HasCleanDisk (file_state records.conn)
             → IsUsable (file_state records.conn)) }
-        ensures failing { IfOk result (λ records. records.failed ≡ false) }
-        ensures memory { path.now ≡ codes ":memory:" → result ≡ Err Fault.Storage }
-        ensures faults { IfErr result (λ fault. fault ≡ Fault.Storage) }
+        ensures failing { IfOk result (λ records. records.failure ≡ None) }
+        ensures memory { path.now ≡ codes ":memory:" → result ≡ Err Cause.Name }
     {
         let conn = open_files(rt, path, start)?;
         SqlRecords::adopt(rt.alloc(), conn)
@@ -178,28 +168,47 @@ fn open_files<S: Start>(
     rt: &HostRuntime,
     path: &str,
     start: S,
-) -> Result<Connection<FileStore<FileFrom<S>>>, Fault>
+) -> Result<Connection<FileStore<FileFrom<S>>>, Cause>
     ensures found { IfOk result (λ conn. HasCleanDisk (file_state conn)
         → FindsIn (image_at S.Start) (file_state conn)) }
     ensures opened { IfOk result (λ conn. HasCleanDisk (file_state conn) → IsOpened conn) }
-    ensures memory { path.now ≡ codes ":memory:" → result ≡ Err Fault.Storage }
-    ensures faults { IfErr result (λ fault. fault ≡ Fault.Storage) }
+    ensures memory { path.now ≡ codes ":memory:" → result ≡ Err Cause.Name }
 {
     // To SQLite these are no names of files.
     if path == ":memory:" || path.starts_with("file:") {
-        return Err(Fault::Storage);
+        return Err(Cause::Name);
     }
     let bytes = size_of(rt, path);
-    let Ok(files) = sqlite_std_file::open(rt, path, start) else {
-        return Err(Fault::Storage);
-    };
+    let files = sqlite_std_file::open(rt, path, start)?;
     let Ok(random) = RandomState::new(rt) else {
-        return Err(Fault::Storage);
+        return Err(Cause::Randomness);
     };
     let options = options_for(bytes, random.hash_one(&0u8));
     match Connection::open_files_with(rt.alloc(), files, options, false) {
         Ok(conn) => Ok(conn),
-        Err(_) => Err(Fault::Storage),
+        Err((error, _)) => Err(of_file(rt, path, Cause::of(error))),
+    }
+}
+
+/// The cause where a file could not be opened as a database: a file that begins otherwise than those of SQLite do is
+/// none of them, damaged or not.
+fn of_file(rt: &HostRuntime, path: &str, cause: Cause) -> Cause {
+    if cause == Cause::Damaged && !may_be_sqlites(rt, path) {
+        Cause::NotADatabase
+    } else {
+        cause
+    }
+}
+
+/// Whether a file begins as one of SQLite does ("Database File Format", 1.3), has no byte, or cannot be read.
+fn may_be_sqlites(rt: &HostRuntime, path: &str) -> bool {
+    let Ok(mut file) = fs::open(rt, path) else {
+        return true;
+    };
+    let mut first = [0; 16];
+    match file.read(&mut first) {
+        Ok(0) | Err(_) => true,
+        Ok(_) => first == *b"SQLite format 3\0",
     }
 }
 

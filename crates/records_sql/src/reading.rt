@@ -14,6 +14,7 @@ ghost use Rattle.records_sql.specs.Numbered.{AreNumbered, IsOver};
 ghost use Rattle.records_sql.specs.SqlTable.{read_row, row_from, entry_in, whole_entry};
 ghost use Rattle.records_sql.specs.SqlTable.{due_in, due_value, int_in, size_of};
 
+use crate::numbers::Numbers;
 use broker_types::{Bytes, Fault, TextBuf};
 use records::{Due, Entry, Kind, Row};
 use sqlite::Row as SqlRow;
@@ -201,23 +202,25 @@ fn is_over(last: Option<u64>, number: u64) -> bool
     }
 }
 
-/// Whether rows that are shown by number, kind and when they are due could be rows of this crate: each has a kind that
-/// there is, is due at a moment or never, and has a number above that of the row before.
-pub(crate) fn check_numbers(rows: &[SqlRow]) -> Result<(), Fault>
+/// How many rows of some kinds there are among those that are shown by number, kind and when they are due, if they
+/// could be rows of this crate: each has a kind that there is, is due at a moment or never, and has a number above that
+/// of the row before.
+pub(crate) fn check_numbers(rows: &[SqlRow]) -> Result<Numbers, Fault>
     ensures numbered { OnOk result (AreNumbered None rows.now) }
     ensures faults { IfErr result (λ fault. fault ≡ Fault.Storage) }
 {
     let mut last = None;
+    let mut numbers = Numbers::none();
     for row in rows {
         let number = number_at(row, 0)?;
-        kind_at(row, 1)?;
+        numbers.count(kind_at(row, 1)?);
         due_at(row, 2)?;
         if !is_over(last, number) {
             return Err(Fault::Storage);
         }
         last = Some(number);
     }
-    Ok(())
+    Ok(numbers)
 }
 
 /// A bound above all keys that begin with a prefix: the prefix with its last byte raised by one. It is compared by

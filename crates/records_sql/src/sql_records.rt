@@ -1,6 +1,7 @@
 //! Rows in a table of a database.
 
-ghost use Rattle.std.specs.Prelude.{◌≡◌, ◌≤◌, ◌||◌, true, false, IsTrue, OnOk, OnErr, IfOk, IfErr, option_map, take};
+ghost use Rattle.std.specs.Prelude.{◌≡◌, ◌≤◌, ◌||◌, true, false, IsTrue, OnOk, OnErr, IfOk, IfErr, Some, is_some};
+ghost use Rattle.std.specs.Prelude.{option_map, take};
 ghost use Rattle.std.specs.Option.{option_copied};
 ghost use Rattle.std.specs.FinMap as map;
 ghost use Rattle.sqlite.specs.Held.{state};
@@ -8,11 +9,15 @@ ghost use Rattle.sqlite.specs.State.{HasCleanDisk};
 ghost use Rattle.broker_types.specs.Fault.{IsMemoryOrStorage};
 ghost use Rattle.records.specs.DueRows.{AreDue};
 ghost use Rattle.records.specs.Transaction.{Rows, is_storage, rows_under, rows_from, rows_upto, rows_owned};
+ghost use Rattle.records_sql.specs.Causes.{KeepsCause, after};
 ghost use Rattle.records_sql.specs.Memory.{Agrees};
 ghost use Rattle.records_sql.specs.Props.{state_props, AgreesAt-prop};
 ghost use Rattle.records_sql.specs.SqlTable.{IsSoundAt, IsActive, AgreesAt, IsUsable, HasEnded, Stays};
 ghost use Rattle.records_sql.specs.SqlTable.{rows_of, mismatches};
 
+use crate::cause::Cause;
+use crate::failure::{Failure, LastCause};
+use crate::numbers::Numbers;
 use crate::reading::{bound_above, entries_of, entries_under, first_row, later, whole_entries};
 use crate::row_memory::RowMemory;
 use crate::statements;
@@ -30,9 +35,11 @@ pub struct SqlRecords<S: Alter> {
     /// Whether a transaction is open in which nothing has failed. After an error SQLite may have rolled it back, and a
     /// statement would then commit by itself, so none is given to the database any more.
     pub(crate) is_active: bool,
-    pub(crate) failed: bool,
+    /// Why the last call failed that answered `Storage` since the last begin that was `Ok`, if one did.
+    pub(crate) failure: Failure,
     /// What is known of the rows that a transaction would show, or the open one shows.
     pub(crate) memory: RowMemory,
+    pub(crate) numbers: Numbers,
     ghost sound: { IsSoundAt (state S.Store conn) } by { Prim.hlevel state_props },
     ghost active: { IsTrue is_active → IsActive (state S.Store conn) } by { Prim.hlevel state_props },
     ghost remembered: { AgreesAt memory (state S.Store conn) } by { AgreesAt-prop memory (state S.Store conn) },
@@ -41,9 +48,29 @@ pub struct SqlRecords<S: Alter> {
 impl<S: Alter> SqlRecords<S> {
     /// Whether a begin, a statement or a commit has answered `Storage` since the last begin that was `Ok`.
     pub fn failed(&self) -> bool
-        ensures { result ≡ self.now.failed }
+        ensures { result ≡ is_some self.now.failure }
     {
-        self.failed
+        self.failure.cause().is_some()
+    }
+
+    /// Why the last of them failed; there is a cause exactly if one has.
+    pub fn cause(&self) -> Option<Cause>
+        ensures { result ≡ self.now.failure }
+    {
+        self.failure.cause()
+    }
+
+    /// How many rows of some kinds the opening found.
+    pub fn numbers(&self) -> Numbers {
+        self.numbers
+    }
+
+    /// From now on each cause is told there as well, where it can be read once the records are gone.
+    pub fn tell_to(&mut self, place: &LastCause)
+        ensures conn { self.new.conn ≡ self.old.conn }
+        ensures failing { self.new.failure ≡ self.old.failure }
+    {
+        self.failure.tell_to(place);
     }
 
     pub(crate) fn get(&mut self, kind: Kind, key: &str) -> Result<Option<Row>, Fault>
@@ -52,21 +79,33 @@ impl<S: Alter> SqlRecords<S> {
         ensures same { HasCleanDisk (state S.Store self.new.conn) → OnOk result
             (rows_of (state S.Store self.new.conn).now.trees ≡ rows_of (state S.Store self.old.conn).now.trees) }
         ensures stays { Stays (state S.Store self.old.conn) (state S.Store self.new.conn) }
-        ensures failing { self.new.failed ≡ (self.old.failed || is_storage result) }
+        ensures failing { is_some self.new.failure ≡ (is_some self.old.failure || is_storage result) }
+        ensures cause { KeepsCause (is_storage result) self.old.failure self.new.failure }
         ensures faults { IfErr result IsMemoryOrStorage }
     {
         if !self.is_active {
-            self.failed = true;
+            self.failure.note(Cause::Closed);
             return Err(Fault::Storage);
         }
         if let Some(row) = self.memory.recalled(kind, key) {
             return Ok(row);
         }
-        let Ok(rows) = statements::get(&mut self.conn, kind, key) else {
-            return Err(lost(&mut self.is_active, &mut self.failed, &mut self.memory));
+        let rows = match statements::get(&mut self.conn, kind, key) {
+            Ok(rows) => rows,
+            Err(error) => return Err(lost(
+                &mut self.is_active,
+                &mut self.failure,
+                &mut self.memory,
+                Cause::of(error),
+            )),
         };
         let Ok(found) = first_row(&rows) else {
-            return Err(lost(&mut self.is_active, &mut self.failed, &mut self.memory));
+            return Err(lost(
+                &mut self.is_active,
+                &mut self.failure,
+                &mut self.memory,
+                Cause::Damaged,
+            ));
         };
         self.memory.keep(kind, key, found.as_ref());
         Ok(found)
@@ -77,11 +116,12 @@ impl<S: Alter> SqlRecords<S> {
             (rows_of (state S.Store self.new.conn).now.trees
             ≡ map.insert (rows_of (state S.Store self.old.conn).now.trees) (kind, key.now) row.now) }
         ensures stays { Stays (state S.Store self.old.conn) (state S.Store self.new.conn) }
-        ensures failing { self.new.failed ≡ (self.old.failed || is_storage result) }
+        ensures failing { is_some self.new.failure ≡ (is_some self.old.failure || is_storage result) }
+        ensures cause { KeepsCause (is_storage result) self.old.failure self.new.failure }
         ensures faults { IfErr result IsMemoryOrStorage }
     {
         if !self.is_active {
-            self.failed = true;
+            self.failure.note(Cause::Closed);
             return Err(Fault::Storage);
         }
         match statements::put(&mut self.conn, kind, key, row) {
@@ -89,7 +129,12 @@ impl<S: Alter> SqlRecords<S> {
                 self.memory.replace(kind, key, row);
                 Ok(())
             }
-            Err(_) => Err(lost(&mut self.is_active, &mut self.failed, &mut self.memory)),
+            Err(error) => Err(lost(
+                &mut self.is_active,
+                &mut self.failure,
+                &mut self.memory,
+                Cause::of(error),
+            )),
         }
     }
 
@@ -98,11 +143,12 @@ impl<S: Alter> SqlRecords<S> {
             (rows_of (state S.Store self.new.conn).now.trees
             ≡ map.remove (rows_of (state S.Store self.old.conn).now.trees) (kind, key.now)) }
         ensures stays { Stays (state S.Store self.old.conn) (state S.Store self.new.conn) }
-        ensures failing { self.new.failed ≡ (self.old.failed || is_storage result) }
+        ensures failing { is_some self.new.failure ≡ (is_some self.old.failure || is_storage result) }
+        ensures cause { KeepsCause (is_storage result) self.old.failure self.new.failure }
         ensures faults { IfErr result IsMemoryOrStorage }
     {
         if !self.is_active {
-            self.failed = true;
+            self.failure.note(Cause::Closed);
             return Err(Fault::Storage);
         }
         match statements::remove(&mut self.conn, kind, key) {
@@ -110,21 +156,27 @@ impl<S: Alter> SqlRecords<S> {
                 self.memory.forget(kind, key);
                 Ok(())
             }
-            Err(_) => Err(lost(&mut self.is_active, &mut self.failed, &mut self.memory)),
+            Err(error) => Err(lost(
+                &mut self.is_active,
+                &mut self.failure,
+                &mut self.memory,
+                Cause::of(error),
+            )),
         }
     }
 }
 
 /// Marks a transaction lost in which something failed: SQLite may have rolled it back, so nothing more is asked in it,
 /// and nothing is known of its rows. The fault is `Storage`.
-fn lost(is_active: &mut bool, failed: &mut bool, memory: &mut RowMemory) -> Fault
+fn lost(is_active: &mut bool, failure: &mut Failure, memory: &mut RowMemory, cause: Cause) -> Fault
     ensures inactive { is_active.new ≡ false }
-    ensures failing { failed.new ≡ true }
+    ensures failing { is_some failure.new ≡ true }
+    ensures cause { failure.new ≡ Some (after failure.old cause) }
     ensures forgets { (rows : Rows) → Agrees memory.new rows }
     ensures faults { result ≡ Fault.Storage }
 {
     *is_active = false;
-    *failed = true;
+    failure.note(cause);
     memory.clear();
     Fault::Storage
 }
@@ -146,21 +198,33 @@ impl<S: Alter> SqlRecords<S> {
         ensures same { HasCleanDisk (state S.Store self.new.conn) → OnOk result
             (rows_of (state S.Store self.new.conn).now.trees ≡ rows_of (state S.Store self.old.conn).now.trees) }
         ensures stays { Stays (state S.Store self.old.conn) (state S.Store self.new.conn) }
-        ensures failing { self.new.failed ≡ (self.old.failed || is_storage result) }
+        ensures failing { is_some self.new.failure ≡ (is_some self.old.failure || is_storage result) }
+        ensures cause { KeepsCause (is_storage result) self.old.failure self.new.failure }
         ensures faults { IfErr result IsMemoryOrStorage }
     {
         if !self.is_active {
-            self.failed = true;
+            self.failure.note(Cause::Closed);
             return Err(Fault::Storage);
         }
         let bound = bound_above(self.alloc, prefix)?;
-        let Ok(rows) = statements::under(&mut self.conn, kind, prefix, lent(&bound)) else {
-            return Err(lost(&mut self.is_active, &mut self.failed, &mut self.memory));
+        let rows = match statements::under(&mut self.conn, kind, prefix, lent(&bound)) {
+            Ok(rows) => rows,
+            Err(error) => return Err(lost(
+                &mut self.is_active,
+                &mut self.failure,
+                &mut self.memory,
+                Cause::of(error),
+            )),
         };
         match entries_under(self.alloc, kind, prefix, &rows) {
             Ok(list) => Ok(list),
             Err(Fault::Memory) => Err(Fault::Memory),
-            Err(_) => Err(lost(&mut self.is_active, &mut self.failed, &mut self.memory)),
+            Err(_) => Err(lost(
+                &mut self.is_active,
+                &mut self.failure,
+                &mut self.memory,
+                Cause::Damaged,
+            )),
         }
     }
 
@@ -176,23 +240,34 @@ impl<S: Alter> SqlRecords<S> {
         ensures same { HasCleanDisk (state S.Store self.new.conn) → OnOk result
             (rows_of (state S.Store self.new.conn).now.trees ≡ rows_of (state S.Store self.old.conn).now.trees) }
         ensures stays { Stays (state S.Store self.old.conn) (state S.Store self.new.conn) }
-        ensures failing { self.new.failed ≡ (self.old.failed || is_storage result) }
+        ensures failing { is_some self.new.failure ≡ (is_some self.old.failure || is_storage result) }
+        ensures cause { KeepsCause (is_storage result) self.old.failure self.new.failure }
         ensures faults { IfErr result IsMemoryOrStorage }
     {
         if !self.is_active {
-            self.failed = true;
+            self.failure.note(Cause::Closed);
             return Err(Fault::Storage);
         }
         let bound = bound_above(self.alloc, prefix)?;
         let first = later(prefix, from);
-        let Ok(rows) = statements::under_from(&mut self.conn, kind, first, lent(&bound), count)
-        else {
-            return Err(lost(&mut self.is_active, &mut self.failed, &mut self.memory));
+        let rows = match statements::under_from(&mut self.conn, kind, first, lent(&bound), count) {
+            Ok(rows) => rows,
+            Err(error) => return Err(lost(
+                &mut self.is_active,
+                &mut self.failure,
+                &mut self.memory,
+                Cause::of(error),
+            )),
         };
         match entries_under(self.alloc, kind, prefix, &rows) {
             Ok(list) => Ok(list),
             Err(Fault::Memory) => Err(Fault::Memory),
-            Err(_) => Err(lost(&mut self.is_active, &mut self.failed, &mut self.memory)),
+            Err(_) => Err(lost(
+                &mut self.is_active,
+                &mut self.failure,
+                &mut self.memory,
+                Cause::Damaged,
+            )),
         }
     }
 
@@ -207,20 +282,32 @@ impl<S: Alter> SqlRecords<S> {
         ensures same { HasCleanDisk (state S.Store self.new.conn) → OnOk result
             (rows_of (state S.Store self.new.conn).now.trees ≡ rows_of (state S.Store self.old.conn).now.trees) }
         ensures stays { Stays (state S.Store self.old.conn) (state S.Store self.new.conn) }
-        ensures failing { self.new.failed ≡ (self.old.failed || is_storage result) }
+        ensures failing { is_some self.new.failure ≡ (is_some self.old.failure || is_storage result) }
+        ensures cause { KeepsCause (is_storage result) self.old.failure self.new.failure }
         ensures faults { IfErr result IsMemoryOrStorage }
     {
         if !self.is_active {
-            self.failed = true;
+            self.failure.note(Cause::Closed);
             return Err(Fault::Storage);
         }
-        let Ok(rows) = statements::under_upto(&mut self.conn, kind, prefix, last) else {
-            return Err(lost(&mut self.is_active, &mut self.failed, &mut self.memory));
+        let rows = match statements::under_upto(&mut self.conn, kind, prefix, last) {
+            Ok(rows) => rows,
+            Err(error) => return Err(lost(
+                &mut self.is_active,
+                &mut self.failure,
+                &mut self.memory,
+                Cause::of(error),
+            )),
         };
         match entries_under(self.alloc, kind, prefix, &rows) {
             Ok(list) => Ok(list),
             Err(Fault::Memory) => Err(Fault::Memory),
-            Err(_) => Err(lost(&mut self.is_active, &mut self.failed, &mut self.memory)),
+            Err(_) => Err(lost(
+                &mut self.is_active,
+                &mut self.failure,
+                &mut self.memory,
+                Cause::Damaged,
+            )),
         }
     }
 
@@ -230,20 +317,32 @@ impl<S: Alter> SqlRecords<S> {
         ensures same { HasCleanDisk (state S.Store self.new.conn) → OnOk result
             (rows_of (state S.Store self.new.conn).now.trees ≡ rows_of (state S.Store self.old.conn).now.trees) }
         ensures stays { Stays (state S.Store self.old.conn) (state S.Store self.new.conn) }
-        ensures failing { self.new.failed ≡ (self.old.failed || is_storage result) }
+        ensures failing { is_some self.new.failure ≡ (is_some self.old.failure || is_storage result) }
+        ensures cause { KeepsCause (is_storage result) self.old.failure self.new.failure }
         ensures faults { IfErr result IsMemoryOrStorage }
     {
         if !self.is_active {
-            self.failed = true;
+            self.failure.note(Cause::Closed);
             return Err(Fault::Storage);
         }
-        let Ok(rows) = statements::by_owner(&mut self.conn, kind, owner) else {
-            return Err(lost(&mut self.is_active, &mut self.failed, &mut self.memory));
+        let rows = match statements::by_owner(&mut self.conn, kind, owner) {
+            Ok(rows) => rows,
+            Err(error) => return Err(lost(
+                &mut self.is_active,
+                &mut self.failure,
+                &mut self.memory,
+                Cause::of(error),
+            )),
         };
         match entries_of(self.alloc, kind, &rows) {
             Ok(list) => Ok(list),
             Err(Fault::Memory) => Err(Fault::Memory),
-            Err(_) => Err(lost(&mut self.is_active, &mut self.failed, &mut self.memory)),
+            Err(_) => Err(lost(
+                &mut self.is_active,
+                &mut self.failure,
+                &mut self.memory,
+                Cause::Damaged,
+            )),
         }
     }
 
@@ -253,18 +352,25 @@ impl<S: Alter> SqlRecords<S> {
         ensures same { HasCleanDisk (state S.Store self.new.conn) → OnOk result
             (rows_of (state S.Store self.new.conn).now.trees ≡ rows_of (state S.Store self.old.conn).now.trees) }
         ensures stays { Stays (state S.Store self.old.conn) (state S.Store self.new.conn) }
-        ensures failing { self.new.failed ≡ (self.old.failed || is_storage result) }
+        ensures failing { is_some self.new.failure ≡ (is_some self.old.failure || is_storage result) }
+        ensures cause { KeepsCause (is_storage result) self.old.failure self.new.failure }
         ensures faults { IfErr result IsMemoryOrStorage }
     {
         if !self.is_active {
-            self.failed = true;
+            self.failure.note(Cause::Closed);
             return Err(Fault::Storage);
         }
         if let Some(none) = self.memory.none_due(moment) {
             return Ok(none);
         }
-        let Ok(rows) = statements::due_until(&mut self.conn, moment) else {
-            return Err(lost(&mut self.is_active, &mut self.failed, &mut self.memory));
+        let rows = match statements::due_until(&mut self.conn, moment) {
+            Ok(rows) => rows,
+            Err(error) => return Err(lost(
+                &mut self.is_active,
+                &mut self.failure,
+                &mut self.memory,
+                Cause::of(error),
+            )),
         };
         match whole_entries(self.alloc, &rows) {
             Ok(list) => {
@@ -272,7 +378,12 @@ impl<S: Alter> SqlRecords<S> {
                 Ok(list)
             }
             Err(Fault::Memory) => Err(Fault::Memory),
-            Err(_) => Err(lost(&mut self.is_active, &mut self.failed, &mut self.memory)),
+            Err(_) => Err(lost(
+                &mut self.is_active,
+                &mut self.failure,
+                &mut self.memory,
+                Cause::Damaged,
+            )),
         }
     }
 }
@@ -284,15 +395,19 @@ impl<S: Alter> SqlRecords<S> {
         ensures usable { HasCleanDisk (state S.Store self.new.conn)
             → OnOk result (IsUsable (state S.Store self.new.conn)) }
         ensures stays { Stays (state S.Store self.old.conn) (state S.Store self.new.conn) }
-        ensures failing { self.new.failed ≡ (self.old.failed || is_storage result) }
+        ensures failing { is_some self.new.failure ≡ (is_some self.old.failure || is_storage result) }
+        ensures cause { KeepsCause (is_storage result) self.old.failure self.new.failure }
         ensures faults { IfErr result (λ fault. fault ≡ Fault.Storage) }
     {
         self.is_active = false;
         self.memory.clear();
-        let Ok(_) = statements::get(&mut self.conn, Kind::Clock, "") else {
-            self.failed = true;
-            return Err(Fault::Storage);
-        };
+        match statements::get(&mut self.conn, Kind::Clock, "") {
+            Ok(_) => {}
+            Err(error) => {
+                self.failure.note(Cause::of(error));
+                return Err(Fault::Storage);
+            }
+        }
         Ok(())
     }
 
@@ -303,18 +418,29 @@ impl<S: Alter> SqlRecords<S> {
             (rows_of (state S.Store self.new.conn).now.trees ≡ rows_of (state S.Store self.old.conn).committed.trees) }
         ensures stays { Stays (state S.Store self.old.conn) (state S.Store self.new.conn) }
         ensures ended { OnErr result (HasEnded (state S.Store self.new.conn)) }
-        ensures failing { self.new.failed ≡ is_storage result }
+        ensures failing { is_some self.new.failure ≡ is_storage result }
         ensures faults { IfErr result (λ fault. fault ≡ Fault.Storage) }
     {
         self.roll_back();
-        let Ok(_) = statements::begin(&mut self.conn) else {
-            return Err(lost(&mut self.is_active, &mut self.failed, &mut self.memory));
-        };
+        match statements::begin(&mut self.conn) {
+            Ok(_) => {}
+            Err(error) => return Err(lost(
+                &mut self.is_active,
+                &mut self.failure,
+                &mut self.memory,
+                Cause::of(error),
+            )),
+        }
         if self.conn.is_autocommit() {
-            return Err(lost(&mut self.is_active, &mut self.failed, &mut self.memory));
+            return Err(lost(
+                &mut self.is_active,
+                &mut self.failure,
+                &mut self.memory,
+                Cause::Refused,
+            ));
         }
         self.is_active = true;
-        self.failed = false;
+        self.failure.clear();
         Ok(())
     }
 
@@ -326,7 +452,7 @@ impl<S: Alter> SqlRecords<S> {
             → (state S.Store self.new.conn).now ≡ (state S.Store self.new.conn).committed }
         ensures inactive { self.new.is_active ≡ false }
         ensures stays { Stays (state S.Store self.old.conn) (state S.Store self.new.conn) }
-        ensures failing { self.new.failed ≡ self.old.failed }
+        ensures failing { self.new.failure ≡ self.old.failure }
     {
         self.is_active = false;
         if !self.conn.is_autocommit() {
@@ -345,18 +471,25 @@ impl<S: Alter> SqlRecords<S> {
         ensures ended { HasEnded (state S.Store self.new.conn) }
         ensures mismatches { mismatches (state S.Store self.old.conn) ≤ mismatches (state S.Store self.new.conn) }
         ensures closes { IsUsable (state S.Store self.new.conn) → IsUsable (state S.Store self.old.conn) }
-        ensures failing { self.new.failed ≡ (self.old.failed || is_storage result) }
+        ensures failing { is_some self.new.failure ≡ (is_some self.old.failure || is_storage result) }
+        ensures cause { KeepsCause (is_storage result) self.old.failure self.new.failure }
         ensures faults { IfErr result (λ fault. fault ≡ Fault.Storage) }
     {
         if !self.is_active {
             self.roll_back();
-            self.failed = true;
+            self.failure.note(Cause::Closed);
             return Err(Fault::Storage);
         }
         self.is_active = false;
-        let Ok(_) = statements::commit(&mut self.conn) else {
-            return Err(lost(&mut self.is_active, &mut self.failed, &mut self.memory));
-        };
+        match statements::commit(&mut self.conn) {
+            Ok(_) => {}
+            Err(error) => return Err(lost(
+                &mut self.is_active,
+                &mut self.failure,
+                &mut self.memory,
+                Cause::of(error),
+            )),
+        }
         Ok(())
     }
 }

@@ -1,10 +1,11 @@
 //! Transactions over rows in SQL.
 
-ghost use Rattle.std.specs.Prelude.{◌≡◌, ◌≤◌, ◌||◌, false, OnOk, OnErr, IfOk, IfErr};
+ghost use Rattle.std.specs.Prelude.{◌≡◌, ◌≤◌, ◌||◌, None, OnOk, OnErr, IfOk, IfErr, is_some};
 ghost use Rattle.std.specs.Borrow.{sem, RestsIfErr};
 ghost use Rattle.sqlite.specs.Held.{state};
 ghost use Rattle.sqlite.specs.State.{HasCleanDisk};
 ghost use Rattle.records.specs.Transaction.{is_storage};
+ghost use Rattle.records_sql.specs.Causes.{KeepsCause};
 ghost use Rattle.records_sql.specs.Refused.{IsRefused};
 ghost use Rattle.records_sql.specs.SqlTable.{IsUsable, HasEnded, Stays, rows_of, mismatches};
 ghost use Rattle.records_sql.specs.contracts.sql_records.SqlRecords.{the_row};
@@ -30,7 +31,7 @@ impl<S: Alter> SqlRecords<S> {
             → rows_of (state S.Store tx.records.now.conn).now.trees
             ≡ rows_of (state S.Store self.old.conn).committed.trees) }
         ensures stays { IfOk result (λ tx. Stays (state S.Store self.old.conn) (state S.Store tx.records.now.conn)) }
-        ensures failing { IfOk result (λ tx. tx.records.now.failed ≡ false) }
+        ensures failing { IfOk result (λ tx. tx.records.now.failure ≡ None) }
         ensures faults { IfErr result (λ fault. fault ≡ Fault.Storage) }
     {
         self.start()?;
@@ -54,7 +55,9 @@ impl<S: Alter> SqlTx<'_, S> {
             ≤ mismatches (state S.Store self.exit.0.now.conn) }
         ensures closes { IsUsable (state S.Store self.exit.0.now.conn)
             → IsUsable (state S.Store self.entry.records.now.conn) }
-        ensures failing { self.exit.0.now.failed ≡ (self.entry.records.now.failed || is_storage result) }
+        ensures failing { is_some self.exit.0.now.failure
+            ≡ (is_some self.entry.records.now.failure || is_storage result) }
+        ensures cause { KeepsCause (is_storage result) self.entry.records.now.failure self.exit.0.now.failure }
         ensures faults { IfErr result (λ fault. fault ≡ Fault.Storage) }
     {
         let SqlTx { records } = self;
@@ -66,7 +69,7 @@ impl<S: Alter> Drop for SqlTx<'_, S> {
     fn drop(self)
         ensures stays { Stays (state S.Store self.entry.records.now.conn) (state S.Store self.exit.0.now.conn) }
         ensures ended { HasEnded (state S.Store self.exit.0.now.conn) }
-        ensures failing { self.exit.0.now.failed ≡ self.entry.records.now.failed }
+        ensures failing { self.exit.0.now.failure ≡ self.entry.records.now.failure }
     {
         let SqlTx { records } = self;
         records.roll_back();
@@ -74,10 +77,12 @@ impl<S: Alter> Drop for SqlTx<'_, S> {
 }
 
 impl<'c, S: Alter> RecordsTx for SqlTx<'c, S> {
+    ghost use Rattle.std.specs.Prelude.{is_some};
     ghost use Rattle.sqlite.specs.Held.{state};
     ghost use Rattle.records_sql.specs.SqlTable.{seen_of};
 
-    ghost seen = { λ t. seen_of (state S.Store t.records.now.conn) t.records.ghost_name t.records.now.failed };
+    ghost seen = { λ t.
+        seen_of (state S.Store t.records.now.conn) t.records.ghost_name (is_some t.records.now.failure) };
 
     fn get(&mut self, kind: Kind, key: &str) -> Result<Option<Row>, Fault> {
         self.records.get(kind, key)
@@ -118,6 +123,6 @@ impl<'c, S: Alter> RecordsTx for SqlTx<'c, S> {
     }
 
     fn failed(&self) -> bool {
-        self.records.failed
+        self.records.failed()
     }
 }

@@ -144,7 +144,7 @@ fn open<D: Disk + Drop>(
         return Err(Fault::Storage);
     }
     match Connection::open_files(alloc, files, writes.options()) {
-        Ok(conn) => SqlRecords::adopt(alloc, conn),
+        Ok(conn) => Ok(SqlRecords::adopt(alloc, conn)?),
         Err(_) => Err(Fault::Storage),
     }
 }

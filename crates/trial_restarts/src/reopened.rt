@@ -4,7 +4,7 @@ use crate::disk::pair::Pair;
 use crate::opening::{OverRecords, Until, Writes, over_files};
 use crate::running::Steps;
 use crate::script::script_of;
-use broker::Store;
+use broker::{Noticed, Store};
 use broker_sql::prepare;
 use broker_types::{Answer, Ask, Fault, Moment, Words};
 use endpoints::{Sink, Source};
@@ -69,6 +69,10 @@ impl Store for Reopened {
 
     fn failed(&self) -> bool {
         self.has_failed
+    }
+
+    fn noticed(&self) -> Noticed {
+        Noticed::nothing()
     }
 }
 

@@ -1,4 +1,4 @@
-use Rattle.records.specs.Words.{sym, refl, ◌∙◌, on_ok_weaker}
+use Rattle.records.specs.Words.{sym, refl, ◌∙◌}
 use Rattle.sqlite.specs.Held.{state}
 use Rattle.sqlite_rules.proofs.ViewLemmas.{on_ok_both}
 use Rattle.records_sql.proofs.AdoptLemmas.{kept_as_found, made_new}
@@ -17,5 +17,5 @@ returns-then-is_blank-clause-found g c clean settled =
     let old = state g.S.Store c.args.conn.now in
     let new = state g.S.Store c.make_table.new.conn in
     let has = sym c.schema.ensures.value ∙ c.if-is_blank.ensures refl in
-    on_ok_weaker c.make_table.result (λ made. made_new old new settled has made.0 made.1)
-    (c.make_table.ensures.made clean has)
+    let made = c.in_ok-make_table.ensures.made clean has in
+    made_new old new settled has made.0 made.1

@@ -13,7 +13,7 @@ seen log db is_log history = (replay (cond is_log log db) history).seen
 
 pub returns-in-Ok-open_files_with-clause-found : goal.returns-in-Ok-open_files_with-clause-found
 returns-in-Ok-open_files_with-clause-found g c clean =
-    let (log, db) = c.in-Ok.ensures.fresh in
+    let (log, db) = c.in_ok-files.ensures.fresh in
     let found = c.in-Ok-open_files_with.ensures.found clean in
     let same = ap₂ image (ap₂ (seen g.S.Start.log g.S.Start.db) log.0 log.1)
     (ap₂ (seen g.S.Start.log g.S.Start.db) db.0 db.1) in

@@ -7,7 +7,7 @@ pub invariant_of-result : goal.invariant_of-result
 invariant_of-result g c = record {
   sound = λ usable.
       let clean = (usable_clean (state g.S.Store c.find_table.new.conn) usable).0 in
-      let it = c.in_ok-find_table.ensures.found clean (c.if-not-is_autocommit.ensures.settled refl) in
+      let it = c.in_ok-numbers.ensures.found clean (c.if-not-is_autocommit.ensures.settled refl) in
       (it.now, it.committed);
   active = λ t. absurd (let e = t in cc);
   remembered = λ _. c.new.ensures.agrees _;
@@ -15,9 +15,9 @@ invariant_of-result g c = record {
 
 pub returns-clause-found : goal.returns-clause-found
 returns-clause-found g c clean =
-    (c.in_ok-find_table.ensures.found clean (c.if-not-is_autocommit.ensures.settled refl)).has
+    (c.in_ok-numbers.ensures.found clean (c.if-not-is_autocommit.ensures.settled refl)).has
 
 pub returns-clause-usable : goal.returns-clause-usable
 returns-clause-usable g c clean =
     clean_usable (state g.S.Store c.find_table.new.conn) clean
-    (c.in_ok-find_table.ensures.found clean (c.if-not-is_autocommit.ensures.settled refl)).is_open
+    (c.in_ok-numbers.ensures.found clean (c.if-not-is_autocommit.ensures.settled refl)).is_open

@@ -9,9 +9,9 @@ pub returns-in-Some-clause-entries : goal.returns-in-Some-clause-entries
 returns-in-Some-clause-entries g c clean =
     c.in-Some.ensures (rows_of (state g.S.Store c.args.self.now.conn).now.trees) (c.args.self.now.remembered clean)
 
-pub invariant_of-self-in_default-due_until : goal.invariant_of-self-in_default-due_until
-invariant_of-self-in_default-due_until g c = record {
-  sound = c.in_default-due_until.ensures.stays.sound c.args.self.now.sound;
+pub invariant_of-self-in-Err : goal.invariant_of-self-in-Err
+invariant_of-self-in-Err g c = record {
+  sound = c.in-Err.ensures.stays.sound c.args.self.now.sound;
   active = λ t. absurd (both_modes _ t c.lost.ensures.inactive);
   remembered = λ _. c.lost.ensures.forgets _;
 }
@@ -59,13 +59,13 @@ pub returns-in-Err-Memory-clause-stays : goal.returns-in-Err-Memory-clause-stays
 returns-in-Err-Memory-clause-stays g c =
     (c.in-Ok.ensures.reads c.args.self.now.sound (c.args.self.now.active c.if-not-self.false)).stays
 
-pub invariant_of-self-in-Err : goal.invariant_of-self-in-Err
-invariant_of-self-in-Err g c =
+pub invariant_of-self-in-Err-whole_entries : goal.invariant_of-self-in-Err-whole_entries
+invariant_of-self-in-Err-whole_entries g c =
     let it = c.in-Ok.ensures.reads c.args.self.now.sound (c.args.self.now.active c.if-not-self.false) in
     record {
       sound = it.stays.sound c.args.self.now.sound;
-      active = λ t. absurd (both_modes _ t c.lost-in-Err.ensures.inactive);
-      remembered = λ _. c.lost-in-Err.ensures.forgets _;
+      active = λ t. absurd (both_modes _ t c.lost-in-Err-whole_entries.ensures.inactive);
+      remembered = λ _. c.lost-in-Err-whole_entries.ensures.forgets _;
     }
 
 pub returns-clause-stays : goal.returns-clause-stays

@@ -4,9 +4,9 @@ use Rattle.records_sql.specs.Words.{Row as Fields, entry_in}
 use Rattle.records_sql.proofs.EndLemmas.{both_modes}
 use Rattle.records_sql.proofs.sql_records.SqlRecords.under_upto.Goals as goal
 
-pub invariant_of-self-in_default : goal.invariant_of-self-in_default
-invariant_of-self-in_default g c = record {
-  sound = c.in_default.ensures.stays.sound c.args.self.now.sound;
+pub invariant_of-self-in-Err : goal.invariant_of-self-in-Err
+invariant_of-self-in-Err g c = record {
+  sound = c.in-Err.ensures.stays.sound c.args.self.now.sound;
   active = λ t. absurd (both_modes _ t c.lost.ensures.inactive);
   remembered = λ _. c.lost.ensures.forgets _;
 }
@@ -48,13 +48,13 @@ pub returns-in-Err-Memory-clause-stays : goal.returns-in-Err-Memory-clause-stays
 returns-in-Err-Memory-clause-stays g c =
     (c.in-Ok.ensures.reads c.args.self.now.sound (c.args.self.now.active c.if-not-self.false)).stays
 
-pub invariant_of-self-in-Err : goal.invariant_of-self-in-Err
-invariant_of-self-in-Err g c =
+pub invariant_of-self-in-Err-entries_under : goal.invariant_of-self-in-Err-entries_under
+invariant_of-self-in-Err-entries_under g c =
     let it = c.in-Ok.ensures.reads c.args.self.now.sound (c.args.self.now.active c.if-not-self.false) in
     record {
       sound = it.stays.sound c.args.self.now.sound;
-      active = λ t. absurd (both_modes _ t c.lost-in-Err.ensures.inactive);
-      remembered = λ _. c.lost-in-Err.ensures.forgets _;
+      active = λ t. absurd (both_modes _ t c.lost-in-Err-entries_under.ensures.inactive);
+      remembered = λ _. c.lost-in-Err-entries_under.ensures.forgets _;
     }
 
 pub returns-clause-stays : goal.returns-clause-stays
