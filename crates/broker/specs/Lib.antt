@@ -1,5 +1,6 @@
 pub mod Askers
 pub mod Meant
+pub mod Noticing
 pub mod Safely
 pub mod Stages
 pub mod StoreRows

@@ -5,6 +5,7 @@ mod opening;
 mod preparing;
 mod serve_error;
 mod starting;
+mod telling;
 
 pub use preparing::prepare_checked;
 pub use serve_error::ServeError;

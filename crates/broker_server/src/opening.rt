@@ -4,10 +4,8 @@ ghost use Rattle.std.specs.Prelude.{◌≡◌, IfOk, option_map, string_bytes};
 ghost use Rattle.broker_server.specs.Opening.{megabytes, opening_text};
 
 use broker_types::Fault;
-use server::Log;
+use server::{DatabaseFiles, Log, tell};
 use std::alloc::{AllocError, Global};
-use std::fs;
-use std::io::Eprint;
 use std::rc::Rc;
 use std::rt::HostRuntime;
 
@@ -27,26 +25,15 @@ pub(crate) fn tell_opening(
     let Some(line) = opening_line(rt.alloc(), path, bytes_of(rt, path)?)? else {
         return Ok(());
     };
-    match log {
-        Some(log) => log.tell(line),
-        None => {
-            let _ = eprintln!(rt; "{line}");
-        }
-    }
+    tell(rt, log, line);
     Ok(())
 }
 
-/// The bytes of a database and of its log, which is beside it; a file that is not there has none.
+/// The bytes of a database and of its log; a file that is not there has none.
 fn bytes_of(rt: &HostRuntime, path: &str) -> Result<u64, AllocError> {
-    let log = format!(in rt.alloc(); "{path}-wal")?;
-    Ok(length(rt, path).saturating_add(length(rt, &log)))
-}
-
-fn length(rt: &HostRuntime, path: &str) -> u64 {
-    match fs::metadata(rt, path) {
-        Ok(found) => found.len(),
-        Err(_) => 0,
-    }
+    let files = DatabaseFiles::at(rt.alloc(), path)?;
+    let database = files.database_bytes(rt).unwrap_or(0);
+    Ok(database.saturating_add(files.log_bytes(rt).unwrap_or(0)))
 }
 
 /// The line that says that a database of so many bytes is opened, without its end; none if it is not large.

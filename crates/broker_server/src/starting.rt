@@ -15,18 +15,24 @@ ghost use Rattle.broker_server.specs.Starting.{IfFaulted, IfRefused};
 use crate::opening::tell_opening;
 use crate::preparing::prepare_checked;
 use crate::serve_error::ServeError;
+use crate::telling::tell_why;
 use broker_sql::{SqlStore, prepare};
-use broker_types::{Moment, TokenText, Words};
+use broker_types::{Fault, Moment, TokenText, Words};
 use hub::{Clock, ConnectionFault, WordSource};
-use records_sql::SqlRecords;
-use server::{Log, Settings, SystemClock, begin_log, seeded, serve_store};
+use records_sql::{Cause, LastCause, Numbers, SqlRecords};
+use server::{
+    Log, Settings, SystemClock, Watched, begin_log, begin_status, seeded, serve_store, shared, tell,
+};
 use sqlite::{Alter, Unknown};
-use std::alloc::Global;
+use std::alloc::{AllocError, Global};
 use std::fs::OpenOptions;
 use std::io;
 use std::os::unix::fs::OpenOptionsExt;
 use std::rc::Rc;
 use std::rt::HostRuntime;
+
+/// What is said in place of the name of a file.
+const MEMORY: &str = "the database in memory";
 
 /// Starts a broker in memory, prints its root token on standard output, and serves it. It fails before it serves if
 /// memory runs out, the words of the root token and its accessor are equal, the system has no randomness, the address
@@ -35,9 +41,29 @@ use std::rt::HostRuntime;
 pub fn serve_in_memory(rt: &HostRuntime, settings: &Settings<'_>) -> Result<(), ConnectionFault>
     ensures { IfErr result IsFaultOfNew }
 {
-    let log = begin_log(rt, settings)?;
-    let records = SqlRecords::in_memory(rt.alloc())?;
-    match serve_records(rt, records, settings, log) {
+    let log = begin(rt, MEMORY, settings)?;
+    let served = serve_new(rt, settings, &log);
+    if let Err(fault) = &served {
+        // In memory nothing else can fail.
+        tell_why(rt, &log, MEMORY, *fault, Some(Cause::Memory));
+    }
+    served
+}
+
+/// Serves a broker in memory.
+fn serve_new(
+    rt: &HostRuntime,
+    settings: &Settings<'_>,
+    log: &Option<Rc<Log>>,
+) -> Result<(), ConnectionFault>
+    ensures { IfErr result IsFaultOfNew }
+{
+    let watched = begin_status(rt, settings, log, None)?;
+    let its_log = shared(log)?;
+    let Ok(records) = SqlRecords::in_memory(rt.alloc()) else {
+        return Err(ConnectionFault::Broker(Fault::Storage));
+    };
+    match serve_records(rt, records, settings, its_log, watched) {
         Ok(()) => Ok(()),
         Err(ServeError::Faulted(fault)) => Err(fault),
         // A database without a row has none in trouble.
@@ -53,12 +79,66 @@ pub fn serve_in_memory(rt: &HostRuntime, settings: &Settings<'_>) -> Result<(), 
 /// checked, it fails with `Unsound` before it listens if the file has a broker that is not sound, and changes no row
 /// of it then.
 pub fn serve_file(rt: &HostRuntime, path: &str, settings: &Settings<'_>) -> Result<(), ServeError> {
-    let log = begin_log(rt, settings)?;
+    let log = begin(rt, path, settings)?;
+    let last = LastCause::new(rt.alloc());
+    let served = match &last {
+        Ok(last) => open_and_serve(rt, path, settings, &log, last),
+        Err(AllocError) => Err(ServeError::from(Fault::Memory)),
+    };
+    if let Err(ServeError::Faulted(fault)) = &served {
+        let cause = match &last {
+            Ok(last) => last.get(),
+            Err(AllocError) => None,
+        };
+        tell_why(rt, &log, path, *fault, cause);
+    }
+    served
+}
+
+/// The log, if there is to be one. The only error is running out of memory, which is told.
+fn begin(rt: &HostRuntime, name: &str, settings: &Settings<'_>) -> Result<Option<Rc<Log>>, Fault>
+    ensures { IfErr result (λ fault. fault ≡ Fault.Memory) }
+{
+    let log = begin_log(rt, settings);
+    if let Err(fault) = &log {
+        tell_why(rt, &None, name, ConnectionFault::Broker(*fault), None);
+    }
+    log
+}
+
+/// Opens the file, and serves its broker.
+fn open_and_serve(
+    rt: &HostRuntime,
+    path: &str,
+    settings: &Settings<'_>,
+    log: &Option<Rc<Log>>,
+    last: &LastCause,
+) -> Result<(), ServeError> {
+    let watched = begin_status(rt, settings, log, Some(path))?;
     // If it is there, or cannot be made, opening it tells.
     let _ = make_private(rt, path);
-    tell_opening(rt, path, &log)?;
-    let records = SqlRecords::open_from(rt, path, Unknown)?;
-    serve_records(rt, records, settings, log)
+    tell_opening(rt, path, log)?;
+    match SqlRecords::open_from(rt, path, Unknown) {
+        Ok(records) => serve_opened(rt, records, settings, log, last, watched),
+        Err(cause) => {
+            last.tell(cause);
+            Err(ServeError::from(Fault::Storage))
+        }
+    }
+}
+
+/// Serves the broker that the records have, or starts one there; the cause of a failure is told.
+fn serve_opened<S: Alter + Drop>(
+    rt: &HostRuntime,
+    mut records: SqlRecords<S>,
+    settings: &Settings<'_>,
+    log: &Option<Rc<Log>>,
+    last: &LastCause,
+    watched: Option<Watched>,
+) -> Result<(), ServeError> {
+    records.tell_to(last);
+    let its_log = shared(log)?;
+    serve_records(rt, records, settings, its_log, watched)
 }
 
 /// Makes an empty file that its owner alone may read and write, if there is none.
@@ -79,6 +159,7 @@ fn serve_records<S: Alter + Drop>(
     records: SqlRecords<S>,
     settings: &Settings<'_>,
     log: Option<Rc<Log>>,
+    watched: Option<Watched>,
 ) -> Result<(), ServeError>
     ensures faults { ReturnsWhatWasWritten S.Store
         → IsTrue settings.now.checks ⊎ ((kept_records S.Store records).rows ≡ map.empty)
@@ -90,12 +171,21 @@ fn serve_records<S: Alter + Drop>(
 {
     let mut clock = SystemClock::new(rt);
     let Ok(mut words) = seeded(rt) else {
+        tell(rt, &log, Cause::Randomness);
         return Err(ServeError::Faulted(ConnectionFault::Read));
     };
     let moment = clock.now();
+    let watched = told(watched, records.numbers());
     let (store, root) = made_ready(rt.alloc(), records, settings.checks, moment, &words.words())?;
-    serve_store(rt, store, root, settings, log, words)?;
+    serve_store(rt, store, root, settings, log, words, watched)?;
     Ok(())
+}
+
+/// What operators are told, with the numbers of rows that were found.
+fn told(watched: Option<Watched>, numbers: Numbers) -> Option<Watched> {
+    let mut watched = watched?;
+    watched.found(numbers.tokens, numbers.secrets, numbers.responses);
+    Some(watched)
 }
 
 /// A store that is made ready. Its records are checked first, if they are to be.

@@ -1,5 +1,6 @@
 -- Lemmas on flags of the command line.
-use Rattle.std.proofs.Common.{◌≡◌, Option, Some, None, Bool, true, false, codes, refl}
+use Rattle.std.proofs.Common.{◌≡◌, ◌∙◌, Bor, List, ℕ, Option, Some, None, Bool, ap, true, false, codes, is_some}
+use Rattle.std.proofs.Common.{option_map, refl}
 use Rattle.clap.specs.Words.{Text}
 use Rattle.brokerd.specs.CommandLine.{IsFlag, IsNotSet, IsSet}
 
@@ -17,3 +18,12 @@ pub is_flag : (o : Option Text) (flag : Bool) → (o ≡ None → flag ≡ false
     → (o ≡ Some (codes "true") → flag ≡ true) → IsFlag flag o
 is_flag o true none other value = set o true none other refl
 is_flag o false none other value = not_set o false value refl
+
+-- whether a value is given is whether its text is
+mapped : (o : Option (Bor (List ℕ))) → is_some o ≡ is_some (option_map (λ s. s.now) o)
+mapped None = refl
+mapped (Some s) = refl
+
+pub given_of : (o : Option (Bor (List ℕ))) (text : Option Text) → option_map (λ s. s.now) o ≡ text
+    → is_some o ≡ is_some text
+given_of o text e = mapped o ∙ ap (λ (t : Option Text). is_some t) e

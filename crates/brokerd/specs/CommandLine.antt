@@ -1,10 +1,12 @@
 -- The command line of the program, as `clap` sees it (this project's).
-use Rattle.std.specs.Prelude.{◌≡◌, ◌≢◌, ◌⊎◌, ◌<◌, ◌^◌, codes, true, false, Bool, option_map, Option, Some, None, List}
-use Rattle.std.specs.Prelude.{ℕ, ⊤, pos}
+use Rattle.std.specs.Prelude.{◌≡◌, ◌≢◌, ◌⊎◌, ◌<◌, ◌^◌, ◌||◌, codes, true, false, Bool, option_map, Option, Some, None}
+use Rattle.std.specs.Prelude.{List, ℕ, ⊤, is_some, pos}
 use Rattle.std.specs.Str.Parse.{IsNumeral, digits_value, without_leading_plus}
 use Rattle.clap.specs.Words.{App, Row, Rule, Text, first_of, new_app, new_rule, one_of, with_rule, with_subcommand}
 use Rattle.clap.specs.declared.builder.action.ArgAction.TheVariants.{SetTrue}
 use Rattle.clap.specs.declared.builder.value_parser.ValueParser.TheVariants.{Signed}
+use Rattle.server.specs.declared.settings.LogFormat.{LogFormat}
+use Rattle.server.specs.declared.settings.LogFormat.TheVariants.{Text as AsText, Json}
 use Rattle.brokerd.specs.declared.command.Command.{Command}
 use Rattle.brokerd.specs.declared.command.Command.TheVariants.{Check, Replay, Serve}
 
@@ -53,6 +55,18 @@ stop_on_input_rule =
 abbrev pub log_rule : Rule
 log_rule = record (new_rule (codes "log")) { long = Some (codes "log"); action = Some SetTrue }
 
+-- `--log-format FORMAT`
+abbrev pub log_format_rule : Rule
+log_format_rule = record (new_rule (codes "log-format")) { long = Some (codes "log-format"); value_names = 1 }
+
+-- `--log-file FILE`
+abbrev pub log_file_rule : Rule
+log_file_rule = record (new_rule (codes "log-file")) { long = Some (codes "log-file"); value_names = 1 }
+
+-- `--status ADDR`
+abbrev pub status_rule : Rule
+status_rule = record (new_rule (codes "status")) { long = Some (codes "status"); value_names = 1 }
+
 -- `--check`
 abbrev pub check_rule : Rule
 check_rule = record (new_rule (codes "check")) { long = Some (codes "check"); action = Some SetTrue }
@@ -66,10 +80,13 @@ abbrev pub check_app : App
 check_app = with_rule (new_app (codes "check")) checked_rule
 
 -- `brokerd serve --listen ADDR [--db FILE [--check]] [--connections N] [--at-once M] [--until-stopped]
--- [--stop-on-input] [--log]`
+-- [--stop-on-input] [--log] [--log-format FORMAT] [--log-file FILE] [--status ADDR]`
 abbrev pub serve_app : App
 serve_app =
     with_rule
+    (with_rule
+    (with_rule
+    (with_rule
     (with_rule
     (with_rule
     (with_rule
@@ -79,6 +96,9 @@ serve_app =
     until_stopped_rule)
     stop_on_input_rule)
     log_rule)
+    log_format_rule)
+    log_file_rule)
+    status_rule)
     check_rule
 
 -- `brokerd`, which has a version and requires a subcommand
@@ -121,9 +141,9 @@ IsCount rows None =
 IsCount rows (Some count) =
     IsNotSet (one_of (codes "until-stopped") rows) × IsNumberOr 1000 (one_of (codes "connections") rows) count
 
--- how many connections to serve at once: the number, or 256
+-- how many connections to serve at once: the number, or 1,024
 abbrev pub IsPlaces : List Row → ℕ → Type 0
-IsPlaces rows places = IsNumberOr 256 (one_of (codes "at-once") rows) places
+IsPlaces rows places = IsNumberOr 1024 (one_of (codes "at-once") rows) places
 
 -- the text for that is no number, which `clap` does not let through
 abbrev pub LacksPlaces : List Row → Type 0
@@ -136,9 +156,30 @@ LacksCount rows =
     (text : Text) × (one_of (codes "connections") rows ≡ Some text)
     × (IsSet (one_of (codes "until-stopped") rows) ⊎ (¬ IsNumber text))
 
--- the values have no address, which `clap` does not let through, or no count, or no places
+-- whether requests are logged: that is asked for, or a format or a file of the log is
+abbrev pub IsLogged : List Row → Bool → Type 0
+IsLogged rows logs =
+    (flag : Bool) × IsFlag flag (one_of (codes "log") rows)
+    × (logs ≡ (flag || is_some (first_of (codes "log-format") rows) || is_some (first_of (codes "log-file") rows)))
+
+-- how requests are written in the log; as text if that is not said
+abbrev pub IsFormatOf : Option Text → LogFormat → Type 0
+IsFormatOf None format = format ≡ AsText
+IsFormatOf (Some word) AsText = word ≡ codes "text"
+IsFormatOf (Some word) Json = word ≡ codes "json"
+
+abbrev pub IsFormat : List Row → LogFormat → Type 0
+IsFormat rows format = IsFormatOf (first_of (codes "log-format") rows) format
+
+-- another format is asked for
+abbrev pub LacksFormat : List Row → Type 0
+LacksFormat rows =
+    (word : Text) × (first_of (codes "log-format") rows ≡ Some word) × (word ≢ codes "text") × (word ≢ codes "json")
+
+-- the values have no address, which `clap` does not let through, or no count, or no places, or no format of the log
 abbrev pub LacksValues : List Row → Type 0
-LacksValues rows = (first_of (codes "listen") rows ≡ None) ⊎ (LacksCount rows ⊎ LacksPlaces rows)
+LacksValues rows =
+    (first_of (codes "listen") rows ≡ None) ⊎ (LacksCount rows ⊎ (LacksPlaces rows ⊎ LacksFormat rows))
 
 -- the command that a subcommand's name and the values of its matches mean; none if it is the name of another
 abbrev pub IsMeant : Text → List Row → Option Command → Type 0
@@ -153,9 +194,13 @@ IsMeant name rows (Some (Serve db settings)) =
     × (option_map (λ path. path.now) db ≡ first_of (codes "db") rows)
     × (first_of (codes "listen") rows ≡ Some settings.address.now)
     × IsCount rows settings.connections
+    × (settings.is_number_given ≡ is_some (first_of (codes "connections") rows))
     × IsPlaces rows settings.at_once
     × IsFlag settings.stops_on_input (one_of (codes "stop-on-input") rows)
-    × IsFlag settings.logs (one_of (codes "log") rows)
+    × IsLogged rows settings.logs
+    × IsFormat rows settings.log_format
+    × (option_map (λ path. path.now) settings.log_file ≡ first_of (codes "log-file") rows)
+    × (option_map (λ address. address.now) settings.status ≡ first_of (codes "status") rows)
     × IsFlag settings.checks (one_of (codes "check") rows)
 
 -- the command that the words of a line name, by the subcommand that they enter

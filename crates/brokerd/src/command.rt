@@ -1,23 +1,25 @@
 //! The command line of the broker: its subcommands and options, and what they mean.
 
-ghost use Rattle.std.specs.Prelude.{◌≡◌, IfOk, IfErr, IfSome, None, codes, false, map, string_bytes, true};
+ghost use Rattle.std.specs.Prelude.{◌≡◌, ◌||◌, IfOk, IfErr, IfSome, None, codes, false, map, string_bytes, true};
 ghost use Rattle.clap.specs.Words.{app_of, found_of, kind_of, rows_of, rule_of, subcommand_of, takes};
 ghost use Rattle.brokerd.specs.CommandLine.{program_app, check_app, replay_app, serve_app, listen_rule};
 ghost use Rattle.brokerd.specs.CommandLine.{at_once_rule, check_rule, checked_rule, connections_rule, db_rule};
-ghost use Rattle.brokerd.specs.CommandLine.{log_rule, stop_on_input_rule, until_stopped_rule};
-ghost use Rattle.brokerd.specs.CommandLine.{IsMeant, IsCommandOf, IsCount, IsPlaces, LacksCount, LacksPlaces};
+ghost use Rattle.brokerd.specs.CommandLine.{log_file_rule, log_format_rule, log_rule, status_rule, stop_on_input_rule};
+ghost use Rattle.brokerd.specs.CommandLine.{until_stopped_rule};
+ghost use Rattle.brokerd.specs.CommandLine.{IsMeant, IsCommandOf, IsCount, IsFormat, IsLogged, IsPlaces};
+ghost use Rattle.brokerd.specs.CommandLine.{LacksCount, LacksFormat, LacksPlaces};
 
 use clap::error::{Error, ErrorKind};
 use clap::{Arg, ArgAction, ArgMatches};
 use endpoints::VERSION;
-use server::Settings;
+use server::{LogFormat, Settings};
 use std::alloc::{AllocError, Global};
 
 /// How many connections are served if the command line does not say.
 const CONNECTIONS: u32 = 1_000;
 
 /// How many connections are served at once if the command line does not say.
-const AT_ONCE: u32 = 256;
+const AT_ONCE: u32 = 1_024;
 
 /// What the program is asked to do.
 #[derive(Clone, Copy, Debug, PartialEq, Eq)]
@@ -35,9 +37,9 @@ pub(crate) enum Command<'a> {
     },
 }
 
-/// The command that the words name. The first is the name of the program. None if they name another
-/// subcommand, or ask both for a number of connections and for no end. The error is one of `clap`: a wrong command
-/// line, help or the version that was asked for, or running out of memory.
+/// The command that the words name. The first is the name of the program. None if they name another subcommand, ask
+/// both for a number of connections and for no end, or for a log in another format. The error is one of `clap`: a wrong
+/// command line, help or the version that was asked for, or running out of memory.
 pub(crate) fn command_of<'a>(
     alloc: Global,
     words: &'a [String],
@@ -55,7 +57,7 @@ pub(crate) fn command_of<'a>(
 }
 
 /// The command that a subcommand's name and what it was given mean; none if it is the name of another, or if it is to
-/// serve both so many connections and without an end.
+/// serve both so many connections and without an end, or to log in a format that there is not.
 fn meant<'a>(name: &str, found: &ArgMatches<'a>) -> Option<Command<'a>>
     ensures { IsMeant name.now (rows_of (found_of found.now)) result }
 {
@@ -77,12 +79,49 @@ fn meant<'a>(name: &str, found: &ArgMatches<'a>) -> Option<Command<'a>>
         settings: Settings {
             address,
             connections: count(found)?,
+            is_number_given: found.get_str("connections").is_some(),
             at_once: places(found)?,
             stops_on_input: found.get_flag("stop-on-input"),
-            logs: found.get_flag("log"),
+            logs: is_logged(found),
+            log_format: log_form(found)?,
+            log_file: found.get_str("log-file"),
+            status: found.get_str("status"),
             checks: found.get_flag("check"),
         },
     })
+}
+
+/// Whether requests are to be logged: a format or a file of the log asks for it, too.
+fn is_logged(found: &ArgMatches<'_>) -> bool
+    ensures { IsLogged (rows_of (found_of found.now)) result }
+{
+    let flag = found.get_flag("log");
+    let has_format = found.get_str("log-format").is_some();
+    let has_file = found.get_str("log-file").is_some();
+    is_any(flag, has_format, has_file)
+}
+
+fn is_any(flag: bool, has_format: bool, has_file: bool) -> bool
+    ensures { result ≡ (flag || has_format || has_file) }
+{
+    flag || has_format || has_file
+}
+
+/// How requests are to be written in the log. None if there is no such format.
+fn log_form(found: &ArgMatches<'_>) -> Option<LogFormat>
+    ensures some { IfSome result (IsFormat (rows_of (found_of found.now))) }
+    ensures none { (result ≡ None) → LacksFormat (rows_of (found_of found.now)) }
+{
+    let Some(word) = found.get_str("log-format") else {
+        return Some(LogFormat::Text);
+    };
+    if word == "text" {
+        return Some(LogFormat::Text);
+    }
+    if word == "json" {
+        return Some(LogFormat::Json);
+    }
+    None
 }
 
 /// How many connections to serve, and in it none to serve without an end. None if both were asked for.
@@ -165,6 +204,9 @@ fn serve<'a>(alloc: Global) -> Result<clap::Command<'a>, AllocError>
         .arg(until_stopped(alloc))?
         .arg(stop_on_input(alloc))?
         .arg(log(alloc))?
+        .arg(log_format(alloc))?
+        .arg(log_file(alloc))?
+        .arg(status(alloc))?
         .arg(check_first(alloc))
 }
 
@@ -206,7 +248,7 @@ fn at_once<'a>(alloc: Global) -> Arg<'a>
     Arg::new(alloc, "at-once")
         .long("at-once")
         .value_name("M")
-        .help("How many connections to serve at once, up to 10000; 256 if not given")
+        .help("How many connections to serve at once, up to 10000; 1024 if not given")
         .value_parser(clap::value_parser!(u32).range(1..=10_000))
 }
 
@@ -238,6 +280,36 @@ fn log<'a>(alloc: Global) -> Arg<'a>
         .long("log")
         .action(ArgAction::SetTrue)
         .help("Log each request on standard error, by time, status, milliseconds, method and path")
+}
+
+fn log_format<'a>(alloc: Global) -> Arg<'a>
+    ensures rule { rule_of result ≡ log_format_rule }
+    ensures local { result.global ≡ false }
+{
+    Arg::new(alloc, "log-format")
+        .long("log-format")
+        .value_name("FORMAT")
+        .help("Log each request as text or json; text if not given")
+}
+
+fn log_file<'a>(alloc: Global) -> Arg<'a>
+    ensures rule { rule_of result ≡ log_file_rule }
+    ensures local { result.global ≡ false }
+{
+    Arg::new(alloc, "log-file")
+        .long("log-file")
+        .value_name("FILE")
+        .help("Log each request in this file, which is opened again when it was moved away")
+}
+
+fn status<'a>(alloc: Global) -> Arg<'a>
+    ensures rule { rule_of result ≡ status_rule }
+    ensures local { result.global ≡ false }
+{
+    Arg::new(alloc, "status")
+        .long("status")
+        .value_name("ADDR")
+        .help("The address for operators, such as 127.0.0.1:8201: /health, /metrics, and a page")
 }
 
 fn check_first<'a>(alloc: Global) -> Arg<'a>

@@ -38,7 +38,7 @@ fn main(rt: HostRuntime) -> anyhow::Result<ExitCode> {
         Ok(Some(Command::Serve { db, settings })) => serve(&rt, db, &settings),
         Ok(None) => refuse_options(
             &rt,
-            "--until-stopped takes the place of --connections: give one of them",
+            "--until-stopped takes the place of --connections: give one of them; --log-format is text or json",
         ),
         Err(error) => refuse(&rt, &error),
     }
@@ -49,7 +49,10 @@ fn main(rt: HostRuntime) -> anyhow::Result<ExitCode> {
 fn check(rt: &HostRuntime, path: &str) -> anyhow::Result<ExitCode> {
     let finding = match check_file(rt, path) {
         Ok(finding) => finding,
-        Err(fault) => return tell(rt, Exit::Faulted(fault.number())),
+        Err(caused) => {
+            eprintln!(rt; "{path}: {caused}")?;
+            return tell(rt, Exit::Faulted(caused.fault.number()));
+        }
     };
     println!(rt; "{path}: {finding}")?;
     Ok(ExitCode::from(found_status(&finding)))

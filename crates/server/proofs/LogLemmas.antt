@@ -1,6 +1,6 @@
 -- The path in a line of the log, one byte more.
 use Rattle.std.proofs.Common.{◌≡◌, ◌+◌, ◌<◌, ◌≤◌, ◌==◌, ◌∷◌, ◌++◌, ℕ, List, [], map, length, get_or, drop, slice_range}
-use Rattle.records.specs.Words.{false, refl, sym, ◌∙◌, append_assoc}
+use Rattle.records.specs.Words.{false, refl, sym, ap, ◌∙◌, append_assoc}
 use Rattle.broker_types.specs.SliceLaws.{slice_grown, slice_none, drop_first}
 use Rattle.server.specs.LogLine.{shown_byte, shown_path, shown_segment}
 
@@ -23,3 +23,9 @@ at_other s start i from within other = rw (drop_first s i within, slice_grown s 
 pub one_more : (s shown : List ℕ) (i : ℕ) → i < length s
     → shown ++ map shown_byte (drop i s) ≡ (shown ++ shown_byte (get_or s i 0) ∷ []) ++ map shown_byte (drop (i + 1) s)
 one_more s shown i within = rw (drop_first s i within) (sym (append_assoc shown (shown_byte (get_or s i 0) ∷ []) _))
+
+-- ---- a line, part by part
+
+-- a part x is added to what was there
+pub more : (x : List ℕ) → {l k a : List ℕ} → l ≡ k ++ x → k ≡ a → l ≡ a ++ x
+more x {l} {k} {a} added before = added ∙ ap (λ (z : List ℕ). z ++ x) before

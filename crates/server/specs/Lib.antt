@@ -1,8 +1,12 @@
 pub mod Drawn
+pub mod Hiding
+pub mod Lines
 pub mod LogLine
 pub mod Moments
 pub mod Noting
 pub mod Patience
+pub mod Places
+pub mod Pulling
 pub mod Replying
 pub mod ServedHub
 pub mod Starting

@@ -1,5 +1,7 @@
 -- How long a peer may keep its place, in milliseconds (this project's limits).
-use Rattle.std.specs.Prelude.{◌||◌, if◌then◌else◌, ℕ, Bool, nat_lt, not}
+use Rattle.std.specs.Prelude.{◌||◌, if◌then◌else◌, ℕ, Bool, false, nat_lt, not, true}
+use Rattle.server.specs.declared.waiting.Claim.{Claim}
+use Rattle.server.specs.declared.waiting.Claim.TheVariants.{Idle, Stays, Unfinished}
 use Rattle.server.specs.declared.waiting.Wait.{Wait}
 use Rattle.server.specs.declared.waiting.Wait.TheVariants.{NextRequest, Progress, Farewell}
 
@@ -10,6 +12,10 @@ short_pause = 250
 -- how long it may take to ask again: a minute and a half
 abbrev pub long_pause : ℕ
 long_pause = 90000
+
+-- how long it may take within a request or a reply where its place is wanted: a second
+abbrev pub short_exchange : ℕ
+short_exchange = 1000
 
 -- how long it may neither send nor take a byte: five seconds
 abbrev pub longest_silence : ℕ
@@ -24,3 +30,22 @@ abbrev pub is_over : Wait → ℕ → ℕ → Bool → Bool
 is_over NextRequest silence age is_pressed = not (nat_lt age (if is_pressed then short_pause else long_pause))
 is_over Progress silence age is_pressed = not (nat_lt silence longest_silence) || not (nat_lt age longest_exchange)
 is_over Farewell silence age is_pressed = not (nat_lt age short_pause)
+
+-- Whether it may have to leave its place to one that waits, by whether something that it sent is still to be read, and
+-- the age of what is waited for: once it has been idle for a quarter of a second, or within a request for a second.
+abbrev pub claim_of : Wait → Bool → ℕ → Claim
+claim_of NextRequest true age = Stays
+claim_of NextRequest false age = if nat_lt age short_pause then Stays else Idle age
+claim_of Progress has_more age = if nat_lt age short_exchange then Stays else Unfinished age
+claim_of Farewell has_more age = Stays
+
+-- Whether one has to leave before another: who is idle before who is within a request, and of two alike the one that
+-- has been so longer.
+abbrev pub goes_before : Claim → Claim → Bool
+goes_before Stays other = false
+goes_before (Unfinished age) Stays = true
+goes_before (Unfinished age) (Unfinished other) = nat_lt other age
+goes_before (Unfinished age) (Idle other) = false
+goes_before (Idle age) Stays = true
+goes_before (Idle age) (Unfinished other) = true
+goes_before (Idle age) (Idle other) = nat_lt other age

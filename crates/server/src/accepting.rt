@@ -4,8 +4,10 @@ use crate::links::Links;
 use crate::waiting::TICK;
 use mio::net::TcpListener;
 use mio::{Interest, Registry, Token};
+use std::cell::Cell;
 use std::io;
 use std::io::ErrorKind;
+use std::rc::Rc;
 
 /// The token of the listener: no connection has it.
 pub(crate) const LISTENER: Token = Token(usize::MAX);
@@ -13,8 +15,17 @@ pub(crate) const LISTENER: Token = Token(usize::MAX);
 /// The token of standard input, if its end is waited for: no connection has it.
 pub(crate) const INPUT: Token = Token(usize::MAX - 1);
 
-/// Numbers of connections are below this one. Those from it on, as tokens, are the two above.
-const NUMBERS: u64 = u64::MAX - 1;
+/// The token of the listener for operators: no connection has it.
+pub(crate) const STATUS: Token = Token(usize::MAX - 2);
+
+/// How many connections of operators there can be at once.
+pub(crate) const OPERATORS: usize = 16;
+
+/// The token of the first of these: no other connection has it, nor one of the next `OPERATORS` tokens.
+pub(crate) const FIRST_OPERATOR: usize = usize::MAX - 2 - OPERATORS;
+
+/// Numbers of connections are below this one. Those from it on, as tokens, are the ones above.
+const NUMBERS: u64 = FIRST_OPERATOR as u64;
 
 /// How many connections are accepted in one round.
 const ROUND: u32 = 16;
@@ -39,6 +50,8 @@ pub(crate) struct Accepting {
     retry_at: u64,
     /// When it is looked again for one that can leave its place.
     look_at: u64,
+    /// Set once all were accepted that were to be.
+    are_all: Rc<Cell<bool>>,
 }
 
 impl Accepting {
@@ -48,6 +61,7 @@ impl Accepting {
         mut listener: TcpListener,
         connections: u64,
         at_once: usize,
+        are_all: Rc<Cell<bool>>,
     ) -> io::Result<Accepting> {
         registry.register(&mut listener, LISTENER, Interest::READABLE)?;
         Ok(Accepting {
@@ -59,6 +73,7 @@ impl Accepting {
             is_scarce: false,
             retry_at: 0,
             look_at: 0,
+            are_all,
         })
     }
 
@@ -77,6 +92,11 @@ impl Accepting {
     pub(crate) fn shut(&mut self) {
         self.listener = None;
         self.may_wait = false;
+    }
+
+    /// How many can be open at once.
+    pub(crate) fn at_once(&self) -> usize {
+        self.at_once
     }
 
     /// Whether no more connections are accepted.
@@ -128,11 +148,11 @@ impl Accepting {
             return;
         };
         match listener.accept() {
-            Ok((stream, _)) => {
+            Ok((stream, address)) => {
                 self.is_scarce = false;
                 self.look_at = 0;
                 self.left = self.left.saturating_sub(1);
-                links.add(registry, stream, self.next, now);
+                links.add(registry, stream, address, self.next, now);
                 self.next = self.next.saturating_add(1);
             }
             Err(error) if error.kind() == ErrorKind::WouldBlock => {
@@ -153,14 +173,16 @@ impl Accepting {
     /// Accepts no more if enough were accepted, or no number is left.
     fn shut_if_done(&mut self) {
         if self.left == 0 || self.next >= NUMBERS {
+            self.are_all.set(true);
             self.shut();
         }
     }
 
-    /// If every place is taken, asks the system anew whether somebody waits: it reports the listener if so. What was
-    /// reported before may be over, and nobody should leave for a peer that does not wait.
+    /// If every place is taken, or the system lacks descriptors or memory, asks the system anew whether somebody waits:
+    /// it reports the listener if so. What was reported before may be over, and nobody should leave for a peer that
+    /// does not wait: where descriptors are lacking, an accept fails for that even if none waits.
     fn ask_if_full(&mut self, registry: &Registry, len: usize) {
-        if len >= self.at_once
+        if (len >= self.at_once || self.is_scarce)
             && let Some(listener) = &mut self.listener
         {
             self.may_wait = registry

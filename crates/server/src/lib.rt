@@ -3,26 +3,41 @@
 #![tactic(auto)]
 
 mod accepting;
+mod database_files;
 mod drawn;
+mod hiding;
 mod links;
 mod listening;
 mod log;
+mod log_file;
 mod log_line;
+mod notes;
 mod noting;
+mod operator;
+mod operators;
 mod peer;
+mod places;
+mod pulling;
 mod replying;
 mod service;
 mod serving;
 mod settings;
+mod starting;
 mod store_serving;
 mod system_clock;
+mod tally;
+mod telling;
 mod waiting;
+mod watched;
 
+pub use database_files::DatabaseFiles;
 pub use drawn::{DrawnWords, seeded};
 pub use listening::Listening;
-pub use log::{Log, begin_log};
+pub use log::{Log, begin_log, shared};
 pub use service::Service;
 pub use serving::serve;
-pub use settings::Settings;
+pub use settings::{LogFormat, Settings};
 pub use store_serving::serve_store;
 pub use system_clock::SystemClock;
+pub use telling::tell;
+pub use watched::{Watched, begin_status};

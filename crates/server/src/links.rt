@@ -8,16 +8,21 @@ ghost use Rattle.hub.specs.World.{Connections};
 ghost use Rattle.server.specs.ServedHub.{ClosesSome, LeavesBelow, LeavesServed};
 
 use crate::log::Log;
+use crate::notes::Notes;
 use crate::peer::{Peer, Stay};
 use crate::service::{Round, Service};
+use crate::tally::Tally;
+use crate::waiting::{Claim, goes_before};
 use broker::Store;
 use broker_types::Fault;
 use hub::{Clock, Hub, WordSource};
 use mio::event::Event;
 use mio::net::TcpStream;
 use mio::{Interest, Registry, Token};
+use status::Closing;
 use std::alloc::{AllocError, Global};
 use std::collections::{BTreeMap, VecDeque};
+use std::net::SocketAddr;
 use std::rc::Rc;
 
 /// The connections that are open, by their numbers, and those that can go on.
@@ -27,8 +32,12 @@ pub(crate) struct Links {
     peers: BTreeMap<u64, Peer>,
     /// Each is in it once. Some of them may have been closed since.
     ready: VecDeque<u64>,
-    /// Those whose time is over, while they are closed.
-    over: Vec<u64>,
+    /// Those whose time is over, and why, while they are closed.
+    over: Vec<(u64, Closing)>,
+    /// What the store notes of a request.
+    notes: Rc<Notes>,
+    /// What is counted.
+    tally: Tally,
     /// Where requests are logged, if they are.
     log: Option<Rc<Log>>,
 }
@@ -36,24 +45,38 @@ pub(crate) struct Links {
 impl Links {
     /// None is open. So many can be open at once without memory for the queue: a round adds each of them at most, to as
     /// many that were closed since the last.
-    pub(crate) fn new(alloc: Global, at_once: usize) -> Result<Links, AllocError> {
+    pub(crate) fn new(
+        alloc: Global,
+        at_once: usize,
+        notes: Rc<Notes>,
+        log: Option<Rc<Log>>,
+    ) -> Result<Links, AllocError> {
         Ok(Links {
             alloc,
             peers: BTreeMap::new(alloc),
             ready: VecDeque::with_capacity(alloc, at_once.saturating_mul(2))?,
             over: Vec::with_capacity(alloc, at_once)?,
-            log: None,
+            notes,
+            tally: Tally::new(),
+            log,
         })
-    }
-
-    /// Requests are logged from now on.
-    pub(crate) fn log_to(&mut self, log: Rc<Log>) {
-        self.log = Some(log);
     }
 
     /// How many are open.
     pub(crate) fn len(&self) -> usize {
         self.peers.len()
+    }
+
+    /// What was counted.
+    pub(crate) fn tally(&self) -> &Tally {
+        &self.tally
+    }
+
+    /// Counts the lines of the log that were dropped meanwhile.
+    pub(crate) fn count_dropped(&mut self) {
+        if let Some(log) = &self.log {
+            self.tally.dropped(log.dropped());
+        }
     }
 
     /// Whether one can go on at once.
@@ -62,20 +85,36 @@ impl Links {
     }
 
     /// Opens a connection. One that finds no memory, or cannot be registered, is closed.
-    pub(crate) fn add(&mut self, registry: &Registry, mut stream: TcpStream, conn: u64, now: u64) {
-        if stream.set_nodelay(true).is_err() {
-            return;
+    pub(crate) fn add(
+        &mut self,
+        registry: &Registry,
+        stream: TcpStream,
+        address: SocketAddr,
+        conn: u64,
+        now: u64,
+    ) {
+        self.tally.accepted();
+        if self.open(registry, stream, address, conn, now).is_none() {
+            self.tally.closed(Closing::Fault);
         }
+    }
+
+    fn open(
+        &mut self,
+        registry: &Registry,
+        mut stream: TcpStream,
+        address: SocketAddr,
+        conn: u64,
+        now: u64,
+    ) -> Option<()> {
+        stream.set_nodelay(true).ok()?;
         let both = Interest::READABLE | Interest::WRITABLE;
-        if registry
+        registry
             .register(&mut stream, Token(conn as usize), both)
-            .is_err()
-        {
-            return;
-        }
-        let _ = self
-            .peers
-            .insert(conn, Peer::new(self.alloc, stream, conn, now));
+            .ok()?;
+        let peer = Peer::new(self.alloc, stream, address, conn, now);
+        self.peers.insert(conn, peer).ok()?;
+        Some(())
     }
 
     /// Takes down an event of the connection, and puts it into the queue.
@@ -140,13 +179,9 @@ impl Links {
         let Some(peer) = self.peers.get_mut(&conn) else {
             return Ok(());
         };
-        if let Some(log) = &self.log {
-            log.begin();
-        }
+        self.notes.begin();
         let turned = peer.turn(service, round);
-        if let Some(log) = &self.log {
-            log.end(peer.status());
-        }
+        note(&self.notes, &mut self.tally, &self.log, peer);
         match turned {
             Ok(Stay::Ready) => {
                 peer.enters_queue();
@@ -155,7 +190,8 @@ impl Links {
             }
             Ok(Stay::Waits) => Ok(()),
             Ok(Stay::Gone) => {
-                self.close(&mut service.hub, round.first, conn);
+                let why = peer.end();
+                self.close(&mut service.hub, round.first, conn, why);
                 Ok(())
             }
             Err(fault) => Err(fault),
@@ -169,54 +205,51 @@ impl Links {
     {
         self.over.clear();
         for (conn, peer) in &self.peers {
-            if peer.is_over(round.now, is_pressed) {
-                let _ = self.over.push(*conn);
+            if let Some(why) = peer.over(round.now, is_pressed) {
+                let _ = self.over.push((*conn, why));
             }
         }
         for _ in 0..self.over.len() {
-            let Some(conn) = self.over.pop() else {
+            let Some((conn, why)) = self.over.pop() else {
                 return;
             };
-            self.close(hub, round.first, conn);
+            self.close(hub, round.first, conn, why);
         }
     }
 
-    /// Closes the one that has been idle longest, if any is idle for longer than a peer may be whose place is wanted.
-    /// Whether one was closed.
+    /// Closes the one that has to leave its place first, if any has to: that which has been idle longest, or else that
+    /// whose request has been unfinished longest. Whether one was closed.
     pub(crate) fn make_room<S: Store>(&mut self, hub: &mut Hub<S>, round: Round) -> bool
         ensures steps { ClosesSome S.seen hub.old hub.new }
         ensures below { (all : Connections) → ConnectionsRepresent hub.old all → LeavesBelow round.first all hub.new }
     {
-        let Some(conn) = self.longest_idle(round.now) else {
+        let Some(conn) = self.first_to_leave(round.now) else {
             return false;
         };
-        self.close(hub, round.first, conn);
+        self.close(hub, round.first, conn, Closing::Room);
         true
     }
 
-    /// The number of the one that has been idle longest, if its time is over where its place is wanted.
-    fn longest_idle(&self, now: u64) -> Option<u64> {
-        let mut longest: Option<(u64, u64)> = None;
+    /// The number of the one that has to leave its place first.
+    fn first_to_leave(&self, now: u64) -> Option<u64> {
+        let mut first = (None, Claim::Stays);
         for (conn, peer) in &self.peers {
-            if let Some(since) = peer.idle_since()
-                && peer.is_over(now, true)
-            {
-                match longest {
-                    Some((_, first)) if first <= since => {}
-                    _ => longest = Some((*conn, since)),
-                }
+            let claim = peer.claim(now);
+            if goes_before(claim, first.1) {
+                first = (Some(*conn), claim);
             }
         }
-        Some(longest?.0)
+        first.0
     }
 
     /// Closes a connection, and drops what waits on it. No connection below the first number is touched.
-    fn close<S: Store>(&mut self, hub: &mut Hub<S>, first: u64, conn: u64)
+    fn close<S: Store>(&mut self, hub: &mut Hub<S>, first: u64, conn: u64, why: Closing)
         ensures steps { ClosesSome S.seen hub.old hub.new }
         ensures below { (all : Connections) → ConnectionsRepresent hub.old all → LeavesBelow first all hub.new }
         ensures closed { first ≤ conn → (all : Connections) → ConnectionsRepresent hub.old all
             → (after : Connections) × ConnectionsRepresent hub.new after × LeavesClosed all conn after }
     {
+        self.tally.closed(why);
         self.peers.remove(&conn);
         if conn < first {
             return;
@@ -228,6 +261,19 @@ impl Links {
     pub(crate) fn send_rests(&self) {
         for (_, peer) in &self.peers {
             peer.send_rest();
+        }
+    }
+}
+
+/// Counts and logs what the last turn of the peer has brought.
+fn note(notes: &Notes, tally: &mut Tally, log: &Option<Rc<Log>>, peer: &Peer) {
+    if let Some(fault) = peer.fault() {
+        tally.faulted(fault);
+    }
+    if let Some(noted) = notes.take(peer.status(), peer.traffic()) {
+        tally.request(&noted);
+        if let Some(log) = log {
+            log.request(&noted);
         }
     }
 }

@@ -5,18 +5,24 @@ ghost use Rattle.hub.specs.Supplies.{Supplies};
 ghost use Rattle.hub.specs.World.{Connections};
 ghost use Rattle.server.specs.ServedHub.{ClosesSome, LeavesBelow, LeavesServed};
 
-use crate::accepting::{Accepting, INPUT, LISTENER};
+use crate::accepting::{Accepting, FIRST_OPERATOR, INPUT, LISTENER, OPERATORS};
 use crate::links::Links;
 use crate::log::Log;
+use crate::notes::Notes;
+use crate::operators::Operators;
+use crate::places::places;
 use crate::service::{Round, Service};
 use crate::waiting::{LONGEST_EXCHANGE, TICK};
+use crate::watched::{Known, Watched};
 use broker::Store;
 use broker_types::Fault;
 use hub::{Hub, WordSource};
 use mio::net::TcpListener;
 use mio::unix::SourceFd;
 use mio::{Events, Interest, Poll};
+use status::State;
 use std::alloc::AllocGlobal;
+use std::cell::Cell;
 use std::net::Net;
 use std::os::fd::RawFd;
 use std::rc::Rc;
@@ -39,6 +45,8 @@ pub struct Listening {
     events: Events,
     accepting: Accepting,
     links: Links,
+    /// The connections of operators, if there is an address for them.
+    operators: Option<Operators>,
     start: Instant,
     /// How long ago the start was when the clock was read last, in milliseconds.
     age: u64,
@@ -57,31 +65,36 @@ impl Listening {
     /// From this listener so many connections are to be served, or as many as come, and at most `at_once` of them at
     /// once, which is at least 1. None is accepted yet. It fails if memory runs out (`OutOfMemory`), or a call of the
     /// system fails.
-    pub fn new<R>(
+    pub(crate) fn new<R>(
         rt: &R,
         listener: net::TcpListener,
         connections: Option<u32>,
         at_once: u32,
+        are_all: Rc<Cell<bool>>,
+        notes: Rc<Notes>,
+        log: Option<Rc<Log>>,
     ) -> io::Result<Listening>
     where
         R: AllocGlobal + Clock + Net,
     {
         listener.set_nonblocking(true)?;
         let poll = Poll::new(rt)?;
-        let at_once = at_once.max(1) as usize;
+        let at_once = places(at_once);
         // Without an end there are more than a program can ever accept.
         let accepting = Accepting::new(
             poll.registry(),
             TcpListener::from_std(listener),
             connections.map_or(u64::MAX, u64::from),
             at_once,
+            are_all,
         )?;
         Ok(Listening {
             poll,
-            // One for each connection, for the listener, and for standard input: a round knows all that can be done.
-            events: Events::with_capacity(rt.alloc(), at_once.saturating_add(2))?,
+            // One for each connection, for the listeners, and for standard input: a round knows all that can be done.
+            events: Events::with_capacity(rt.alloc(), at_once.saturating_add(OPERATORS + 3))?,
             accepting,
-            links: Links::new(rt.alloc(), at_once)?,
+            links: Links::new(rt.alloc(), at_once, notes, log)?,
+            operators: None,
             start: Instant::now(rt)?,
             age: 0,
             now: 0,
@@ -101,9 +114,10 @@ impl Listening {
             .register(&mut input, INPUT, Interest::READABLE)
     }
 
-    /// Requests are logged from now on.
-    pub(crate) fn log_to(&mut self, log: Rc<Log>) {
-        self.links.log_to(log);
+    /// Operators are told of the server from now on.
+    pub(crate) fn tell_operators(&mut self, watched: Watched) -> io::Result<()> {
+        self.operators = Some(Operators::new(self.poll.registry(), watched)?);
+        Ok(())
     }
 
     /// Connections are accepted under numbers from this one on.
@@ -141,6 +155,7 @@ impl Listening {
             .accept(self.poll.registry(), &mut self.links, round.now);
         self.take_turns(service, round)?;
         self.look(&mut service.hub, round);
+        self.look_at_operators();
         Ok(())
     }
 
@@ -158,7 +173,12 @@ impl Listening {
             thread::sleep(rt, Duration::from_millis(TICK));
         }
         self.count_time(rt);
-        self.is_to_stop |= mark_all(&self.events, &mut self.accepting, &mut self.links);
+        self.is_to_stop |= mark_all(
+            &self.events,
+            &mut self.accepting,
+            &mut self.links,
+            &mut self.operators,
+        );
     }
 
     /// Accepts no more, and has each connection end, if that was asked for.
@@ -184,10 +204,14 @@ impl Listening {
         if self.links.is_ready() || self.accepting.is_open(self.now, len) {
             return Some(Duration::from_millis(0));
         }
+        let operators = match &self.operators {
+            Some(operators) => operators.longest_wait(self.now),
+            None => None,
+        };
         if len == 0 && self.accepting.is_quiet() {
-            return None;
+            return Some(Duration::from_millis(operators?));
         }
-        Some(Duration::from_millis(TICK))
+        Some(Duration::from_millis(operators.unwrap_or(TICK).min(TICK)))
     }
 
     /// Closes the connection that has been idle longest, if somebody waits for its place. One leaves for each that
@@ -232,10 +256,44 @@ impl Listening {
             self.links.look(hub, round, self.accepting.is_shut());
         }
     }
+
+    /// Serves operators, if it is time to.
+    fn look_at_operators(&mut self) {
+        if !matches!(&self.operators, Some(operators) if operators.is_due(self.now)) {
+            return;
+        }
+        self.links.count_dropped();
+        let known = self.known();
+        if let Some(operators) = &mut self.operators {
+            let counters = self.links.tally().counters();
+            operators.look(self.poll.registry(), self.now, counters, known);
+        }
+    }
+
+    /// What operators are told of it. It stops once no more connections are accepted.
+    fn known(&self) -> Known {
+        let state = if self.accepting.is_shut() {
+            State::Stopping
+        } else {
+            State::Serving
+        };
+        Known {
+            state,
+            connections: self.links.len(),
+            at_once: self.accepting.at_once(),
+            last_fault: self.links.tally().last_fault(),
+            clock: self.links.tally().clock(),
+        }
+    }
 }
 
 /// Takes down all that was reported. Whether standard input was.
-fn mark_all(events: &Events, accepting: &mut Accepting, links: &mut Links) -> bool {
+fn mark_all(
+    events: &Events,
+    accepting: &mut Accepting,
+    links: &mut Links,
+    operators: &mut Option<Operators>,
+) -> bool {
     let mut is_input = false;
     for event in events {
         let token = event.token();
@@ -243,6 +301,10 @@ fn mark_all(events: &Events, accepting: &mut Accepting, links: &mut Links) -> bo
             accepting.mark();
         } else if token == INPUT {
             is_input = true;
+        } else if token.0 >= FIRST_OPERATOR {
+            if let Some(operators) = operators {
+                operators.mark(event);
+            }
         } else {
             links.mark(token.0 as u64, event);
         }

@@ -1,103 +1,95 @@
-//! The log, on standard error.
+//! The log, on standard error or in a file.
 
 ghost use Rattle.std.specs.Prelude.{◌≡◌, IfErr};
 
-use crate::log_line::{Asked, log_line};
-use crate::settings::Settings;
+use crate::hiding::Line;
+use crate::log_file::LogFile;
+use crate::log_line::{event_object, event_text, object_line, text_line};
+use crate::notes::Noted;
+use crate::settings::{LogFormat, Settings};
 use crate::system_clock::moment_now;
-use broker_types::{Ask, Fault, time_text};
+use broker_types::{Fault, Moment};
 use libc::net::{POLLOUT, poll};
 use libc::types::pollfd;
 use std::alloc::AllocError;
 use std::cell::Cell;
 use std::fmt::Display;
-use std::io::Print;
+use std::io::{Eprint, Print};
 use std::rc::Rc;
 use std::rt::HostRuntime;
-use std::time::Instant;
 
 /// The descriptor of standard error.
 const STANDARD_ERROR: i32 = 2;
 
-/// The log: a line for each request, and for what becomes of the program. A log that nobody reads stops nobody: a line
-/// for which there is no room now, or no memory, is dropped and counted, and the next that is written tells how many
-/// were.
+/// The log: a line for each request, and for what becomes of the program. A log that nobody reads stops nobody, and
+/// neither does a full disk: a line for which there is no room now, or no memory, is dropped and counted, and the next
+/// that is written tells how many were.
 #[derive(Drop)]
 pub struct Log {
     rt: HostRuntime,
-    /// When the turn of a connection began.
-    began: Cell<Option<Instant>>,
-    /// What was asked in it.
-    asked: Cell<Option<Asked>>,
+    format: LogFormat,
+    /// None is standard error.
+    file: Option<LogFile>,
     /// How many lines were dropped since one was written.
     dropped: Cell<u64>,
+    /// How many were dropped before.
+    dropped_before: Cell<u64>,
 }
 
 impl Log {
     /// A log without a line.
-    pub(crate) fn new(rt: HostRuntime) -> Log {
+    fn new(rt: HostRuntime, format: LogFormat, file: Option<LogFile>) -> Log {
         Log {
             rt,
-            began: Cell::new(None),
-            asked: Cell::new(None),
+            format,
+            file,
             dropped: Cell::new(0),
+            dropped_before: Cell::new(0),
         }
     }
 
-    // ---- requests
-
-    /// A turn of a connection begins. It has one request at most.
-    pub(crate) fn begin(&self) {
-        self.began.set(Instant::now(&self.rt).ok());
-        self.asked.set(None);
-    }
-
-    /// This is asked in it. If there is no memory for it, the line is that of a request whose path was not read.
-    pub(crate) fn note(&self, ask: &Ask<'_>) {
-        self.asked.set(Asked::new(self.rt.alloc(), ask).ok());
-    }
-
-    /// The turn has ended, and a reply with this status was made in it, if one was. Logs the request, if there was one.
-    pub(crate) fn end(&self, status: Option<u16>) {
-        let asked = self.asked.replace(None);
-        if status.is_none() && asked.is_none() {
-            return;
-        }
+    /// Logs a request.
+    pub(crate) fn request(&self, noted: &Noted) {
         let moment = moment_now(&self.rt);
-        let line = log_line(self.rt.alloc(), moment, status, self.millis(), &asked);
-        self.write(line);
+        self.write(moment, self.line_of(moment, noted));
     }
 
-    /// How long the turn has taken, in milliseconds; 0 if the clock cannot be read.
-    fn millis(&self) -> u64 {
-        let Some(began) = self.began.get() else {
-            return 0;
+    fn line_of(&self, moment: Moment, noted: &Noted) -> Result<Line, AllocError> {
+        let alloc = self.rt.alloc();
+        let bytes = match self.format {
+            LogFormat::Text => text_line(alloc, moment, noted)?,
+            LogFormat::Json => object_line(alloc, moment, noted)?,
         };
-        match began.elapsed(&self.rt) {
-            Ok(age) => u64::try_from(age.as_millis()).unwrap_or(u64::MAX),
-            Err(_) => 0,
-        }
+        Line::new(alloc, &bytes)
     }
-
-    // ---- the program
 
     /// Logs what becomes of the program.
     pub fn tell<D: Display + Drop>(&self, what: D) {
-        let line = self.told(what);
-        self.write(line);
+        let moment = moment_now(&self.rt);
+        self.write(moment, self.told(moment, what));
     }
 
-    fn told<D: Display + Drop>(&self, what: D) -> Result<Vec<u8>, AllocError> {
+    fn told<D: Display + Drop>(&self, moment: Moment, what: D) -> Result<Line, AllocError> {
         let alloc = self.rt.alloc();
-        let time = time_text(alloc, moment_now(&self.rt).seconds())?;
-        Ok(format!(in alloc; "{time} {what}")?.into_bytes())
+        let what = format!(in alloc; "{what}")?.into_bytes();
+        let bytes = match self.format {
+            LogFormat::Text => event_text(alloc, moment, &what)?,
+            LogFormat::Json => event_object(alloc, moment, &what)?,
+        };
+        Line::new(alloc, &bytes)
     }
 
     // ---- writing
 
+    /// How many lines were dropped.
+    pub(crate) fn dropped(&self) -> u64 {
+        self.dropped_before.get().saturating_add(self.dropped.get())
+    }
+
     /// Writes the line, or counts it.
-    fn write(&self, line: Result<Vec<u8>, AllocError>) {
-        if self.is_written(line) {
+    fn write(&self, moment: Moment, line: Result<Line, AllocError>) {
+        if self.is_written(moment, line) {
+            self.dropped_before.set(self.dropped());
             self.dropped.set(0);
         } else {
             self.dropped.set(self.dropped.get().saturating_add(1));
@@ -105,44 +97,58 @@ impl Log {
     }
 
     /// Writes the line, after one that tells how many were dropped, if there is room and memory for both. A pipe that
-    /// has room has it for 4,096 bytes (POSIX, `PIPE_BUF`), and no two lines are as long, but for that of a database
-    /// whose name is.
-    fn is_written(&self, line: Result<Vec<u8>, AllocError>) -> bool {
-        match self.ended(line) {
-            Ok(bytes) => has_room() && self.rt.stderr().write_all(&bytes).is_ok(),
-            Err(AllocError) => false,
+    /// has room has it for 4,096 bytes (POSIX, `PIPE_BUF`), and no two lines are as long, but where a path or the name
+    /// of a database is.
+    fn is_written(&self, moment: Moment, line: Result<Line, AllocError>) -> bool {
+        let Ok(bytes) = self.ended(moment, line) else {
+            return false;
+        };
+        match &self.file {
+            Some(file) => file.is_written(moment.seconds(), &bytes),
+            None => has_room() && self.rt.stderr().write_all(&bytes).is_ok(),
         }
     }
 
-    fn ended(&self, line: Result<Vec<u8>, AllocError>) -> Result<Vec<u8>, AllocError> {
-        let mut line = line?;
-        line.push(b'\n')?;
+    fn ended(&self, moment: Moment, line: Result<Line, AllocError>) -> Result<Vec<u8>, AllocError> {
+        let line = line?;
+        let mut bytes = Vec::new(self.rt.alloc());
         let dropped = self.dropped.get();
-        if dropped == 0 {
-            return Ok(line);
+        if dropped > 0 {
+            let told = self.told(moment, format_args!("{dropped} lines were dropped"))?;
+            bytes.extend_from_slice(told.as_slice())?;
+            bytes.push(b'\n')?;
         }
-        let mut both = self.told(format_args!("{dropped} lines were dropped"))?;
-        both.push(b'\n')?;
-        both.extend_from_slice(&line)?;
-        Ok(both)
+        bytes.reserve(line.as_slice().len().saturating_add(1))?;
+        bytes.extend_from_slice(line.as_slice())?;
+        bytes.push(b'\n')?;
+        Ok(bytes)
     }
 }
 
-/// The log, if there is to be one; its first line says that the program is starting. The only error is running out of
-/// memory.
+/// The log, if there is to be one; its first line says that the program is starting. If it is a file that cannot be
+/// written now, a line on standard error says so. The only error is running out of memory.
 pub fn begin_log(rt: &HostRuntime, settings: &Settings<'_>) -> Result<Option<Rc<Log>>, Fault>
     ensures { IfErr result (λ fault. fault ≡ Fault.Memory) }
 {
     if !settings.logs {
         return Ok(None);
     }
-    let log = Rc::new(rt.alloc(), Log::new(*rt))?;
+    let file = match settings.log_file {
+        Some(path) => Some(LogFile::new(*rt, String::from_str(rt.alloc(), path)?)),
+        None => None,
+    };
+    let log = Rc::new(rt.alloc(), Log::new(*rt, settings.log_format, file))?;
     log.tell("starting");
+    if let Some(path) = settings.log_file
+        && log.dropped() > 0
+    {
+        let _ = eprintln!(rt; "the log {path} cannot be written");
+    }
     Ok(Some(log))
 }
 
 /// The same log once more.
-pub(crate) fn shared(log: &Option<Rc<Log>>) -> Result<Option<Rc<Log>>, Fault>
+pub fn shared(log: &Option<Rc<Log>>) -> Result<Option<Rc<Log>>, Fault>
     ensures { IfErr result (λ fault. fault ≡ Fault.Memory) }
 {
     Ok(log.clone()?)

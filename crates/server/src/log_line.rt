@@ -1,11 +1,16 @@
-//! Lines of the log.
+//! Lines of the log, for people and for machines.
 
-ghost use Rattle.std.specs.Prelude.{◌≡◌, ◌++◌, [], IfOk, OnOk, string_bytes};
-ghost use Rattle.server.specs.LogLine.{asked_text, line_of, method_of, shown_byte, shown_path, shown_segment};
-ghost use Rattle.server.specs.LogLine.{status_text};
+ghost use Rattle.std.specs.Prelude.{◌≡◌, ◌++◌, [], IfOk, OnOk, decimal, map};
+ghost use Rattle.std.specs.Net.Text.{socket_text};
+ghost use Rattle.broker_types.specs.Time.{time_text};
+ghost use Rattle.server.specs.LogLine.{asked_text, event_object, event_text, identifier_text, method_member};
+ghost use Rattle.server.specs.LogLine.{method_of, object_line, path_member, plain_byte, shown_byte, shown_path};
+ghost use Rattle.server.specs.LogLine.{shown_segment, status_text, text_line};
 
+use crate::notes::Noted;
 use broker_types::{Ask, Moment, Verb, time_text};
 use std::alloc::{AllocError, Global};
+use std::net::SocketAddr;
 
 /// What a request asked, as the log shows it.
 #[derive(Drop)]
@@ -30,23 +35,196 @@ impl Asked {
     }
 }
 
-/// A line of the log, without its end: the time, the status of the reply, the milliseconds that it took, the method
-/// and the path. There is `-` for what is not there: a reply after a fault, a request that was refused before its path
-/// was read. Nothing else of a request can be in it.
-pub(crate) fn log_line(
+/// A line of the log for people: the time, the status of the reply, the milliseconds that it took, the method and the
+/// path; the address of the peer, the accessor of the token that was used, the identifier that the reply has for the
+/// request, and the bytes that were read for it and those of the reply. There is `-` for what is not there: a reply
+/// after a fault, a request that was refused before its path was read, a token. Nothing else of a request can be in it.
+pub(crate) fn text_line(alloc: Global, moment: Moment, noted: &Noted) -> Result<Vec<u8>, AllocError>
+    ensures { IfOk result (λ line. line.items ≡ text_line moment noted.now) }
+{
+    let mut line = Vec::with_capacity(alloc, 256)?;
+    push_time(alloc, &mut line, moment)?;
+    line.extend_from_slice(b" ")?;
+    push_status(alloc, &mut line, noted.status, b"-")?;
+    line.extend_from_slice(b" ")?;
+    push_decimal(alloc, &mut line, noted.micros / 1_000)?;
+    line.extend_from_slice(b"ms ")?;
+    push_asked(&mut line, &noted.asked)?;
+    line.extend_from_slice(b" peer=")?;
+    push_address(alloc, &mut line, noted.traffic.peer)?;
+    line.extend_from_slice(b" accessor=")?;
+    push_identifier(&mut line, &noted.accessor, b"", b"-")?;
+    line.extend_from_slice(b" request_id=")?;
+    push_identifier(&mut line, &noted.request_id, b"", b"-")?;
+    line.extend_from_slice(b" in=")?;
+    push_decimal(alloc, &mut line, noted.traffic.bytes_in)?;
+    line.extend_from_slice(b" out=")?;
+    push_decimal(alloc, &mut line, noted.traffic.bytes_out)?;
+    Ok(line)
+}
+
+/// The same for machines: a JSON object (RFC 8259), with `null` for what is not there, and the time that it took in
+/// microseconds. No text in it has a byte that JSON escapes.
+pub(crate) fn object_line(
     alloc: Global,
     moment: Moment,
-    status: Option<u16>,
-    millis: u64,
-    asked: &Option<Asked>,
+    noted: &Noted,
 ) -> Result<Vec<u8>, AllocError>
-    ensures { IfOk result (λ line. line.items ≡ line_of moment status millis asked.now) }
+    ensures { IfOk result (λ line. line.items ≡ object_line moment noted.now) }
 {
-    let time = time_text(alloc, moment.seconds())?;
-    let status = status_shown(alloc, status)?;
-    let mut line = format!(in alloc; "{time} {status} {millis}ms ")?.into_bytes();
-    push_asked(&mut line, asked)?;
+    let mut line = Vec::with_capacity(alloc, 512)?;
+    line.extend_from_slice(b"{\"time\":\"")?;
+    push_time(alloc, &mut line, moment)?;
+    line.extend_from_slice(b"\",\"status\":")?;
+    push_status(alloc, &mut line, noted.status, b"null")?;
+    line.extend_from_slice(b",\"micros\":")?;
+    push_decimal(alloc, &mut line, noted.micros)?;
+    push_method_member(&mut line, &noted.asked)?;
+    push_path_member(&mut line, &noted.asked)?;
+    line.extend_from_slice(b",\"peer\":\"")?;
+    push_address(alloc, &mut line, noted.traffic.peer)?;
+    line.extend_from_slice(b"\",\"accessor\":")?;
+    push_identifier(&mut line, &noted.accessor, b"\"", b"null")?;
+    line.extend_from_slice(b",\"request_id\":")?;
+    push_identifier(&mut line, &noted.request_id, b"\"", b"null")?;
+    line.extend_from_slice(b",\"bytes_in\":")?;
+    push_decimal(alloc, &mut line, noted.traffic.bytes_in)?;
+    line.extend_from_slice(b",\"bytes_out\":")?;
+    push_decimal(alloc, &mut line, noted.traffic.bytes_out)?;
+    line.extend_from_slice(b"}")?;
     Ok(line)
+}
+
+/// A line that tells people what became of the program.
+pub(crate) fn event_text(alloc: Global, moment: Moment, event: &[u8]) -> Result<Vec<u8>, AllocError>
+    ensures { IfOk result (λ line. line.items ≡ event_text moment event.now) }
+{
+    let mut line = Vec::new(alloc);
+    push_time(alloc, &mut line, moment)?;
+    line.extend_from_slice(b" ")?;
+    push_plain(&mut line, event)?;
+    Ok(line)
+}
+
+/// The same for machines.
+pub(crate) fn event_object(
+    alloc: Global,
+    moment: Moment,
+    event: &[u8],
+) -> Result<Vec<u8>, AllocError>
+    ensures { IfOk result (λ line. line.items ≡ event_object moment event.now) }
+{
+    let mut line = Vec::new(alloc);
+    line.extend_from_slice(b"{\"time\":\"")?;
+    push_time(alloc, &mut line, moment)?;
+    line.extend_from_slice(b"\",\"event\":\"")?;
+    push_plain(&mut line, event)?;
+    line.extend_from_slice(b"\"}")?;
+    Ok(line)
+}
+
+// ---- the parts of a line
+
+/// Adds the time.
+fn push_time(alloc: Global, line: &mut Vec<u8>, moment: Moment) -> Result<(), AllocError>
+    ensures { OnOk result (line.new.items ≡ line.old.items ++ time_text moment) }
+{
+    let text = time_text(alloc, moment.seconds())?;
+    line.extend_from_slice(text.as_bytes())
+}
+
+/// Adds the status of the reply, or what stands for none.
+fn push_status(
+    alloc: Global,
+    line: &mut Vec<u8>,
+    status: Option<u16>,
+    absent: &[u8],
+) -> Result<(), AllocError>
+    ensures { OnOk result (line.new.items ≡ line.old.items ++ status_text absent.now status) }
+{
+    match status {
+        Some(code) => push_decimal(alloc, line, u64::from(code)),
+        None => line.extend_from_slice(absent),
+    }
+}
+
+/// Adds a number.
+fn push_decimal(alloc: Global, line: &mut Vec<u8>, number: u64) -> Result<(), AllocError>
+    ensures { OnOk result (line.new.items ≡ line.old.items ++ decimal number) }
+{
+    let digits = format!(in alloc; "{number}")?;
+    line.extend_from_slice(digits.as_bytes())
+}
+
+/// Adds an address.
+fn push_address(alloc: Global, line: &mut Vec<u8>, address: SocketAddr) -> Result<(), AllocError>
+    ensures { OnOk result (line.new.items ≡ line.old.items ++ socket_text address) }
+{
+    let text = format!(in alloc; "{address}")?;
+    line.extend_from_slice(text.as_bytes())
+}
+
+/// Adds an identifier between these marks, or what stands for none.
+fn push_identifier(
+    line: &mut Vec<u8>,
+    identifier: &Option<[u8; 36]>,
+    mark: &[u8],
+    absent: &[u8],
+) -> Result<(), AllocError>
+    ensures { OnOk result (line.new.items ≡ line.old.items ++ identifier_text mark.now absent.now identifier.now) }
+{
+    let Some(identifier) = identifier else {
+        return line.extend_from_slice(absent);
+    };
+    line.extend_from_slice(mark)?;
+    line.extend_from_slice(identifier)?;
+    line.extend_from_slice(mark)
+}
+
+/// Adds the member for the method.
+fn push_method_member(line: &mut Vec<u8>, asked: &Option<Asked>) -> Result<(), AllocError>
+    ensures { OnOk result (line.new.items ≡ line.old.items ++ method_member asked.now) }
+{
+    let Some(asked) = asked else {
+        return line.extend_from_slice(b",\"method\":null");
+    };
+    line.extend_from_slice(b",\"method\":\"")?;
+    line.extend_from_slice(method(asked.verb).as_bytes())?;
+    line.extend_from_slice(b"\"")
+}
+
+/// Adds the member for the path.
+fn push_path_member(line: &mut Vec<u8>, asked: &Option<Asked>) -> Result<(), AllocError>
+    ensures { OnOk result (line.new.items ≡ line.old.items ++ path_member asked.now) }
+{
+    let Some(asked) = asked else {
+        return line.extend_from_slice(b",\"path\":null");
+    };
+    line.extend_from_slice(b",\"path\":\"/v1/")?;
+    line.extend_from_slice(&asked.path)?;
+    line.extend_from_slice(b"\"")?;
+    Ok(())
+}
+
+/// Adds what became of the program, without what JSON escapes.
+fn push_plain(line: &mut Vec<u8>, event: &[u8]) -> Result<(), AllocError>
+    ensures { OnOk result (line.new.items ≡ line.old.items ++ map plain_byte event.now) }
+{
+    for byte in event {
+        line.push(plain_byte(*byte))?;
+    }
+    Ok(())
+}
+
+/// The byte; `?` in place of what JSON escapes, and of DEL.
+fn plain_byte(byte: u8) -> u8
+    ensures { result ≡ plain_byte byte }
+{
+    if byte < b' ' || byte == 0x7F || byte == b'"' || byte == b'\\' {
+        b'?'
+    } else {
+        byte
+    }
 }
 
 /// Adds the method and the path, if they were read.
@@ -59,15 +237,6 @@ fn push_asked(line: &mut Vec<u8>, asked: &Option<Asked>) -> Result<(), AllocErro
     line.extend_from_slice(method(asked.verb).as_bytes())?;
     line.extend_from_slice(b" /v1/")?;
     line.extend_from_slice(&asked.path)
-}
-
-fn status_shown(alloc: Global, status: Option<u16>) -> Result<String, AllocError>
-    ensures { IfOk result (λ text. string_bytes text ≡ status_text status) }
-{
-    match status {
-        Some(code) => format!(in alloc; "{code}"),
-        None => String::from_str(alloc, "-"),
-    }
 }
 
 /// The method of requests with the verb.
@@ -116,7 +285,7 @@ fn push_segment(shown: &mut Vec<u8>, segment: &[u8]) -> Result<(), AllocError>
 fn shown_byte(byte: u8) -> u8
     ensures { result ≡ shown_byte byte }
 {
-    if byte > b' ' && byte < 0x7F {
+    if byte > b' ' && byte < 0x7F && byte != b'"' && byte != b'\\' {
         byte
     } else {
         b'?'

@@ -1,25 +1,25 @@
-//! A store that tells the log what it is asked.
+//! A store that notes what it is asked and how it answers.
 
-use crate::log::Log;
-use broker::Store;
+use crate::notes::Notes;
+use broker::{Noticed, Store};
 use broker_types::{Answer, Ask, Fault, Moment, Words};
 use std::rc::Rc;
 
-/// A store over another one: what is asked is noted in the log, if there is one, and the other answers.
+/// A store over another one, which answers: what is asked and answered is noted.
 #[derive(Drop)]
 pub(crate) struct Noting<S: Store> {
     store: S,
-    log: Option<Rc<Log>>,
+    notes: Rc<Notes>,
 }
 
 impl<S: Store> Noting<S> {
     ghost use Rattle.std.specs.Prelude.{◌≡◌};
 
     /// The store, with its rows.
-    pub(crate) fn new(store: S, log: Option<Rc<Log>>) -> Noting<S>
+    pub(crate) fn new(store: S, notes: Rc<Notes>) -> Noting<S>
         ensures { ⟦<Noting<S> as Store>⟧.seen result ≡ S.seen store }
     {
-        Noting { store, log }
+        Noting { store, notes }
     }
 }
 
@@ -29,13 +29,24 @@ impl<S: Store> Store for Noting<S> {
     ghost seen = { λ noting. S.seen (store_of noting) };
 
     fn one(&mut self, moment: Moment, words: &Words, ask: &Ask<'_>) -> Result<Answer, Fault> {
-        if let Some(log) = &self.log {
-            log.note(ask);
+        self.notes.ask(ask);
+        let answered = self.store.one(moment, words, ask);
+        if let Ok(answer) = &answered {
+            let noticed = self.store.noticed();
+            let clock = match noticed.clock {
+                Some(clock) => Some(clock.seconds()),
+                None => None,
+            };
+            self.notes.answer(answer, noticed.accessor, clock);
         }
-        self.store.one(moment, words, ask)
+        answered
     }
 
     fn failed(&self) -> bool {
         self.store.failed()
+    }
+
+    fn noticed(&self) -> Noticed {
+        self.store.noticed()
     }
 }

@@ -8,18 +8,21 @@ ghost use Rattle.hub.specs.World.{Connections};
 ghost use Rattle.hub.specs.declared.serve.ConnectionFault.TheVariants.{Broker};
 ghost use Rattle.server.specs.ServedHub.{LeavesBelow, LeavesServed, is_skipped};
 
+use crate::notes::Traffic;
+use crate::pulling::Pulling;
 use crate::replying::Replying;
 use crate::service::{Round, Service};
-use crate::waiting::{Wait, is_over};
+use crate::waiting::{Claim, Wait, claim_of, is_over, is_silent};
 use broker::Store;
 use broker_types::Fault;
 use endpoints::{NowReading, NowSink, NowWriting};
 use hub::{Clock, ConnectionFault, Hub, Link, Turn, WordSource, take_turn};
 use mio::event::Event;
 use mio::net::TcpStream;
+use status::Closing;
 use std::alloc::Global;
 use std::io::{ErrorKind, Read};
-use std::net::Shutdown;
+use std::net::{Shutdown, SocketAddr};
 
 /// A connection: its stream, its link, what is known of its readiness, and what its peer is waited for. Times are
 /// milliseconds since the start.
@@ -42,6 +45,10 @@ pub(crate) struct Peer {
     leaves_by: Option<u64>,
     /// The status of the reply that was made in the last turn.
     status: Option<u16>,
+    /// The number of the fault of the last turn.
+    fault: Option<u8>,
+    /// What came since the last reply but for that one, and its length.
+    traffic: Traffic,
 }
 
 /// What a turn left of a connection.
@@ -57,7 +64,13 @@ pub(crate) enum Stay {
 
 impl Peer {
     /// A connection that was just accepted.
-    pub(crate) fn new(alloc: Global, stream: TcpStream, conn: u64, now: u64) -> Peer {
+    pub(crate) fn new(
+        alloc: Global,
+        stream: TcpStream,
+        address: SocketAddr,
+        conn: u64,
+        now: u64,
+    ) -> Peer {
         Peer {
             stream,
             link: Link::new(alloc, conn),
@@ -70,6 +83,8 @@ impl Peer {
             last_byte: now,
             leaves_by: None,
             status: None,
+            fault: None,
+            traffic: Traffic::none(address),
         }
     }
 
@@ -106,7 +121,10 @@ impl Peer {
             → LeavesBelow round.first all service.new.hub }
     {
         self.is_queued = false;
-        self.status = None;
+        self.fault = None;
+        if self.status.take().is_some() {
+            self.traffic = Traffic::none(self.traffic.peer);
+        }
         if self.wait == Wait::Farewell {
             return Ok(self.drain());
         }
@@ -117,24 +135,29 @@ impl Peer {
         if self.is_done(&service.hub) {
             return Ok(self.begin_farewell(round.now));
         }
-        let mut reader = NowReading::new(&self.stream);
+        let mut reader = Pulling::new(NowReading::new(&self.stream));
         let mut writer = Replying::new(NowWriting::new(&self.stream));
-        match take_turn(
+        let taken = take_turn(
             &mut service.hub,
             &mut self.link,
             &mut reader,
             &mut writer,
             &mut service.clock,
             &mut service.words,
-        ) {
+        );
+        self.traffic.count(reader.count(), writer.len());
+        match taken {
             Ok(turn) => {
-                let is_emptied = reader.is_emptied();
+                let is_emptied = reader.source().is_emptied();
                 let is_full = writer.sink().is_full();
                 self.status = made_in(turn, writer.status());
                 self.unmark(turn, is_emptied, is_full);
                 Ok(self.settle(&service.hub, turn, round.now))
             }
-            Err(fault) => unskipped(fault),
+            Err(fault) => {
+                self.fault = Some(fault.number());
+                unskipped(fault)
+            }
         }
     }
 
@@ -142,6 +165,11 @@ impl Peer {
     /// for.
     pub(crate) fn status(&self) -> Option<u16> {
         self.status
+    }
+
+    /// What came since the reply before, and the length of what was sent last.
+    pub(crate) fn traffic(&self) -> Traffic {
+        self.traffic
     }
 
     /// Takes down that a call would have waited now, or that a read gave fewer bytes than there was room for, and so
@@ -252,20 +280,43 @@ impl Peer {
 
     // ---- limits
 
-    /// Whether its time is over.
-    pub(crate) fn is_over(&self, now: u64, is_pressed: bool) -> bool {
+    /// Why it is closed, if its time is over.
+    pub(crate) fn over(&self, now: u64, is_pressed: bool) -> Option<Closing> {
         let silence = now.saturating_sub(self.last_byte);
         let age = now.saturating_sub(self.since);
-        let has_to_leave = matches!(self.leaves_by, Some(by) if by <= now);
-        has_to_leave || is_over(self.wait, silence, age, is_pressed)
+        if matches!(self.leaves_by, Some(by) if by <= now) {
+            return Some(Closing::Stopped);
+        }
+        if !is_over(self.wait, silence, age, is_pressed) {
+            return None;
+        }
+        match self.wait {
+            Wait::NextRequest => Some(Closing::Idle),
+            Wait::Farewell => Some(self.end()),
+            Wait::Progress if is_silent(silence) => Some(Closing::Silent),
+            Wait::Progress => Some(Closing::Slow),
+        }
     }
 
-    /// Since when it has been idle, if it is: it is between requests, and nothing of it waits to be read.
-    pub(crate) fn idle_since(&self) -> Option<u64> {
-        match self.wait {
-            Wait::NextRequest if !self.is_queued => Some(self.since),
-            _ => None,
+    /// Why it is closed, if its last turn has ended it.
+    pub(crate) fn end(&self) -> Closing {
+        if self.fault.is_some() {
+            Closing::Fault
+        } else if self.leaves_by.is_some() {
+            Closing::Stopped
+        } else {
+            Closing::Ended
         }
+    }
+
+    /// The number of the fault of the last turn.
+    pub(crate) fn fault(&self) -> Option<u8> {
+        self.fault
+    }
+
+    /// Whether it may have to leave its place to one that waits for it.
+    pub(crate) fn claim(&self, now: u64) -> Claim {
+        claim_of(self.wait, self.is_queued, now.saturating_sub(self.since))
     }
 }
 

@@ -1,4 +1,4 @@
-//! A sink that knows the status of the reply that it is given.
+//! A sink that knows the status and the length of the reply that it is given.
 
 use endpoints::{Failed, NowSink};
 
@@ -7,6 +7,7 @@ use endpoints::{Failed, NowSink};
 pub(crate) struct Replying<W: NowSink> {
     sink: W,
     status: Option<u16>,
+    len: usize,
 }
 
 impl<W: NowSink> Replying<W> {
@@ -17,7 +18,11 @@ impl<W: NowSink> Replying<W> {
         ensures written { ⟦<Replying<W> as NowSink>⟧.written result ≡ W.written sink }
         ensures failing { ⟦<Replying<W> as NowSink>⟧.has_failed result ≡ W.has_failed sink }
     {
-        Replying { sink, status: None }
+        Replying {
+            sink,
+            status: None,
+            len: 0,
+        }
     }
 
     /// The sink below.
@@ -28,6 +33,11 @@ impl<W: NowSink> Replying<W> {
     /// The status of the reply that the last push began, if that was a reply.
     pub(crate) fn status(&self) -> Option<u16> {
         self.status
+    }
+
+    /// How many bytes the last push was given.
+    pub(crate) fn len(&self) -> usize {
+        self.len
     }
 }
 
@@ -40,6 +50,7 @@ impl<W: NowSink> NowSink for Replying<W> {
 
     fn push_now(&mut self, bytes: &[u8]) -> Result<usize, Failed> {
         self.status = status_of(bytes);
+        self.len = bytes.len();
         self.sink.push_now(bytes)
     }
 

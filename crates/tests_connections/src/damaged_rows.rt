@@ -4,7 +4,7 @@
 use crate::exchange::{READ, moment};
 use crate::stores::{Trial, holds_in_memory};
 use crate::streams::NOT_FOUND;
-use broker::{Store, handle};
+use broker::{Noticed, Store, handle};
 use broker_rows::write_first_rows;
 use broker_sql::SqlStore;
 use broker_types::{Answer, Ask, Bytes, Fault, Moment, TextBuf, Words};
@@ -76,6 +76,10 @@ impl Store for Planted {
 
     fn failed(&self) -> bool {
         self.failed
+    }
+
+    fn noticed(&self) -> Noticed {
+        Noticed::nothing()
     }
 }
 

@@ -1,6 +1,6 @@
 //! A script that is run over a store which fails at its second request.
 
-use broker::{ListStore, Store};
+use broker::{ListStore, Noticed, Store};
 use broker_types::{Answer, Ask, Fault, Moment, Words};
 use endpoints::Writing;
 use hub::Hub;
@@ -48,6 +48,10 @@ impl Store for Stumbling {
 
     fn failed(&self) -> bool {
         self.failed
+    }
+
+    fn noticed(&self) -> Noticed {
+        Noticed::nothing()
     }
 }
 

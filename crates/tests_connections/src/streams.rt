@@ -1,6 +1,6 @@
 //! Streams of pieces over a store that fails.
 
-use broker::{ListStore, Store};
+use broker::{ListStore, Noticed, Store};
 use broker_types::{Answer, Ask, Bytes, Fault, Moment, Words};
 use hub::{Event, Hub, run};
 use std::alloc::Global;
@@ -48,6 +48,10 @@ impl Store for Broken {
 
     fn failed(&self) -> bool {
         self.failed
+    }
+
+    fn noticed(&self) -> Noticed {
+        Noticed::nothing()
     }
 }
 

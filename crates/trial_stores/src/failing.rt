@@ -5,7 +5,7 @@ ghost use Rattle.broker_types.specs.Answer.{HasRoom, response_of};
 ghost use Rattle.broker_model.specs.ListedResponses.{IsListed};
 
 use crate::base::{Base, Outcome, Request};
-use broker::Store;
+use broker::{Noticed, Store};
 use broker_types::{Answer, Ask, Fault, Moment, Words};
 use rand_chacha::ChaCha20Rng;
 use rand_core::{Rng, SeedableRng};
@@ -154,5 +154,9 @@ impl<B: Base> Store for Failing<B> {
 
     fn failed(&self) -> bool {
         self.has_failed
+    }
+
+    fn noticed(&self) -> Noticed {
+        Noticed::nothing()
     }
 }

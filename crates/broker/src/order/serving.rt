@@ -12,6 +12,7 @@ ghost use Rattle.broker_model.specs.Order as order;
 ghost use Rattle.broker_model.specs.ServedAsks.{is_open, served};
 ghost use Rattle.broker_rows.specs.Operating.{BeginsBy};
 ghost use Rattle.broker_rows.specs.Representing.{Represents, Gives};
+ghost use Rattle.broker.specs.Noticing.{noticed_by};
 ghost use Rattle.broker.specs.Safely.{AnswersSafely};
 ghost use Rattle.broker.specs.Stages.{IsServed};
 
@@ -44,6 +45,7 @@ pub(crate) fn answer_caller<T: RecordsTx>(
     ensures safely { AnswersSafely (T.seen tx.old) (T.seen tx.new)
         (λ b. (is_open ask.now ≡ false) × BeginsBy caller.entry context.now (T.seen tx.old).rows b) result }
     ensures faults { IfErr result IsNotBadStart }
+    ensures noticed { noticed_by aids.new ≡ noticed_by aids.old }
 {
     operations_do_as_told();
     let token = caller.token;
@@ -76,6 +78,7 @@ fn serve<T: RecordsTx>(
         (Represents (Some caller.entry.token) (T.seen tx.new).rows b)
         result (served b (Some caller.entry.token) (names_of context.now.words) ask.now) }
     ensures call { IsRequestCall (T.seen tx.old) (T.seen tx.new) result IsNotBadStart }
+    ensures noticed { noticed_by aids.new ≡ noticed_by aids.old }
 {
     // Who may not ask is denied before it is told that there is no route.
     let found = match route(&aids.routers, tx, ask.verb, ask.path.as_str()) {

@@ -2,7 +2,7 @@ use Rattle.std.proofs.Common.{◌≡◌, ◌≢◌, ◌∙◌, ◌∷◌, [], ar
 use Rattle.std.proofs.Common.{refl, ap, codes, Bor, rules}
 use Rattle.clap.specs.Words.{found_of, one_text}
 use Rattle.clap.proofs.WalkLemmas.{first_value-rows, one_text-rows}
-use Rattle.brokerd.proofs.FlagLemmas.{is_flag}
+use Rattle.brokerd.proofs.FlagLemmas.{given_of, is_flag}
 use Rattle.brokerd.proofs.command.meant.Goals as goal
 
 none_of : {X : Type 0} (o : Option X) → ((x : X) → o ≢ Some x) → o ≡ None
@@ -51,7 +51,13 @@ pub returns-in_err-places : goal.returns-in_err-places
 returns-in_err-places c =
     let differs : c.args.name.now ≢ codes "check" = search rules in
     rw (c.from_residual-in_err-places.ensures)
-    (search rules, λ is. absurd (differs is), λ _. inr (inr (c.in_err-places.ensures.none refl)))
+    (search rules, λ is. absurd (differs is), λ _. inr (inr (inl (c.in_err-places.ensures.none refl))))
+
+pub returns-in_err-log_form : goal.returns-in_err-log_form
+returns-in_err-log_form c =
+    let differs : c.args.name.now ≢ codes "check" = search rules in
+    rw (c.from_residual-in_err-log_form.ensures)
+    (search rules, λ is. absurd (differs is), λ _. inr (inr (inr (c.in_err-log_form.ensures.none refl))))
 
 pub returns : goal.returns
 returns c =
@@ -61,14 +67,17 @@ returns c =
       sym (c.get_str-2.ensures ∙ first_value-rows f (codes "listen"))
           ∙ ap (λ (o : Option (Bor (List ℕ))). option_map (λ s. s.now) o) c.in-Some.is,
       c.in_ok-count.ensures.some,
+      c.is_some.ensures
+          ∙ given_of c.get_str-4.result _ (c.get_str-4.ensures ∙ first_value-rows f (codes "connections")),
       c.in_ok-places.ensures.some,
       rw (← one_text-rows f (codes "stop-on-input"))
           (is_flag (one_text f (codes "stop-on-input")) c.get_flag.result c.get_flag.ensures.none
           c.get_flag.ensures.other c.get_flag.ensures.value),
-      rw (← one_text-rows f (codes "log"))
-          (is_flag (one_text f (codes "log")) c.get_flag-2.result c.get_flag-2.ensures.none c.get_flag-2.ensures.other
-          c.get_flag-2.ensures.value),
+      c.is_logged.ensures,
+      c.in_ok-log_form.ensures.some,
+      c.get_str-5.ensures ∙ first_value-rows f (codes "log-file"),
+      c.get_str-6.ensures ∙ first_value-rows f (codes "status"),
       rw (← one_text-rows f (codes "check"))
-          (is_flag (one_text f (codes "check")) c.get_flag-3.result c.get_flag-3.ensures.none c.get_flag-3.ensures.other
-          c.get_flag-3.ensures.value),
+          (is_flag (one_text f (codes "check")) c.get_flag-2.result c.get_flag-2.ensures.none c.get_flag-2.ensures.other
+          c.get_flag-2.ensures.value),
     )

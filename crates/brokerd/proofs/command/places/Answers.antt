@@ -14,6 +14,6 @@ returns-in_default-clause-none c = λ _.
 pub returns-clause-some : goal.returns-clause-some
 returns-clause-some c =
     let f = found_of c.args.found.now in
-    let given = counted 256 Reads (one_text f (codes "at-once")) c.in-Ok.given
+    let given = counted 1024 Reads (one_text f (codes "at-once")) c.in-Ok.given
     (λ t v g. (g.0.0, g.0.1)) c.in-Ok.ensures.none c.in-Ok.ensures.value in
     rw (c.unwrap_or.ensures, ← one_text-rows f (codes "at-once")) given

@@ -17,6 +17,10 @@ returns c =
     let six = c.in_ok-arg-6.ensures.shape c.stop_on_input.ensures.local
     ∙ ap₂ with_rule five c.stop_on_input.ensures.rule in
     let seven = c.in_ok-arg-7.ensures.shape c.log.ensures.local ∙ ap₂ with_rule six c.log.ensures.rule in
-    IfOk-weaker c.arg-8.result _ _ (λ d h. h.shape c.check_first.ensures.local
-    ∙ ap₂ with_rule seven c.check_first.ensures.rule)
-    c.arg-8.ensures
+    let eight = c.in_ok-arg-8.ensures.shape c.log_format.ensures.local
+    ∙ ap₂ with_rule seven c.log_format.ensures.rule in
+    let nine = c.in_ok-arg-9.ensures.shape c.log_file.ensures.local ∙ ap₂ with_rule eight c.log_file.ensures.rule in
+    let ten = c.in_ok-arg-10.ensures.shape c.status.ensures.local ∙ ap₂ with_rule nine c.status.ensures.rule in
+    IfOk-weaker c.arg-11.result _ _ (λ d h. h.shape c.check_first.ensures.local
+    ∙ ap₂ with_rule ten c.check_first.ensures.rule)
+    c.arg-11.ensures

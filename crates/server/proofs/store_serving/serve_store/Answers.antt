@@ -15,8 +15,14 @@ returns-in_err-serve g c always stands b represents =
     (c.new-hub.ensures.represents b rows) in
     rw (p.1 ∙ ap Err p.2) (rw storage tt)
 
-pub returns-in_err-shared : goal.returns-in_err-shared
-returns-in_err-shared g c always stands b represents =
+pub returns-in_err-notes : goal.returns-in_err-notes
+returns-in_err-notes g c always stands b represents =
     let p = err_from_is_err_and c.from_residual.result c.from_residual.ensures.1 in
-    let memory : c.in_err-shared.field-0.0 ≡ Memory = c.in_err-shared.ensures in
+    let memory : c.in_err-notes.field-0.0 ≡ Memory = c.in_err-notes.ensures in
+    rw (p.1 ∙ ap Err p.2) (rw memory tt)
+
+pub returns-in_err-are_all : goal.returns-in_err-are_all
+returns-in_err-are_all g c always stands b represents =
+    let p = err_from_is_err_and c.from_residual-in_err-are_all.result c.from_residual-in_err-are_all.ensures.1 in
+    let memory : c.in_err-are_all.field-0.0 ≡ Memory = c.in_err-are_all.ensures in
     rw (p.1 ∙ ap Err p.2) (rw memory tt)

@@ -18,22 +18,22 @@ returns-then-is_done-clause-served g c = leaves_none g.S.Store.seen _ _ c.args.s
 pub returns-in-Ok-clause-served : goal.returns-in-Ok-clause-served
 returns-in-Ok-clause-served g c =
     leaves_turn g.S.Store.seen _ _ _ _ _ _ _ (Ok c.in-Ok.turn)
-    (Ok c.settle.result) c.args.service.now.hub c.take_turn.new.hub tt c.in-Ok.ensures.took
+    (Ok c.settle.result) c.args.service.now.hub c.take_turn-taken.new.hub tt c.in-Ok.ensures.took
 
 pub returns-in-Ok-clause-below : goal.returns-in-Ok-clause-below
 returns-in-Ok-clause-below g c = λ all each.
-    below_others c.args.round.first _ all c.take_turn.new.hub
+    below_others c.args.round.first _ all c.take_turn-taken.new.hub
     (let number = c.conn.ensures in let least = c.if-conn-round.false in omega (arith, number, least))
-    (c.take_turn.ensures.took.others all each)
+    (c.take_turn-taken.ensures.took.others all each)
 
 pub returns-in-Err-clause-served : goal.returns-in-Err-clause-served
 returns-in-Err-clause-served g c =
     leaves_turn g.S.Store.seen _ _ _ _ _ _ _ (Err c.in-Err.fault) c.unskipped.result c.args.service.now.hub
-    c.take_turn.new.hub
+    c.take_turn-taken.new.hub
     (unskipped_of c.in-Err.fault c.unskipped.result c.unskipped.ensures) c.in-Err.ensures.took
 
 pub returns-in-Err-clause-below : goal.returns-in-Err-clause-below
 returns-in-Err-clause-below g c = λ all each.
-    below_others c.args.round.first _ all c.take_turn.new.hub
+    below_others c.args.round.first _ all c.take_turn-taken.new.hub
     (let number = c.conn.ensures in let least = c.if-conn-round.false in omega (arith, number, least))
-    (c.take_turn.ensures.took.others all each)
+    (c.take_turn-taken.ensures.took.others all each)
