@@ -15,7 +15,8 @@ PAGES = "usr/share/doc/dehluvima"
 UNIT = "usr/lib/systemd/system/dehluvima.service"
 PLACES = {"bin/brokerd": "usr/bin/brokerd", "bin/client": "usr/bin/dehluvima-client",
           "bin/dehluvima-run": "usr/bin/dehluvima-run",
-          "examples/client.bash": "usr/share/bash-completion/completions/dehluvima-client"}
+          "examples/client.bash": "usr/share/bash-completion/completions/dehluvima-client",
+          "examples/logrotate": "etc/logrotate.d/dehluvima"}
 CALL = re.compile(rb"(?<![\w/.-])client (?=-|[a-z]+ )")  # of a script, where a page shows it too
 SHOWN = re.compile(rb"^```sh\n.*?^```$", re.MULTILINE | re.DOTALL)
 MAINTAINER_SCRIPTS = ("postinst", "prerm", "postrm")
@@ -64,7 +65,9 @@ def control_files(placed, version):
     kilobytes = sum(-(-len(data) // 1024) for data, _ in placed.values())
     fields = source("control").replace("\n", f"\nVersion: {version}\nInstalled-Size: {kilobytes}\n", 1)
     sums = "".join(f"{hashlib.md5(data).hexdigest()}  {path}\n" for path, (data, _) in sorted(placed.items()))
-    control = {"DEBIAN/control": (fields.encode(), 0o644), "DEBIAN/md5sums": (sums.encode(), 0o644)}
+    settings = "".join(f"/{path}\n" for path in sorted(placed) if path.startswith("etc/"))
+    control = {"DEBIAN/control": (fields.encode(), 0o644), "DEBIAN/md5sums": (sums.encode(), 0o644),
+               "DEBIAN/conffiles": (settings.encode(), 0o644)}
     return control | {f"DEBIAN/{name}": (source(name).encode(), 0o755) for name in MAINTAINER_SCRIPTS}
 
 

@@ -125,7 +125,9 @@ install_and_purge() {
     stop
     did "removing it" dpkg --remove dehluvima
     same "the database, where it is removed" "$(mode /var/lib/dehluvima/broker.db)" "600 dehluvima:dehluvima"
+    inside install -d -o dehluvima /var/log/dehluvima
     did "purging it" dpkg --purge dehluvima
+    if [ -e "$system/var/log/dehluvima" ]; then fail "a purge" "the logs stay"; else pass; fi
     rm "$system/root/$package"
     same "what a purge leaves" "$(diff <(echo "$before") <(state))" ""
 }
@@ -148,6 +150,7 @@ same "the fields" "$(dpkg-deb -f "$found/1/$package" Package Version Architectur
 Version: $version
 Architecture: amd64
 Depends: adduser, libc6 (>= 2.34)"
+same "the files of settings" "$(dpkg-deb -I "$found/1/$package" conffiles)" /etc/logrotate.d/dehluvima
 listed=$(dpkg-deb -c "$found/1/$package")
 same "the owners" "$(awk '{ print $2 }' <<< "$listed" | sort -u)" root/root
 same "the modes" "$(awk '{ print $1 }' <<< "$listed" | sort -u | xargs)" "-rw-r--r-- -rwxr-xr-x drwxr-xr-x"

@@ -64,7 +64,7 @@ for program in brokerd client; do
     if [ $? -eq 0 ] && [ "$said" = "$program $version" ]; then pass; else fail "$program --version" "$said"; fi
 done
 said=$("$unpacked/bin/dehluvima-run" "$unpacked/bin/brokerd" serve --listen nowhere --stop-on-input 2>&1 > /dev/null)
-if [ $? -eq 1 ] && [ "$said" = 'fault 5' ]; then pass; else fail "dehluvima-run" "$said"; fi
+if [ $? -eq 1 ] && [ "${said##*$'\n'}" = 'fault 5' ]; then pass; else fail "dehluvima-run" "$said"; fi
 if command -v systemd-analyze > /dev/null; then
     for unit in dehluvima.service examples/dehluvima-tls.service; do
         said=$(verify "$unit" verified '')

@@ -250,7 +250,7 @@ with sqlite3.connect('$file') as database:
     start --until-stopped --db "$file"
     curl -s -m 20 -o "$found/body" -H "X-Vault-Token: $token" "http://127.0.0.1:$port/v1/secret/data/app"
     wait "$pid"
-    if [ $? -eq 1 ] && [ "$(cat "$found/served.err")" = 'fault 3' ]; then
+    if [ $? -eq 1 ] && [ "$(tail -n 1 "$found/served.err")" = 'fault 3' ]; then
         pass
     else
         fail "a damaged row" "it is served on"
@@ -323,6 +323,7 @@ keep_in_a_file
 if [ -z "${CLIENT:-}" ]; then bin/run-program --build client; fi # before three scripts call it
 count_together client_sends.py client_asks.py client_scripts.py
 count python3 tests/served/databases.py "$program"
+count python3 tests/served/causes.py "$program"
 count python3 tests/served/large_files.py "$program"
 count python3 tests/served/damaged.py "$program"
 limit=300 count python3 tests/served/remembered.py "$program"
@@ -331,6 +332,7 @@ count python3 tests/upgrade/rewritten.py "$program"
 count python3 tests/upgrade/killed.py "$program" --keys 5000
 count_together many_peers.py slow_peers.py "slow_peers.py --alone" scarce_descriptors.py stopping.py signalled.py
 count python3 tests/served/logged.py "$program"
+count_together status.py scraped.py slow.py
 count python3 tests/served/short_lives.py "$program" 4000
 count python3 tests/served/fault_at_once.py "$program"
 count python3 tests/drawn_at_once.py "$program"

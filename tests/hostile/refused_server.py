@@ -24,6 +24,7 @@ import itertools
 import json
 import os
 import random
+import re
 import shutil
 import socket
 import sqlite3
@@ -46,6 +47,7 @@ LEAST = 90  # allocations of a request, and of a start
 KEYS = 20  # of a file: more than a start rewrites at once
 OLD_BODY = 1 + 3 * 8  # bytes of a key in format 1: its format, and three numbers, with which format 2 begins too
 RULE = f"{HEAP}:0:ENOMEM"  # none, until it is aimed
+FAULT = re.compile(r".*\S.*\nfault ([12])\n")  # why the program ends, and its fault
 numbers = itertools.count(random.randrange(1 << 16))
 
 
@@ -132,9 +134,10 @@ class Served:
         """Waits for the end, and answers the fault that was told."""
         self.process.wait(SECONDS)
         said = self.err.read_bytes().decode()
-        expect(self.process.returncode == 1 and said in ("fault 1\n", "fault 2\n"),
+        found = FAULT.fullmatch(said)
+        expect(self.process.returncode == 1 and found,
                f"it ended with status {self.process.returncode} and {said!r}")
-        return said[6]
+        return found[1]
 
     def ask(self, method, path, token, body=None, wrap_ttl=""):
         """The status and the object of a reply, on a connection of its own."""

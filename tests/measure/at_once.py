@@ -2,7 +2,7 @@
 """Measures requests to `brokerd serve`, or to etcd's HTTP gateway, on several connections at once, by Debian's wrk.
 
     python3 at_once.py rates PROGRAM [--db [FOLDER]] [--connections N..]
-    python3 at_once.py compare BEFORE AFTER [--db [FOLDER]] [--connections N..]
+    python3 at_once.py compare BEFORE AFTER [--db [FOLDER]] [--connections N..] [--with OPTIONS]
     python3 at_once.py etcd [--db [FOLDER]] [--connections N..]
 
 More options: --kinds KIND.. --many MANY --seconds SECONDS --runs RUNS.
@@ -17,8 +17,9 @@ one.
 
 It prints the median of the requests a second, in brackets the least and the greatest, and the median of the processor
 time that the program took for a request. `compare` prints these for two programs, which run side by side and are asked
-by turns, and what AFTER is of BEFORE: the median of the ratios of each turn. An error, or a connection that breaks,
-ends the whole with status 1.
+by turns, and what AFTER is of BEFORE: the median of the ratios of each turn. OPTIONS are further ones of AFTER, in one
+word, as `--with='--status 127.0.0.1:8201 --log-file LOG'`. An error, or a connection that breaks, ends the whole with
+status 1.
 """
 
 import argparse
@@ -176,7 +177,9 @@ def main():
     parser = argparse.ArgumentParser(description="measures requests on several connections at once")
     commands = parser.add_subparsers(dest="command", required=True)
     options_of(commands, "rates").add_argument("programs", nargs=1, metavar="PROGRAM")
-    options_of(commands, "compare").add_argument("programs", nargs=2, metavar="PROGRAM")
+    compared = options_of(commands, "compare")
+    compared.add_argument("programs", nargs=2, metavar="PROGRAM")
+    compared.add_argument("--with", dest="options", default="", type=str)
     options_of(commands, "etcd")
     arguments = parser.parse_args()
     with contextlib.ExitStack() as stack:
@@ -187,9 +190,11 @@ def main():
             servers = {"": Gateway(stack.enter_context(Etcd(own_folder())), arguments.many)}
         else:
             names = ("before, ", "after, ") if arguments.command == "compare" else ("",)
-            databases = [["--db", f"{own_folder()}/broker.db"] if arguments.db else [] for _ in names]
-            servers = {name: Asked(stack.enter_context(Broker(program, *database)), arguments.many)
-                       for name, program, database in zip(names, arguments.programs, databases)}
+            options = [["--db", f"{own_folder()}/broker.db"] if arguments.db else [] for _ in names]
+            if arguments.command == "compare":
+                options[1] += arguments.options.split()
+            servers = {name: Asked(stack.enter_context(Broker(program, *words)), arguments.many)
+                       for name, program, words in zip(names, arguments.programs, options)}
         is_in_files = arguments.db is not None or arguments.command == "etcd"
         where = f"files in {arguments.db or tempfile.gettempdir()}" if is_in_files else "memory"
         print(f"{arguments.many} secrets in {where}, {arguments.runs} runs of {arguments.seconds} s. On connections:")

@@ -2,6 +2,7 @@
 
 import contextlib
 import os
+import re
 import socket
 import subprocess
 import time
@@ -11,6 +12,7 @@ PATIENCE = 300.0  # seconds until a program listens
 MOST = 4294967295  # connections of a program
 LISTENS = "0A"  # the state of a socket in /proc/net/tcp
 STUCK = 500_000  # bytes that wait to be sent to a peer that does not read, at least
+FAULT = re.compile(r"(.*\S.*)\n(fault [1-6])\n?")  # why a program ends, and its fault
 
 
 def free_port():
@@ -18,6 +20,13 @@ def free_port():
     with socket.socket() as taken:
         taken.bind(("127.0.0.1", 0))
         return taken.getsockname()[1]
+
+
+def fault_in(said):
+    """The fault in what a program has said before it ended: it says why, in one line, and then which fault it is. What
+    it has said, if it is anything else."""
+    found = FAULT.fullmatch(said)
+    return found[2] if found else said
 
 
 def connect(port, patience=5.0):

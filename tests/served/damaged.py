@@ -20,7 +20,7 @@ import sys
 import tempfile
 from collections import Counter
 
-from broker import Broker, connect, reply, request
+from broker import Broker, connect, fault_in, reply, request
 
 CHANGES = {
     "cut by a byte": lambda body: body[:-1],
@@ -162,7 +162,7 @@ def why_not_told(made, file, asked):
         except subprocess.TimeoutExpired:
             return "the program has not ended"
         said = broker.process.stderr.read().decode()
-    if (status, said) != (1, "fault 3\n"):
+    if (status, fault_in(said)) != (1, "fault 3"):
         return f"the program ended with status {status} and {said[:100]!r}"
     return None if rows_in(file) == before else "the rows have changed"
 

@@ -15,7 +15,7 @@ import subprocess
 import sys
 import tempfile
 
-from broker import Broker
+from broker import Broker, fault_in
 
 TAKEN = {
     "nothing is changed": "",
@@ -75,7 +75,7 @@ def why_not_refused(program, database, fault):
     """Why a database is not refused with a fault, or None if it is."""
     done = subprocess.run([program, "serve", "--listen", "127.0.0.1:0", "--connections", "1", "--db", str(database)],
                           capture_output=True, text=True, timeout=60, check=False)
-    if (done.returncode, done.stdout, done.stderr) == (1, "", f"fault {fault}\n"):
+    if (done.returncode, done.stdout, fault_in(done.stderr)) == (1, "", f"fault {fault}"):
         return None
     return f"status {done.returncode}: {done.stderr[:100]}"
 

@@ -24,7 +24,7 @@ from pathlib import Path
 sys.path[:0] = [str(Path(__file__).resolve().parent), str(Path(__file__).resolve().parent.parent / "hostile")]
 
 import closed_connections
-from broker import connect, free_port, reply, request
+from broker import connect, fault_in, free_port, reply, request
 from hostile import Report, aim, build, environment, scratch
 
 PARTS = {}
@@ -86,7 +86,7 @@ class Served:
         except subprocess.TimeoutExpired:
             return None
         if self.said is None:
-            self.said = self.process.stderr.read().decode().strip()
+            self.said = fault_in(self.process.stderr.read().decode().strip())
         return self.process.returncode, self.said
 
     def connect(self, patience=60.0):

@@ -204,7 +204,8 @@ def next_request(stream):
 
 class Listener:
     """Stands in place of a broker until the block ends: it keeps what it is sent, and answers each request by 204, but
-    for one whose path has `lost`, after which it closes the connection without a reply."""
+    for one whose path has `lost`, after which it closes the connection without a reply. The checks of HAProxy are
+    answered, and neither they nor their connections are kept or counted."""
 
     def __enter__(self):
         self.connections, self.requests = 0, []
@@ -231,6 +232,10 @@ class Listener:
         last = time.monotonic()
         with connection, contextlib.suppress(ConnectionError), connection.makefile("rb") as stream:
             while lines := next_request(stream):
+                if lines[0].startswith(b"GET / "):
+                    self.connections -= 1
+                    connection.sendall(b"HTTP/1.1 404 Not Found\r\nConnection: close\r\nContent-Length: 0\r\n\r\n")
+                    return
                 self.requests.append(lines)
                 last = time.monotonic()
                 if b"lost" in lines[0]:

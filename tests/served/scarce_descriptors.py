@@ -4,9 +4,9 @@
     python3 tests/served/scarce_descriptors.py PROGRAM
 
 A connection that cannot be accepted for want of a descriptor is not lost and not counted as one of `--connections N`;
-the peer that has been idle longest is let go for it; and while nobody is idle the program waits without work. Each case
-prints what it has met, and fails where that is too little. It takes some 15 seconds. The last line is 'N passed, M
-failed'.
+the peer that has been idle longest is let go for it, or else, after a second, the one whose request has been unfinished
+longest; and until then the program waits without work. Each case prints what it has met, and fails where that is too
+little. It takes some 15 seconds. The last line is 'N passed, M failed'.
 """
 
 import contextlib
@@ -66,8 +66,8 @@ def all_are_answered(program):
 
 
 def nobody_is_idle(program):
-    """All places are taken by peers that have sent half a request. While others wait, the program has no work; then the
-    peers are let go, and the others are answered."""
+    """All places are taken by peers that have sent half a request. While others wait, the program has no work; after a
+    second as many peers are let go as there are others, and these are answered."""
     with contextlib.ExitStack() as stack:
         broker = stack.enter_context(limited(program))
         begin = time.monotonic()
@@ -81,14 +81,17 @@ def nobody_is_idle(program):
         for other in others:
             other.sendall(look_up(broker))
         used = broker.processor()
-        time.sleep(2)
+        time.sleep(0.5)
         used = broker.processor() - used
-        expect(used < 0.15, f"{used:.2f} s of processor time in two seconds in which nobody could be taken in")
+        expect(used < 0.1, f"{used:.2f} s of processor time in half a second in which nobody could be taken in")
         found, age = (broker.hold(others), broker.hold(halves)), time.monotonic() - begin
-        expect(found == (0, places), f"after {age:.1f} s {found[0]} others were taken in, {found[1]} have their places")
+        expect(age > 0.9 or found == (0, places),
+               f"after {age:.1f} s {found[0]} others were taken in, {found[1]} have their places")
         statuses = statuses_of(others, 12)
         expect(statuses == [200] * len(others), f"the replies to those that waited are {statuses}")
-        return f"{places} places, {used * 1000:.0f} ms of processor time in two seconds, then {len(others)} answered"
+        left = broker.hold(halves)
+        expect(left >= places - len(others) or time.monotonic() - begin > 4, f"{left} of {places} have their places")
+        return f"{places} places, {used * 1000:.0f} ms of processor time in half a second, then {len(others)} answered"
 
 
 def idle_ones_go_in_their_order(program):

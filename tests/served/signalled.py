@@ -23,7 +23,7 @@ import tempfile
 import time
 from pathlib import Path
 
-from broker import Broker
+from broker import Broker, fault_in
 from cases import between, expect, report, tried
 from stopping import in_flight, served
 
@@ -250,7 +250,7 @@ def by_itself(program):
         status, output, told = ended([*serve, "--nonsense"], folder)
         expect((status, output) == (2, "") and "--nonsense" in told, f"a wrong option: {status}, {told}")
         status, output, told = ended([program, "serve", "--listen", "nowhere", "--stop-on-input"], folder)
-        expect((status, told) == (1, "fault 5\n"), f"a fault: {status}, {told}")
+        expect((status, fault_in(told)) == (1, "fault 5"), f"a fault: {status}, {told}")
         status, output, told = ended([f"{folder}/brokerd", "--stop-on-input"], folder)
         expect((status, output) == (127, ""), f"no program: {status}, {told}")
         status, output, told = ended(serve[:-1], folder)

@@ -18,7 +18,7 @@ import tempfile
 import threading
 import time
 
-from broker import Broker, connect, exchange, free_port, reply, request
+from broker import Broker, connect, exchange, fault_in, free_port, reply, request
 from cases import between, expect, report, tried
 
 CLIENTS = 8
@@ -216,7 +216,7 @@ def standard_input(program):
     for path in ("/dev/null", __file__):
         with open(path, "rb") as opened:
             ended = subprocess.run(words, stdin=opened, capture_output=True, timeout=20)
-        expect((ended.returncode, ended.stderr) == (1, b"fault 5\n"), f"{path}: {ended}")
+        expect((ended.returncode, fault_in(ended.stderr.decode())) == (1, "fault 5"), f"{path}: {ended}")
     with Broker(program, stdin=subprocess.DEVNULL) as broker:
         expect(broker.ask("GET", "auth/token/lookup-self")[0] == 200, "it is stopped without the option")
     return "a pipe, a file, /dev/null, and none of them"
