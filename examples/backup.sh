@@ -49,7 +49,7 @@ is_read() {
     # It says first that it opens a large one.
     said=${said#"opening $part/read/$name: "* MB$'\n'}
     [[ $said != "root token: "* ]] || fail "there is no broker in $file"
-    [ "$said" = 'fault 5' ]
+    [ "${said##*$'\n'}" = 'fault 5' ]
 }
 
 command -v "$brokerd" > /dev/null || fail "there is no $brokerd: put brokerd on the PATH, or name it by BROKERD"

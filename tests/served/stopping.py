@@ -210,7 +210,7 @@ def the_limit(program):
 def standard_input(program):
     """A pipe that is at its end stops it at once; a file or /dev/null is refused; without the option it does not
     matter."""
-    words = [program, "serve", "--listen", "127.0.0.1:0", "--stop-on-input"]
+    words = [program, "serve", "--listen", "127.0.0.1:0", "--stop-on-input", "--until-stopped"]
     ended = subprocess.run(words, input=b"", capture_output=True, timeout=20)
     expect((ended.returncode, ended.stderr) == (0, b""), f"a pipe at its end: {ended}")
     for path in ("/dev/null", __file__):
