@@ -2,9 +2,9 @@
 """The log of `brokerd serve --log`: a line for each request, for people and for machines, without a secret; what one
 token did; a log that nobody reads, or for which there is no room, stops nobody; a log that is rotated loses no line.
 
-    python3 tests/served/logged.py PROGRAM [--requests N]
+    python3 tests/served/logged.py PROGRAM
 
-N requests are made while a log is rotated, or 3,000. The last line is 'N passed, M failed'.
+The last line is 'N passed, M failed'.
 """
 
 import concurrent.futures
@@ -35,6 +35,8 @@ MEMBERS = ["time", "status", "micros", "method", "path", "peer", "accessor", "re
 SECRET, VERSION = "kept-by-nobody-else", "4711"
 FLOOD = 5000
 ROOM = 8192  # bytes of a file for which there is room, in place of a full disk
+ROTATIONS = 3
+APART = 1.3  # seconds from one rotation to the next: more than the second after which the program looks
 
 
 class Logged:
@@ -356,20 +358,21 @@ def asks_of(log):
     return [int(number) for number in re.findall(r" /v1/cubbyhole/(\d+) ", log)]
 
 
-def rotated(program, count):
+def rotated(program):
     """A file that is moved away under load, by `logrotate` if it is there, is made anew for its owner alone within a
     second. No line is lost or cut, and none is in the old file after that second."""
     with tempfile.TemporaryDirectory() as place, Logged(program, file=f"{place}/broker.log") as broker:
         file = Path(place, "broker.log")
         expect(stat.S_IMODE(file.stat().st_mode) == 0o600, "others may read the log")
-        rotations = []
+        rotations, count, begin = [], 0, time.monotonic()
         with connect(broker.port) as connection:
-            for number in range(count):
-                status = exchange(connection, request("GET", f"cubbyhole/{number}", broker.token))[0]
+            while time.monotonic() - begin < APART * (ROTATIONS + 1):
+                status = exchange(connection, request("GET", f"cubbyhole/{count}", broker.token))[0]
                 expect(status == 404, f"a request is answered {status}")
-                if number % (count // 3) == count // 6:
+                count += 1
+                if len(rotations) < ROTATIONS and time.monotonic() - begin >= APART * (len(rotations) + 1):
                     rotations.append(rotate(place))
-        time.sleep(1.1)
+                time.sleep(0.0005)
         for number in range(count, count + 10):
             broker.ask(request("GET", f"cubbyhole/{number}", broker.token))
         broker.stop()
@@ -380,12 +383,12 @@ def rotated(program, count):
             expect(text.endswith("\n"), "a line is cut")
         numbers = [number for text in parts for number in asks_of(text)]
         expect(numbers == list(range(count + 10)), f"{len(numbers)} lines of {count + 10}")
-        expect(all(asks_of(text) for text in parts) and len(parts) == 4, f"{len(parts)} files")
+        expect(all(asks_of(text) for text in parts) and len(parts) == ROTATIONS + 1, f"{len(parts)} files")
         late = [times[-1] - moment for times, moment in zip(map(moments, parts), rotations)]
         expect(max(late) < 1, f"a line of the old file is {max(late)} s late")
         expect(stat.S_IMODE(file.stat().st_mode) == 0o600, "others may read the new log")
     how = "logrotate" if shutil.which("logrotate", path="/usr/sbin:/usr/bin:/sbin:/bin") else "a move"
-    return f"{count} requests over three rotations by {how}"
+    return f"{count} requests over {ROTATIONS} rotations by {how}"
 
 
 def moments(log):
@@ -465,11 +468,10 @@ def no_file(program):
 
 
 def main():
-    count = int(sys.argv[3]) if sys.argv[2:3] == ["--requests"] else 3000
     cases = [lines, objects, what_one_token_did, no_token, pipelined, nobody_reads, the_reader_is_gone, many_at_once,
              no_folder, no_room, no_file]
     outcomes = [(case, tried(case, sys.argv[1])) for case in cases]
-    return report("log", [*outcomes, (rotated, tried(rotated, sys.argv[1], count))])
+    return report("log", [*outcomes, (rotated, tried(rotated, sys.argv[1]))])
 
 
 if __name__ == "__main__":
