@@ -297,6 +297,16 @@ def no_token(program):
     return f"{count} requests"
 
 
+def soon(program):
+    """The line of a request is written within a fifth of a second, though nothing else comes."""
+    with Logged(program) as broker, connect(broker.port) as connection:
+        for _ in range(5):
+            expect(exchange(connection, request("GET", "auth/token/lookup-self", broker.token))[0] == 200, "no reply")
+            expect(select.select([broker.process.stderr], [], [], 0.2)[0], "no line")
+            broker.line()
+    return "five requests"
+
+
 def pipelined(program):
     """Of requests that come at once, the first has all bytes that were read with it."""
     with Logged(program) as broker:
@@ -468,8 +478,8 @@ def no_file(program):
 
 
 def main():
-    cases = [lines, objects, what_one_token_did, no_token, pipelined, nobody_reads, the_reader_is_gone, many_at_once,
-             no_folder, no_room, no_file]
+    cases = [lines, objects, what_one_token_did, no_token, soon, pipelined, nobody_reads, the_reader_is_gone,
+             many_at_once, no_folder, no_room, no_file]
     outcomes = [(case, tried(case, sys.argv[1])) for case in cases]
     return report("log", [*outcomes, (rotated, tried(rotated, sys.argv[1]))])
 

@@ -42,9 +42,12 @@ NUMBERS = {"gauge": {"dehluvima_build_info", "process_start_time_seconds", "proc
                      "dehluvima_secrets_at_start", "dehluvima_responses_at_start"},
            "counter": {"dehluvima_requests_total", "dehluvima_connections_accepted_total",
                        "dehluvima_connections_closed_total", "dehluvima_faults_total",
-                       "dehluvima_log_lines_dropped_total"},
+                       "dehluvima_log_lines_dropped_total", "dehluvima_commits_total",
+                       "dehluvima_commit_seconds_total"},
            "histogram": {"dehluvima_request_seconds"}}
-IN_A_FILE = {"dehluvima_database_bytes", "dehluvima_database_log_bytes"}
+IN_A_FILE = {"dehluvima_database_bytes", "dehluvima_database_log_bytes", "dehluvima_commits_total",
+             "dehluvima_commit_seconds_total"}
+WRITES = 20
 SECRETS = ("kept-by-nobody-else", "name-of-a-secret", "name-of-a-member", "name-of-a-policy")
 
 
@@ -292,6 +295,25 @@ def counters(program, folder):
     return f"{total} requests, {len(last)} samples"
 
 
+@in_folder
+def commits(program, folder):
+    """Each write is a commit and takes some time, and no read is one but that which moves the clock."""
+    with Watched(program, folder=folder) as broker:
+        begin = time.time()
+        first, _ = broker.metrics()
+        for number in range(WRITES):
+            broker.ask("POST", f"secret/data/{number}", '{"data":{}}')
+        for number in range(5 * WRITES):
+            broker.ask("GET", f"secret/data/{number % WRITES}")
+        last, _ = broker.metrics()
+        seconds = time.time() - begin
+    found = of(last, "dehluvima_commits_total") - of(first, "dehluvima_commits_total")
+    took = of(last, "dehluvima_commit_seconds_total") - of(first, "dehluvima_commit_seconds_total")
+    expect(WRITES <= found <= WRITES + seconds + 1, f"{found} commits of {WRITES} writes in {seconds:.1f} s")
+    expect(0 < took < seconds, f"they took {took} of {seconds:.1f} s")
+    return f"{found:.0f} commits of {WRITES} writes and {5 * WRITES} reads"
+
+
 def in_memory(program):
     """A gauge whose number is not known has no line."""
     with Watched(program) as broker:
@@ -386,8 +408,8 @@ def address_in_use(program):
     return "fault 5"
 
 
-CASES = [texts, refusals, long_heads, slow_heads, places, full, probes, counters, in_memory, a_second_start,
-         nothing_of_secrets, while_it_stops, address_in_use]
+CASES = [texts, refusals, long_heads, slow_heads, places, full, probes, counters, commits, in_memory,
+         a_second_start, nothing_of_secrets, while_it_stops, address_in_use]
 
 
 if __name__ == "__main__":

@@ -19,7 +19,7 @@ use crate::telling::tell_why;
 use broker_sql::{SqlStore, prepare};
 use broker_types::{Fault, Moment, TokenText, Words};
 use hub::{Clock, ConnectionFault, WordSource};
-use records_sql::{Cause, LastCause, Numbers, SqlRecords};
+use records_sql::{Cause, Commits, LastCause, Numbers, SqlRecords};
 use server::{
     Log, Settings, SystemClock, Watched, begin_log, begin_status, seeded, serve_store, shared, tell,
 };
@@ -137,8 +137,24 @@ fn serve_opened<S: Alter + Drop>(
     watched: Option<Watched>,
 ) -> Result<(), ServeError> {
     records.tell_to(last);
+    let watched = counted(rt, &mut records, watched)?;
     let its_log = shared(log)?;
     serve_records(rt, records, settings, its_log, watched)
+}
+
+/// What operators are told, with the commits of the records from now on.
+fn counted<S: Alter>(
+    rt: &HostRuntime,
+    records: &mut SqlRecords<S>,
+    watched: Option<Watched>,
+) -> Result<Option<Watched>, AllocError> {
+    let Some(mut watched) = watched else {
+        return Ok(None);
+    };
+    let commits = Commits::new(rt)?;
+    records.count_in(&commits);
+    watched.count_commits(commits.times()?, commits.micros()?);
+    Ok(Some(watched))
 }
 
 /// Makes an empty file that its owner alone may read and write, if there is none.

@@ -1,19 +1,25 @@
-//! Which failure came last.
+//! Which failure came last, and what is told of commits.
 
 ghost use Rattle.std.specs.Prelude.{◌≡◌, None, Some};
 ghost use Rattle.records_sql.specs.Causes.{after};
 
 use crate::cause::Cause;
+use crate::commits::Commits;
 use std::alloc::{AllocError, Global};
 use std::cell::Cell;
 use std::marker::Model;
 use std::rc::Rc;
+use std::time::Instant;
 
 /// Why the last call failed, if one has.
 pub struct Failure {
     cause: Option<Cause>,
     /// Where it is told as well.
     told: Option<LastCause>,
+    /// Whether the transaction has written something.
+    has_written: bool,
+    /// Where commits are counted.
+    commits: Option<Commits>,
 }
 
 impl Model for Failure {
@@ -31,6 +37,8 @@ impl Drop for Failure {
         let Failure {
             cause: _,
             told: _told,
+            has_written: _,
+            commits: _commits,
         } = self;
     }
 }
@@ -43,6 +51,8 @@ impl Failure {
         Failure {
             cause: None,
             told: None,
+            has_written: false,
+            commits: None,
         }
     }
 
@@ -69,6 +79,31 @@ impl Failure {
         ensures { self.new ≡ None }
     {
         self.cause = None;
+        self.has_written = false;
+    }
+
+    /// The transaction writes something.
+    pub(crate) fn note_write(&mut self)
+        ensures { self.new ≡ self.old }
+    {
+        self.has_written = true;
+    }
+
+    /// The transaction is to be committed now: when that begins, if it has written something and commits are counted.
+    pub(crate) fn begin_commit(&self) -> Option<Instant> {
+        match &self.commits {
+            Some(commits) if self.has_written => commits.begin(),
+            _ => None,
+        }
+    }
+
+    /// A commit that began then has succeeded.
+    pub(crate) fn count_commit(&self, began: Option<Instant>) {
+        if let Some(commits) = &self.commits
+            && let Some(began) = began
+        {
+            commits.end(began);
+        }
     }
 
     /// From now on causes are told there as well.
@@ -76,6 +111,13 @@ impl Failure {
         ensures { self.new ≡ self.old }
     {
         self.told = place.shared().ok();
+    }
+
+    /// From now on commits are counted there.
+    pub(crate) fn count_in(&mut self, commits: &Commits)
+        ensures { self.new ≡ self.old }
+    {
+        self.commits = commits.shared().ok();
     }
 }
 

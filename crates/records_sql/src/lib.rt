@@ -3,6 +3,7 @@
 #![tactic(auto)]
 
 mod cause;
+mod commits;
 mod failure;
 mod numbers;
 mod opening;
@@ -15,6 +16,7 @@ mod statements;
 mod tx;
 
 pub use cause::{Cause, CausedFault};
+pub use commits::Commits;
 pub use failure::LastCause;
 pub use numbers::Numbers;
 pub use row_memory::RowMemory;

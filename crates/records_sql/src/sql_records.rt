@@ -16,6 +16,7 @@ ghost use Rattle.records_sql.specs.SqlTable.{IsSoundAt, IsActive, AgreesAt, IsUs
 ghost use Rattle.records_sql.specs.SqlTable.{rows_of, mismatches};
 
 use crate::cause::Cause;
+use crate::commits::Commits;
 use crate::failure::{Failure, LastCause};
 use crate::numbers::Numbers;
 use crate::reading::{bound_above, entries_of, entries_under, first_row, later, whole_entries};
@@ -73,6 +74,14 @@ impl<S: Alter> SqlRecords<S> {
         self.failure.tell_to(place);
     }
 
+    /// From now on the transactions that are committed are counted there, if they wrote something.
+    pub fn count_in(&mut self, commits: &Commits)
+        ensures conn { self.new.conn ≡ self.old.conn }
+        ensures failing { self.new.failure ≡ self.old.failure }
+    {
+        self.failure.count_in(commits);
+    }
+
     pub(crate) fn get(&mut self, kind: Kind, key: &str) -> Result<Option<Row>, Fault>
         ensures found { HasCleanDisk (state S.Store self.new.conn) → IfOk result (λ row.
             row ≡ map.get (rows_of (state S.Store self.old.conn).now.trees) (kind, key.now)) }
@@ -124,6 +133,7 @@ impl<S: Alter> SqlRecords<S> {
             self.failure.note(Cause::Closed);
             return Err(Fault::Storage);
         }
+        self.failure.note_write();
         match statements::put(&mut self.conn, kind, key, row) {
             Ok(_) => {
                 self.memory.replace(kind, key, row);
@@ -151,6 +161,7 @@ impl<S: Alter> SqlRecords<S> {
             self.failure.note(Cause::Closed);
             return Err(Fault::Storage);
         }
+        self.failure.note_write();
         match statements::remove(&mut self.conn, kind, key) {
             Ok(_) => {
                 self.memory.forget(kind, key);
@@ -481,8 +492,9 @@ impl<S: Alter> SqlRecords<S> {
             return Err(Fault::Storage);
         }
         self.is_active = false;
+        let began = self.failure.begin_commit();
         match statements::commit(&mut self.conn) {
-            Ok(_) => {}
+            Ok(_) => self.failure.count_commit(began),
             Err(error) => return Err(lost(
                 &mut self.is_active,
                 &mut self.failure,

@@ -1,9 +1,11 @@
 -- Lines without tokens: one byte more, and that no segment of them begins as a token does.
-use Rattle.std.proofs.Common.{◌≡◌, ◌+◌, ◌<◌, ◌≤◌, ◌∷◌, ◌++◌, if◌then◌else◌, ℕ, Bool, true, false, List, [], All}
+use Rattle.std.proofs.Common.{◌≡◌, ◌+◌, ◌<◌, ◌≤◌, ◌==◌, ◌&&◌, ◌||◌, ◌∷◌, ◌++◌, if◌then◌else◌, ℕ, Bool, true, false}
+use Rattle.std.proofs.Common.{List, [], All}
 use Rattle.std.proofs.Common.{length, get_or, drop, codes, slice_range}
 use Rattle.std.specs.Prelude.{⊤}
 use Rattle.std.proofs.lemmas.List.Elements.{All-cons, All-nil}
 use Rattle.records.specs.Words.{Text, refl, sym, subst, ◌∙◌, ap, append_assoc, append-nil}
+use Rattle.broker_types.specs.Words.{and-false, or_parts}
 use Rattle.broker_types.specs.SliceLaws.{slice_grown, slice_none, drop_first}
 use Rattle.server.specs.Hiding.{HidesTokens, IsHidden, hidden, hidden_segment, is_boundary, is_token, segments}
 
@@ -107,3 +109,77 @@ hides_from begun (c ∷ cs) none =
 -- a line as it is shown
 pub hides : (line : Text) → HidesTokens (hidden [] line)
 hides line = hides_from [] line tt
+
+-- ---- a line in which no token begins stays as it is
+
+-- whether a token begins somewhere in it
+abbrev pub has_token : Text → Bool
+has_token [] = false
+has_token (c ∷ cs) = is_token (c ∷ cs) || has_token cs
+
+-- what goes on after a token begins as a token
+grows : (a b : Text) → is_token a ≡ true → is_token (a ++ b) ≡ true
+grows [] b is = let bad : false ≡ true = is in cc bad
+grows (x ∷ []) b is =
+    let bad : false ≡ true = sym (and-false (x == 104)) ∙ is in cc bad
+grows (x ∷ y ∷ []) b is =
+    let bad : false ≡ true =
+    sym (ap (λ (v : Bool). x == 104 && v) (and-false (y == 118)) ∙ and-false (x == 104)) ∙ is in
+    cc bad
+grows (x ∷ y ∷ z ∷ []) b is =
+    let bad : false ≡ true =
+    sym (ap (λ (v : Bool). x == 104 && (y == 118 && v)) (and-false (z == 115))
+    ∙ ap (λ (v : Bool). x == 104 && v) (and-false (y == 118)) ∙ and-false (x == 104)) ∙ is in
+    cc bad
+grows (x ∷ y ∷ z ∷ w ∷ rest) b is = is
+
+-- so none is a part of a line without one
+no_prefix : (a b : Text) → has_token (a ++ b) ≡ false → is_token a ≡ false
+no_prefix [] b none = refl
+no_prefix (x ∷ xs) b none =
+    by (is_token (x ∷ xs)) refl
+  where
+    by : (v : Bool) → is_token (x ∷ xs) ≡ v → v ≡ false
+    by false is = refl
+    by true is =
+        let bad : true ≡ false = sym (grows (x ∷ xs) b is)
+        ∙ (or_parts (is_token (x ∷ xs ++ b)) (has_token (xs ++ b)) none).0 in
+        cc bad
+
+no_rest : (a b : Text) → has_token (a ++ b) ≡ false → has_token b ≡ false
+no_rest [] b none = none
+no_rest (x ∷ xs) b none = no_rest xs b (or_parts (is_token (x ∷ xs ++ b)) (has_token (xs ++ b)) none).1
+
+stays_from : (begun cs : Text) → has_token (begun ++ cs) ≡ false → hidden begun cs ≡ begun ++ cs
+stays_from begun [] none =
+    ap (λ (v : Bool). if v then codes "hvs.*" else begun) (no_prefix begun [] none) ∙ sym (append-nil begun)
+stays_from begun (c ∷ cs) none =
+    by (is_boundary c)
+    (ap (λ (l : Text). hidden_segment begun ++ c ∷ l) (stays_from [] cs after)
+    ∙ ap (λ (l : Text). l ++ c ∷ cs) begun_stays)
+    (stays_from (begun ++ c ∷ []) cs (ap has_token (append_assoc begun (c ∷ []) cs) ∙ none)
+    ∙ append_assoc begun (c ∷ []) cs)
+  where
+    begun_stays : hidden_segment begun ≡ begun
+    begun_stays = ap (λ (v : Bool). if v then codes "hvs.*" else begun) (no_prefix begun (c ∷ cs) none)
+
+    after : has_token cs ≡ false
+    after = (or_parts (is_token (c ∷ cs)) (has_token cs) (no_rest begun (c ∷ cs) none)).1
+
+    by : (v : Bool) → hidden_segment begun ++ c ∷ hidden [] cs ≡ begun ++ c ∷ cs
+        → hidden (begun ++ c ∷ []) cs ≡ begun ++ c ∷ cs
+        → (if v then hidden_segment begun ++ c ∷ hidden [] cs else hidden (begun ++ c ∷ []) cs) ≡ begun ++ c ∷ cs
+    by true ends grown = ends
+    by false ends grown = grown
+
+-- such a line
+pub stays : (line : Text) → has_token line ≡ false → hidden [] line ≡ line
+stays line none = stays_from [] line none
+
+-- no token begins at a byte, so there is one exactly if one begins later
+pub no_token_at : (s : List ℕ) (i : ℕ) → i < length s → is_token (drop i s) ≡ false
+    → has_token (drop i s) ≡ has_token (drop (i + 1) s)
+no_token_at s i within none =
+    let first = drop_first s i within in
+    ap has_token first
+    ∙ ap (λ (v : Bool). v || has_token (drop (i + 1) s)) (sym (ap is_token first) ∙ none)

@@ -6,6 +6,11 @@ use Rattle.records.specs.Words.{Option, Some, None, Text, time_text, Verb, Get, 
 use Rattle.broker_types.specs.declared.ask.Verb.TheVariants.{List as Listing}
 use Rattle.server.specs.declared.log_line.Asked.{Asked}
 use Rattle.server.specs.declared.notes.Noted.{Noted}
+use Rattle.server.specs.declared.time_text.TimeText.{TimeText}
+
+-- the moment of a text
+abbrev pub moment_of : TimeText → ℕ
+moment_of time = time.moment
 
 -- a byte that JSON escapes and that is no control character: a quotation mark, a backslash
 abbrev pub is_escaped : ℕ → Bool

@@ -1,6 +1,6 @@
 //! Lines without tokens.
 
-ghost use Rattle.std.specs.Prelude.{◌≡◌, ◌++◌, [], IfOk, OnOk};
+ghost use Rattle.std.specs.Prelude.{◌≡◌, ◌++◌, [], false, IfOk, OnOk};
 ghost use Rattle.server.specs.Hiding.{HidesTokens, hidden, hidden_segment, is_boundary};
 
 use std::alloc::{AllocError, Global};
@@ -19,8 +19,8 @@ impl Line {
     ghost use Rattle.server.specs.Lines.{bytes_of};
 
     /// The line of these bytes.
-    pub(crate) fn new(alloc: Global, bytes: &[u8]) -> Result<Line, AllocError>
-        ensures { IfOk result (λ line. bytes_of line ≡ hidden [] bytes.now) }
+    pub(crate) fn new(alloc: Global, bytes: Vec<u8>) -> Result<Line, AllocError>
+        ensures { IfOk result (λ line. bytes_of line ≡ hidden [] bytes.items) }
     {
         Ok(Line {
             bytes: hide_tokens(alloc, bytes)?,
@@ -36,8 +36,32 @@ impl Line {
     }
 }
 
+/// The bytes, with each segment as it is shown. Hardly any line has something to hide: it stays as it is.
+fn hide_tokens(alloc: Global, line: Vec<u8>) -> Result<Vec<u8>, AllocError>
+    ensures exact { IfOk result (λ shown. shown.items ≡ hidden [] line.items) }
+    ensures hides { IfOk result (λ shown. HidesTokens shown.items) }
+{
+    if may_have_token(&line) {
+        hide_segments(alloc, &line)
+    } else {
+        Ok(line)
+    }
+}
+
+/// Whether a token may begin somewhere in the line.
+fn may_have_token(line: &[u8]) -> bool
+    ensures { result ≡ false → hidden [] line.now ≡ line.now }
+{
+    for (i, byte) in line.iter().enumerate() {
+        if *byte == b'h' && line[i..].starts_with(b"hvs.") {
+            return true;
+        }
+    }
+    false
+}
+
 /// The bytes, with each segment as it is shown.
-fn hide_tokens(alloc: Global, line: &[u8]) -> Result<Vec<u8>, AllocError>
+fn hide_segments(alloc: Global, line: &[u8]) -> Result<Vec<u8>, AllocError>
     ensures exact { IfOk result (λ shown. shown.items ≡ hidden [] line.now) }
     ensures hides { IfOk result (λ shown. HidesTokens shown.items) }
 {

@@ -27,6 +27,7 @@ mod store_serving;
 mod system_clock;
 mod tally;
 mod telling;
+mod time_text;
 mod waiting;
 mod watched;
 

@@ -79,6 +79,18 @@ impl Links {
         }
     }
 
+    /// Whether lines of the log wait to be written.
+    pub(crate) fn has_lines(&self) -> bool {
+        matches!(&self.log, Some(log) if log.has_lines())
+    }
+
+    /// Writes the lines of the log that wait.
+    pub(crate) fn flush_log(&self) {
+        if let Some(log) = &self.log {
+            log.flush();
+        }
+    }
+
     /// Whether one can go on at once.
     pub(crate) fn is_ready(&self) -> bool {
         !self.ready.is_empty()

@@ -164,6 +164,11 @@ impl Listening {
         self.links.send_rests();
     }
 
+    /// Writes the lines of the log that wait.
+    pub(crate) fn flush_log(&self) {
+        self.links.flush_log();
+    }
+
     // ---- the parts of a round
 
     /// Waits for events, unless something can be done at once, and takes them down.
@@ -208,7 +213,7 @@ impl Listening {
             Some(operators) => operators.longest_wait(self.now),
             None => None,
         };
-        if len == 0 && self.accepting.is_quiet() {
+        if len == 0 && self.accepting.is_quiet() && !self.links.has_lines() {
             return Some(Duration::from_millis(operators?));
         }
         Some(Duration::from_millis(operators.unwrap_or(TICK).min(TICK)))
@@ -245,14 +250,15 @@ impl Listening {
         Ok(())
     }
 
-    /// Closes the connections whose time is over, if it is time to look. Once no more are accepted, those that are idle
-    /// are not waited for longer than where their places are wanted.
+    /// Writes the log, and closes the connections whose time is over, if it is time to look. Once no more are accepted,
+    /// those that are idle are not waited for longer than where their places are wanted.
     fn look<S: Store>(&mut self, hub: &mut Hub<S>, round: Round)
         ensures steps { ClosesSome S.seen hub.old hub.new }
         ensures below { (all : Connections) → ConnectionsRepresent hub.old all → LeavesBelow round.first all hub.new }
     {
         if round.now >= self.look_at {
             self.look_at = round.now.saturating_add(TICK);
+            self.links.flush_log();
             self.links.look(hub, round, self.accepting.is_shut());
         }
     }

@@ -1,16 +1,17 @@
 //! Lines of the log, for people and for machines.
 
 ghost use Rattle.std.specs.Prelude.{◌≡◌, ◌++◌, [], IfOk, OnOk, decimal, map};
-ghost use Rattle.std.specs.Net.Text.{socket_text};
-ghost use Rattle.broker_types.specs.Time.{time_text};
+ghost use Rattle.std.specs.Net.Text.{socket_text, socket_v4_text};
 ghost use Rattle.server.specs.LogLine.{asked_text, event_object, event_text, identifier_text, method_member};
-ghost use Rattle.server.specs.LogLine.{method_of, object_line, path_member, plain_byte, shown_byte, shown_path};
-ghost use Rattle.server.specs.LogLine.{shown_segment, status_text, text_line};
+ghost use Rattle.server.specs.LogLine.{method_of, moment_of, object_line, path_member, plain_byte, shown_byte};
+ghost use Rattle.server.specs.LogLine.{shown_path, shown_segment, status_text, text_line};
 
 use crate::notes::Noted;
-use broker_types::{Ask, Moment, Verb, time_text};
+use crate::time_text::TimeText;
+use broker_types::{Ask, Verb};
+use itoa::Buffer;
 use std::alloc::{AllocError, Global};
-use std::net::SocketAddr;
+use std::net::{SocketAddr, SocketAddrV4};
 
 /// What a request asked, as the log shows it.
 #[derive(Drop)]
@@ -39,15 +40,19 @@ impl Asked {
 /// path; the address of the peer, the accessor of the token that was used, the identifier that the reply has for the
 /// request, and the bytes that were read for it and those of the reply. There is `-` for what is not there: a reply
 /// after a fault, a request that was refused before its path was read, a token. Nothing else of a request can be in it.
-pub(crate) fn text_line(alloc: Global, moment: Moment, noted: &Noted) -> Result<Vec<u8>, AllocError>
-    ensures { IfOk result (λ line. line.items ≡ text_line moment noted.now) }
+pub(crate) fn text_line(
+    alloc: Global,
+    time: &TimeText,
+    noted: &Noted,
+) -> Result<Vec<u8>, AllocError>
+    ensures { IfOk result (λ line. line.items ≡ text_line (moment_of time.now) noted.now) }
 {
     let mut line = Vec::with_capacity(alloc, 256)?;
-    push_time(alloc, &mut line, moment)?;
+    line.extend_from_slice(time.as_bytes())?;
     line.extend_from_slice(b" ")?;
-    push_status(alloc, &mut line, noted.status, b"-")?;
+    push_status(&mut line, noted.status, b"-")?;
     line.extend_from_slice(b" ")?;
-    push_decimal(alloc, &mut line, noted.micros / 1_000)?;
+    push_decimal(&mut line, noted.micros / 1_000)?;
     line.extend_from_slice(b"ms ")?;
     push_asked(&mut line, &noted.asked)?;
     line.extend_from_slice(b" peer=")?;
@@ -57,9 +62,9 @@ pub(crate) fn text_line(alloc: Global, moment: Moment, noted: &Noted) -> Result<
     line.extend_from_slice(b" request_id=")?;
     push_identifier(&mut line, &noted.request_id, b"", b"-")?;
     line.extend_from_slice(b" in=")?;
-    push_decimal(alloc, &mut line, noted.traffic.bytes_in)?;
+    push_decimal(&mut line, noted.traffic.bytes_in)?;
     line.extend_from_slice(b" out=")?;
-    push_decimal(alloc, &mut line, noted.traffic.bytes_out)?;
+    push_decimal(&mut line, noted.traffic.bytes_out)?;
     Ok(line)
 }
 
@@ -67,18 +72,18 @@ pub(crate) fn text_line(alloc: Global, moment: Moment, noted: &Noted) -> Result<
 /// microseconds. No text in it has a byte that JSON escapes.
 pub(crate) fn object_line(
     alloc: Global,
-    moment: Moment,
+    time: &TimeText,
     noted: &Noted,
 ) -> Result<Vec<u8>, AllocError>
-    ensures { IfOk result (λ line. line.items ≡ object_line moment noted.now) }
+    ensures { IfOk result (λ line. line.items ≡ object_line (moment_of time.now) noted.now) }
 {
     let mut line = Vec::with_capacity(alloc, 512)?;
     line.extend_from_slice(b"{\"time\":\"")?;
-    push_time(alloc, &mut line, moment)?;
+    line.extend_from_slice(time.as_bytes())?;
     line.extend_from_slice(b"\",\"status\":")?;
-    push_status(alloc, &mut line, noted.status, b"null")?;
+    push_status(&mut line, noted.status, b"null")?;
     line.extend_from_slice(b",\"micros\":")?;
-    push_decimal(alloc, &mut line, noted.micros)?;
+    push_decimal(&mut line, noted.micros)?;
     push_method_member(&mut line, &noted.asked)?;
     push_path_member(&mut line, &noted.asked)?;
     line.extend_from_slice(b",\"peer\":\"")?;
@@ -88,19 +93,23 @@ pub(crate) fn object_line(
     line.extend_from_slice(b",\"request_id\":")?;
     push_identifier(&mut line, &noted.request_id, b"\"", b"null")?;
     line.extend_from_slice(b",\"bytes_in\":")?;
-    push_decimal(alloc, &mut line, noted.traffic.bytes_in)?;
+    push_decimal(&mut line, noted.traffic.bytes_in)?;
     line.extend_from_slice(b",\"bytes_out\":")?;
-    push_decimal(alloc, &mut line, noted.traffic.bytes_out)?;
+    push_decimal(&mut line, noted.traffic.bytes_out)?;
     line.extend_from_slice(b"}")?;
     Ok(line)
 }
 
 /// A line that tells people what became of the program.
-pub(crate) fn event_text(alloc: Global, moment: Moment, event: &[u8]) -> Result<Vec<u8>, AllocError>
-    ensures { IfOk result (λ line. line.items ≡ event_text moment event.now) }
+pub(crate) fn event_text(
+    alloc: Global,
+    time: &TimeText,
+    event: &[u8],
+) -> Result<Vec<u8>, AllocError>
+    ensures { IfOk result (λ line. line.items ≡ event_text (moment_of time.now) event.now) }
 {
     let mut line = Vec::new(alloc);
-    push_time(alloc, &mut line, moment)?;
+    line.extend_from_slice(time.as_bytes())?;
     line.extend_from_slice(b" ")?;
     push_plain(&mut line, event)?;
     Ok(line)
@@ -109,14 +118,14 @@ pub(crate) fn event_text(alloc: Global, moment: Moment, event: &[u8]) -> Result<
 /// The same for machines.
 pub(crate) fn event_object(
     alloc: Global,
-    moment: Moment,
+    time: &TimeText,
     event: &[u8],
 ) -> Result<Vec<u8>, AllocError>
-    ensures { IfOk result (λ line. line.items ≡ event_object moment event.now) }
+    ensures { IfOk result (λ line. line.items ≡ event_object (moment_of time.now) event.now) }
 {
     let mut line = Vec::new(alloc);
     line.extend_from_slice(b"{\"time\":\"")?;
-    push_time(alloc, &mut line, moment)?;
+    line.extend_from_slice(time.as_bytes())?;
     line.extend_from_slice(b"\",\"event\":\"")?;
     push_plain(&mut line, event)?;
     line.extend_from_slice(b"\"}")?;
@@ -125,43 +134,51 @@ pub(crate) fn event_object(
 
 // ---- the parts of a line
 
-/// Adds the time.
-fn push_time(alloc: Global, line: &mut Vec<u8>, moment: Moment) -> Result<(), AllocError>
-    ensures { OnOk result (line.new.items ≡ line.old.items ++ time_text moment) }
-{
-    let text = time_text(alloc, moment.seconds())?;
-    line.extend_from_slice(text.as_bytes())
-}
-
 /// Adds the status of the reply, or what stands for none.
-fn push_status(
-    alloc: Global,
-    line: &mut Vec<u8>,
-    status: Option<u16>,
-    absent: &[u8],
-) -> Result<(), AllocError>
+fn push_status(line: &mut Vec<u8>, status: Option<u16>, absent: &[u8]) -> Result<(), AllocError>
     ensures { OnOk result (line.new.items ≡ line.old.items ++ status_text absent.now status) }
 {
     match status {
-        Some(code) => push_decimal(alloc, line, u64::from(code)),
+        Some(code) => push_decimal(line, u64::from(code)),
         None => line.extend_from_slice(absent),
     }
 }
 
 /// Adds a number.
-fn push_decimal(alloc: Global, line: &mut Vec<u8>, number: u64) -> Result<(), AllocError>
+fn push_decimal(line: &mut Vec<u8>, number: u64) -> Result<(), AllocError>
     ensures { OnOk result (line.new.items ≡ line.old.items ++ decimal number) }
 {
-    let digits = format!(in alloc; "{number}")?;
-    line.extend_from_slice(digits.as_bytes())
+    let mut digits = Buffer::new();
+    line.extend_from_slice(digits.format(number).as_bytes())
 }
 
 /// Adds an address.
 fn push_address(alloc: Global, line: &mut Vec<u8>, address: SocketAddr) -> Result<(), AllocError>
     ensures { OnOk result (line.new.items ≡ line.old.items ++ socket_text address) }
 {
-    let text = format!(in alloc; "{address}")?;
-    line.extend_from_slice(text.as_bytes())
+    match address {
+        SocketAddr::V4(address) => push_v4(line, address),
+        SocketAddr::V6(address) => {
+            let text = format!(in alloc; "{address}")?;
+            line.extend_from_slice(text.as_bytes())
+        }
+    }
+}
+
+/// Adds an address of IPv4. A format would take longer than all else in a line.
+fn push_v4(line: &mut Vec<u8>, address: SocketAddrV4) -> Result<(), AllocError>
+    ensures { OnOk result (line.new.items ≡ line.old.items ++ socket_v4_text address) }
+{
+    let [a, b, c, d] = address.ip().octets();
+    push_decimal(line, u64::from(a))?;
+    line.extend_from_slice(b".")?;
+    push_decimal(line, u64::from(b))?;
+    line.extend_from_slice(b".")?;
+    push_decimal(line, u64::from(c))?;
+    line.extend_from_slice(b".")?;
+    push_decimal(line, u64::from(d))?;
+    line.extend_from_slice(b":")?;
+    push_decimal(line, u64::from(address.port()))
 }
 
 /// Adds an identifier between these marks, or what stands for none.

@@ -168,10 +168,11 @@ fn request_id(body: &[u8]) -> Option<[u8; 36]> {
     Some(id)
 }
 
-/// Where these bytes stand last.
+/// Where these bytes stand last. Only where the first of them stands can all of them.
 fn last_of(bytes: &[u8], wanted: &[u8]) -> Option<usize> {
+    let first = wanted.first()?;
     for start in (0..bytes.len()).rev() {
-        if bytes[start..].starts_with(wanted) {
+        if bytes[start] == *first && bytes[start..].starts_with(wanted) {
             return Some(start);
         }
     }

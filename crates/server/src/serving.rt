@@ -49,6 +49,7 @@ pub fn serve<S: Store, C: hub::Clock, D: WordSource, R: Clock>(
     if served.is_err() {
         listening.send_rests();
     }
+    listening.flush_log();
     served
 }
 

@@ -12,8 +12,9 @@ use crate::telling::tell_address;
 use broker_types::Moment;
 use endpoints::VERSION;
 use hub::ConnectionFault;
-use status::{AtStart, Figures, State, Storage};
+use status::{AtStart, Figures, State, Storage, Timed};
 use std::alloc::{AllocError, Global};
+use std::cell::Cell;
 use std::net::SocketAddr;
 use std::rc::Rc;
 use std::rt::HostRuntime;
@@ -36,6 +37,14 @@ pub(crate) struct Program {
     started: Moment,
     files: Option<DatabaseFiles>,
     at_start: Option<AtStart>,
+    commits: Option<CountedCommits>,
+}
+
+/// Where it is counted how often something was committed, and how many microseconds that took in all.
+#[derive(Drop)]
+struct CountedCommits {
+    times: Rc<Cell<u64>>,
+    micros: Rc<Cell<u64>>,
 }
 
 /// What the server itself knows of the figures.
@@ -59,6 +68,7 @@ impl Watched {
                 started: moment_now(rt),
                 files: files(rt, database)?,
                 at_start: None,
+                commits: None,
             },
         })
     }
@@ -70,6 +80,11 @@ impl Watched {
             secrets,
             responses,
         });
+    }
+
+    /// Commits are counted there, and the microseconds that they took in all.
+    pub fn count_commits(&mut self, times: Rc<Cell<u64>>, micros: Rc<Cell<u64>>) {
+        self.program.commits = Some(CountedCommits { times, micros });
     }
 
     /// Where it listens.
@@ -106,13 +121,21 @@ impl Program {
             at_once: known.at_once as u64,
             database_bytes,
             log_bytes,
-            commits: None,
-            syncs: None,
+            commits: self.commits(),
             clock_ahead: ahead(known.clock, now),
             at_start: self.at_start,
             resident_bytes: resident_bytes(&self.rt),
             last_fault: known.last_fault,
         }
+    }
+
+    /// The commits so far, where they are counted.
+    fn commits(&self) -> Option<Timed> {
+        let counted = self.commits.as_ref()?;
+        Some(Timed {
+            times: counted.times.get(),
+            micros: counted.micros.get(),
+        })
     }
 
     /// The bytes of the database and of its log.

@@ -74,8 +74,6 @@ file_families f =
     ∷ single name.DatabaseLogBytes f.log_bytes
     ∷ single name.Commits (option_map (λ t. t.times) f.commits)
     ∷ single_time name.CommitSeconds (option_map (λ t. t.micros) f.commits)
-    ∷ single name.Syncs (option_map (λ t. t.times) f.syncs)
-    ∷ single_time name.SyncSeconds (option_map (λ t. t.micros) f.syncs)
     ∷ []
 
 unfoldable pub start_families : Figures → List Family

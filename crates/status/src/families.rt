@@ -184,18 +184,6 @@ fn put_files(style: Style, text: &mut Vec<u8>, figures: &Figures<'_>) -> Result<
         text,
         Name::CommitSeconds,
         figures.commits.map(|commits| commits.micros),
-    )?;
-    put_single(
-        style,
-        text,
-        Name::Syncs,
-        figures.syncs.map(|syncs| syncs.times),
-    )?;
-    put_single_time(
-        style,
-        text,
-        Name::SyncSeconds,
-        figures.syncs.map(|syncs| syncs.micros),
     )
 }
 

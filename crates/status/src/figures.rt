@@ -50,8 +50,8 @@ pub struct Figures<'a> {
     pub database_bytes: Option<u64>,
     /// Of the log of the database.
     pub log_bytes: Option<u64>,
+    /// Commits of what was written, with the syncs of the disk in them.
     pub commits: Option<Timed>,
-    pub syncs: Option<Timed>,
     /// By how many seconds the clock of the broker is ahead of the system's.
     pub clock_ahead: Option<u64>,
     pub at_start: Option<AtStart>,

@@ -24,8 +24,6 @@ pub(crate) enum Name {
     DatabaseLogBytes,
     Commits,
     CommitSeconds,
-    Syncs,
-    SyncSeconds,
     TokensAtStart,
     SecretsAtStart,
     ResponsesAtStart,
@@ -54,8 +52,6 @@ impl Name {
             Name::DatabaseLogBytes => "dehluvima_database_log_bytes",
             Name::Commits => "dehluvima_commits_total",
             Name::CommitSeconds => "dehluvima_commit_seconds_total",
-            Name::Syncs => "dehluvima_syncs_total",
-            Name::SyncSeconds => "dehluvima_sync_seconds_total",
             Name::TokensAtStart => "dehluvima_tokens_at_start",
             Name::SecretsAtStart => "dehluvima_secrets_at_start",
             Name::ResponsesAtStart => "dehluvima_responses_at_start",
@@ -83,10 +79,8 @@ impl Name {
             Name::ConnectionsClosed => "Connections that were closed, by the reason.",
             Name::DatabaseBytes => "Bytes of the database.",
             Name::DatabaseLogBytes => "Bytes of the log of the database.",
-            Name::Commits => "Transactions that were committed.",
-            Name::CommitSeconds => "Seconds that commits took.",
-            Name::Syncs => "Times that a file was synced.",
-            Name::SyncSeconds => "Seconds that syncs took.",
+            Name::Commits => "Transactions that were committed, each with a sync of the log.",
+            Name::CommitSeconds => "Seconds that commits took, with their syncs.",
             Name::TokensAtStart => "Tokens at the start.",
             Name::SecretsAtStart => "Secrets at the start.",
             Name::ResponsesAtStart => "Wrapped responses that waited at the start.",
@@ -106,9 +100,7 @@ impl Name {
             | Name::ConnectionsAccepted
             | Name::ConnectionsClosed
             | Name::Commits
-            | Name::CommitSeconds
-            | Name::Syncs
-            | Name::SyncSeconds => Metric::Counter,
+            | Name::CommitSeconds => Metric::Counter,
             Name::BuildInfo
             | Name::StartTime
             | Name::ResidentMemory

@@ -25,7 +25,6 @@ fn figures(rt: &impl Abort, state: State) -> Figures<'static> {
             times: 7,
             micros: 1_000_009,
         }),
-        syncs: None,
         clock_ahead: Some(0),
         at_start: Some(AtStart {
             tokens: 2,
@@ -96,7 +95,6 @@ fn metrics_are_lines(rt: HostRuntime) -> Result<(), Fail> {
         assert!(rt; has(&text, line));
     }
     assert!(rt; !has(&text, b"dehluvima_database_log_bytes"));
-    assert!(rt; !has(&text, b"dehluvima_syncs_total"));
     Ok(())
 }
 

@@ -1,6 +1,6 @@
 use Rattle.std.proofs.Common.{◌≡◌, ◌≤◌, ◌++◌, [], drop, slice_range}
 use Rattle.server.specs.Hiding.{hidden}
-use Rattle.server.proofs.hiding.hide_tokens.Given as goal
+use Rattle.server.proofs.hiding.hide_segments.Given as goal
 
 abbrev pub invariant-loop-i : goal.invariant-loop-i
 invariant-loop-i l = record {
