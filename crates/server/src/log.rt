@@ -1,6 +1,6 @@
 //! The log, on standard error or in a file.
 
-ghost use Rattle.std.specs.Prelude.{◌≡◌, IfErr};
+ghost use Rattle.std.specs.Prelude.{◌≡◌, ◌≤◌, length, IfErr};
 
 use crate::hiding::Line;
 use crate::log_file::LogFile;
@@ -226,7 +226,9 @@ fn push_line(lines: &mut Vec<u8>, line: &Line) -> Result<(), AllocError> {
 }
 
 /// Where the last line ends of those that a pipe has room for, or else the first one, which is longer than that.
-fn end_of_lines(lines: &[u8]) -> usize {
+fn end_of_lines(lines: &[u8]) -> usize
+    ensures { result ≤ length lines.now }
+{
     let room = lines.len().min(PIPE_ROOM);
     let last = lines[..room].iter().rposition(|byte| *byte == b'\n');
     let end = match last {
