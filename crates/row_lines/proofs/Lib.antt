@@ -1,0 +1,3 @@
+pub mod Damaged
+pub mod Members
+pub mod Onto

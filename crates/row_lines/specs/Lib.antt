@@ -1,0 +1,4 @@
+pub mod KindWords
+pub mod Layouts
+pub mod Lines
+pub mod Spelled

@@ -1,0 +1,5 @@
+//! Tests of rows as lines.
+#![tactic(auto)]
+
+#[cfg(test)]
+mod lines;
