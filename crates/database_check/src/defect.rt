@@ -27,11 +27,7 @@ pub struct Defect {
 
 impl Defect {
     /// The row in trouble. One of a token or of a response is named by the accessor in it, and never by its key.
-    pub(crate) fn at<T: RecordsTx>(
-        alloc: Global,
-        tx: &mut T,
-        trouble: &Trouble,
-    ) -> Result<Defect, Fault>
+    pub fn at<T: RecordsTx>(alloc: Global, tx: &mut T, trouble: &Trouble) -> Result<Defect, Fault>
         ensures tells { IsHonest (T.seen tx.new) → IfOk result (TellsOf (T.seen tx.old).rows trouble.now) }
         ensures call { IsReading (T.seen tx.old) (T.seen tx.new) result IsMemoryOrStorage }
     {
