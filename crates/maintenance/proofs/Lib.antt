@@ -1,0 +1,6 @@
+mod Dropped
+mod Listed
+mod Made
+mod RevokedAlone
+mod Root
+mod Told

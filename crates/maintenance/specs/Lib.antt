@@ -1,0 +1,4 @@
+pub mod Choosing
+pub mod Maintained
+pub mod NewRoot
+pub mod Tasks
