@@ -12,7 +12,7 @@ from pathlib import Path
 from repository import TOP
 
 PAGES = "usr/share/doc/dehluvima"
-UNIT = "usr/lib/systemd/system/dehluvima.service"
+UNITS = "usr/lib/systemd/system"
 PLACES = {"bin/brokerd": "usr/bin/brokerd", "bin/client": "usr/bin/dehluvima-client",
           "bin/dehluvima-run": "usr/bin/dehluvima-run",
           "examples/client.bash": "usr/share/bash-completion/completions/dehluvima-client",
@@ -44,8 +44,8 @@ def installed(files, version, built_from, seconds):
     """What is installed, by its paths, from the files of the archive."""
     placed = {}
     for path, (data, mode) in files.items():
-        if path == "dehluvima.service":
-            placed[UNIT] = (data.replace(b"/usr/local/bin/", b"/usr/bin/"), mode)
+        if path in ("dehluvima.service", "dehluvima-backup.service", "dehluvima-backup.timer"):
+            placed[f"{UNITS}/{path}"] = (data.replace(b"/usr/local/bin/", b"/usr/bin/"), mode)
         elif path in PLACES:
             placed[PLACES[path]] = (data, mode)
         elif path.startswith("docs/"):

@@ -154,7 +154,7 @@ same "the files of settings" "$(dpkg-deb -I "$found/1/$package" conffiles)" /etc
 listed=$(dpkg-deb -c "$found/1/$package")
 same "the owners" "$(awk '{ print $2 }' <<< "$listed" | sort -u)" root/root
 same "the modes" "$(awk '{ print $1 }' <<< "$listed" | sort -u | xargs)" "-rw-r--r-- -rwxr-xr-x drwxr-xr-x"
-scripts=$(printf './usr/share/doc/dehluvima/examples/%s.sh ' agent backup leaked once rotate)
+scripts=$(printf './usr/share/doc/dehluvima/examples/%s.sh ' agent leaked once rotate)
 same "what is run" "$(awk '/^-rwx/ { print $6 }' <<< "$listed" | sort | xargs)" \
     "./usr/bin/brokerd ./usr/bin/dehluvima-client ./usr/bin/dehluvima-run ${scripts% }"
 dpkg-deb -x "$found/1/$package" "$found/unpacked"

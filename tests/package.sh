@@ -26,10 +26,11 @@ tools() {
 }
 
 # What systemd says of a unit, with a program that is there, and changed by sed: verify FILE NAME SCRIPT. It speaks of
-# other units of the machine too, which do not count.
+# other units of the machine too, which do not count. A timer starts the service of the same name, which was the last.
 verify() {
-    sed -E "s#/usr/(local/bin/brokerd|bin/stunnel)#$unpacked/bin/brokerd#; $3" "$unpacked/$1" > "$found/$2.service"
-    systemd-analyze verify "$found/$2.service" 2>&1 | grep -F "$2.service"
+    local unit=$2.${1##*.}
+    sed -E "s#/usr/(local/bin/brokerd|bin/stunnel)#$unpacked/bin/brokerd#; $3" "$unpacked/$1" > "$found/$unit"
+    systemd-analyze verify "$found/$unit" 2>&1 | grep -F "$unit"
 }
 
 for turn in 1 2; do
@@ -66,10 +67,10 @@ done
 said=$("$unpacked/bin/dehluvima-run" "$unpacked/bin/brokerd" serve --listen nowhere --stop-on-input 2>&1 > /dev/null)
 if [ $? -eq 1 ] && [ "${said##*$'\n'}" = 'fault 5' ]; then pass; else fail "dehluvima-run" "$said"; fi
 if command -v systemd-analyze > /dev/null; then
-    for unit in dehluvima.service examples/dehluvima-tls.service; do
+    for unit in dehluvima.service examples/dehluvima-tls.service dehluvima-backup.{service,timer}; do
         said=$(verify "$unit" verified '')
         if [ -z "$said" ]; then pass; else fail "$unit" "$said"; fi
-        said=$(verify "$unit" mistaken 's/^Restart=always$/Restart=sometimes/')
+        said=$(verify "$unit" mistaken 's/^(Restart|Type|OnCalendar)=.*$/\1=sometimes/')
         if [ -n "$said" ]; then pass; else fail "$unit" "systemd-analyze says nothing of one with a mistake"; fi
     done
 else

@@ -1,14 +1,16 @@
 #!/usr/bin/env python3
-"""Copies the database of a running broker by examples/backup.sh, while secrets are written to it.
+"""Backs up the database of a running broker by `brokerd backup`, while secrets are written to it.
 
     python3 tests/served/backups.py PROGRAM [TIMES] [--plain]
 
-The broker has 1,000 secrets, and a client goes on to write one after another. Meanwhile the database is copied so many
-times, or 20, which takes some ten seconds. A broker that is started from a copy has each secret whose write was
-answered before the copying began, and none without all before it. No reply may take a second. Then the log is moved
-into the database between the copies of the two files, once, and at the end each time: the script has to notice. At last
-a copy is restored as docs/STORAGE.md says. The last line is 'N passed, M failed'. With --plain the files are copied by
-cp alone, so many times in either order, and it is only told how many copies are wrong.
+The broker has 1,000 secrets, and a client goes on to write one after another. Meanwhile the database is backed up so
+many times, or 20, which takes some ten seconds. A broker that is started from a backup has each secret whose write was
+answered before it began, and none without all before it. No reply may take a second. `brokerd check` says `ok` of each,
+and only the newest stay where that is asked for. Then the head of a log is changed during each copy: the program has to
+notice, and gives up. It is killed in the midst, finds no room, or a folder that it cannot write: then nothing is left,
+or the next one removes it. At last a backup is restored as docs/STORAGE.md says. The last line is 'N passed, M failed'.
+With --plain the files are copied by cp alone, so many times in either order, and it is only told how many copies are
+wrong.
 """
 
 import contextlib
@@ -16,7 +18,9 @@ import json
 import os
 import random
 import re
+import resource
 import shutil
+import signal
 import sqlite3
 import subprocess
 import sys
@@ -27,28 +31,17 @@ from pathlib import Path
 
 from broker import Broker, connect, exchange, request
 
-TOP = Path(__file__).resolve().parent.parent.parent
-SCRIPT = TOP / "examples/backup.sh"
-PAGE = TOP / "docs/STORAGE.md"
 SECRETS = 1_000
 TIMES = 20
-LEAST = 5  # secrets that are written during a copy of the script, on average
+LEAST = 5  # secrets that are written during a backup, on average
+KEPT = 5
+MOVED = 50_000_000  # bytes of a database whose copy takes so long that its log changes meanwhile
+NAME = re.compile(r"broker-\d{8}T\d{6}Z\.db")
+LINE = re.compile(r"(\S+): (\d+) bytes, ok, 1 token, 0 cubbyhole objects, (\d+) secrets with \3 versions, .*\n")
 SAMPLES = 20
 SHOWN = 3
 BETWEEN = 0.2  # seconds between the plain copies of the two files
 LONGEST = 1.0  # seconds without a reply
-
-# A cp that waits, once FILE was copied, until the log has been moved into it: so many times, which are in a file.
-SLOW_CP = """#!/bin/bash
-{cp} "$@" || exit
-left=$(cat {folder}/left)
-if [ "$1" != -p ] || [[ $2 == *-wal ]] || [ "$left" -eq 0 ]; then exit; fi
-echo $((left - 1)) > {folder}/left
-log=$2-wal
-before=$(head -c 32 "$log" | od -An -v -tx1)
-while [ "$(head -c 32 "$log" | od -An -v -tx1)" = "$before" ]; do sleep 0.01; done
-"""
-
 
 class Writer:
     """Writes one secret after another, until the block ends."""
@@ -121,14 +114,21 @@ def what_is_wrong(program, copy, token, answered):
     return None
 
 
-def copy_by_script(program, file, to, *tools, script=SCRIPT):
-    """The exit status of the script, and what it has said. `tools` are folders with commands in place of the system's,
-    whose own brokerd is not found."""
-    folders = [it for it in os.environ["PATH"].split(":") if not Path(it, "brokerd").exists()]
-    path = ":".join([*map(str, tools), *folders])
-    done = subprocess.run([script, file, to], env={**os.environ, "BROKERD": str(program), "PATH": path},
-                          capture_output=True, text=True)
-    return done.returncode, done.stderr.strip()
+def backed_up(program, file, to, *words, **options):
+    """A backup that is made: its process, with what it has said."""
+    return subprocess.run([program, "backup", "--db", file, "--to", to, *words], capture_output=True, text=True,
+                          check=False, **options)
+
+
+def names_in(folder):
+    """The names in a folder, in order; none if it is not there."""
+    return sorted(os.listdir(folder)) if os.path.isdir(folder) else []
+
+
+def no_longer_than(size):
+    """No file of the process may be longer, as on a full disk: a longer write fails, and no signal ends it."""
+    signal.signal(signal.SIGXFSZ, signal.SIG_IGN)
+    resource.setrlimit(resource.RLIMIT_FSIZE, (size, size))
 
 
 def copy_by_cp(program, file, folder, writer, times):
@@ -155,12 +155,9 @@ class Trial:
 
     def __init__(self, program, folder):
         self.program, self.folder = program, folder
-        self.file, self.tools = folder / "broker.db", folder / "tools"
-        self.copies = []  # each with the last secret that was answered before it, and what the script has said
+        self.file, self.to = folder / "broker.db", folder / "backups"
+        self.backups = []  # each with the last secret that was answered before it began
         self.passed = self.failed = 0
-        self.tools.mkdir()
-        (self.tools / "cp").write_text(SLOW_CP.format(cp=shutil.which("cp"), folder=self.tools), encoding="ascii")
-        (self.tools / "cp").chmod(0o755)
 
     def check(self, name, condition, what):
         if condition:
@@ -169,91 +166,209 @@ class Trial:
             self.failed += 1
             print(f"backup, {name}: {what}")
 
-    def copy(self, writer, times):
-        """Copies the database so many times, and tells how long a reply took then."""
+    def back_up(self, writer, times):
+        """Backs up the database so many times, and tells how long a reply took then."""
         before = writer.answered
         for turn in range(times):
-            answered, to = writer.answered, self.folder / f"copy{turn}"
-            self.copies.append((to, answered, *copy_by_script(self.program, self.file, to)))
+            answered = writer.answered
+            done = backed_up(self.program, self.file, self.to)
+            found = LINE.fullmatch(done.stdout)
+            self.check(f"backup {turn}", done.returncode == 0 and found and not done.stderr,
+                       f"status {done.returncode}: {done.stdout}{done.stderr}")
+            if found:
+                path, size = Path(found[1]), int(found[2])
+                self.backups.append((path, answered))
+                self.check(path.name, NAME.fullmatch(path.name) and path.parent == self.to, "another name")
+                modes = [it.stat().st_mode & 0o777 for it in (path, self.to)]
+                self.check(path.name, path.stat().st_size == size and modes == [0o600, 0o700], f"modes {modes}")
+                self.check(path.name, int(found[3]) > answered, f"it has {found[3]} secrets")
+            time.sleep(1)  # the name of the next one has another second
         written = writer.answered - before
-        print(f"backup: {times} copies, while {written} secrets were written; the longest wait for a reply was "
+        print(f"backup: {times} backups, while {written} secrets were written; the longest wait for a reply was "
               f"{1000 * writer.longest:.0f} ms")
-        self.check("the load", written >= LEAST * times, f"only {written} secrets were written during {times} copies")
+        self.check("the load", written >= LEAST * times, f"only {written} secrets were written during {times} backups")
         self.check("the wait for a reply", writer.longest < LONGEST, f"{writer.longest:.3f} s")
+        self.check("the folder", names_in(self.to) == [path.name for path, _ in self.backups], names_in(self.to))
 
-    def copy_slowly(self, writer):
-        """The log is moved while the database is copied: at first once, and then as often as it is copied."""
-        (self.tools / "left").write_text("1", encoding="ascii")
-        answered, to = writer.answered, self.folder / "moved-once"
-        self.copies.append((to, answered, *copy_by_script(self.program, self.file, to, self.tools)))
-        self.check("a move of the log", (self.tools / "left").read_text(encoding="ascii") == "0\n", "there was none")
-        (self.tools / "left").write_text("1000", encoding="ascii")
-        to = self.folder / "moved-each-time"
-        status, said = copy_by_script(self.program, self.file, to, self.tools)
-        self.check("a move of the log each time", status == 1 and "stop the broker" in said and not to.exists(),
-                   f"status {status}: {said}")
+    def kill(self, writer):
+        """One that is killed leaves no backup, and the next removes what it has left."""
+        to = self.folder / "killed"
+        for turn in range(10):
+            process = subprocess.Popen([self.program, "backup", "--db", self.file, "--to", to],
+                                       stdout=subprocess.DEVNULL, stderr=subprocess.DEVNULL)
+            until = time.monotonic() + 10
+            while process.poll() is None and not names_in(to) and time.monotonic() < until:
+                pass
+            time.sleep(0.002 * turn)
+            process.kill()
+            process.wait()
+            left = [name for name in names_in(to) if not name.startswith(".broker.part")]
+            self.check("a kill", all(NAME.fullmatch(name) for name in left), names_in(to))
+            for name in left:
+                os.remove(to / name)
+        answered = writer.answered
+        done = backed_up(self.program, self.file, to)
+        names = names_in(to)
+        self.check("after a kill", done.returncode == 0 and len(names) == 1, f"{names}: {done.stderr}")
+        self.backups += [(to / name, answered) for name in names]
+
+    def refuse(self):
+        """What a backup that fails says; it leaves nothing."""
+        plain, empty, none, other = (self.folder / it for it in ("plain", "empty.db", "none.db", "other.db"))
+        plain.write_text("not a database" * 100, encoding="ascii")
+        empty.touch()
+        with contextlib.closing(sqlite3.connect(other)) as database:
+            database.executescript("PRAGMA journal_mode = wal; CREATE TABLE a (b)")
+        with contextlib.closing(sqlite3.connect(none)) as database:
+            database.executescript("PRAGMA journal_mode = wal; CREATE TABLE a (b); DROP TABLE a")
+        size = self.file.stat().st_size
+        full = {"preexec_fn": lambda: no_longer_than(size // 2)}
+        for name, file, words, options in (
+                ("no file", self.folder / "missing.db", "there is no such file", {}),
+                ("a folder", self.folder, "no regular file", {}),
+                ("an empty file", empty, "no regular file", {}),
+                ("no database", plain, "not a database", {}),
+                ("another program's", other, "the database of another program", {}),
+                ("no broker", none, "there is no row of kind clock", {}),
+                ("no room", self.file, "it would be larger than a file may be", full)):
+            to = self.folder / "refused"
+            done = backed_up(self.program, file, to, **options)
+            self.check(name, done.returncode == 1 and words in done.stderr and not done.stdout and not names_in(to),
+                       f"status {done.returncode}, {names_in(to)}: {done.stdout}{done.stderr}")
+        done = backed_up(self.program, self.file, plain)
+        self.check("no folder", (done.returncode, done.stderr) == (1, f"{plain}: no folder\n"), done.stderr)
+        done = backed_up(self.program, self.file, self.folder / "no/folder")
+        self.check("no parent", done.returncode == 1 and "no such folder" in done.stderr, done.stderr)
+        done = subprocess.run([self.program, "backup", "--db", self.file], capture_output=True, text=True, check=False)
+        self.check("no --to", done.returncode == 2 and "--to <FOLDER>" in done.stderr, done.stderr)
+
+    def find_small_disk(self):
+        """A full disk, in memory. Where nothing can be mounted it is not tried."""
+        to = self.folder / "small"
+        to.mkdir()
+        size = self.file.stat().st_size
+        mounted = subprocess.run(["mount", "-t", "tmpfs", "-o", f"size={size // 2}", "tmpfs", to], check=False,
+                                 capture_output=True)
+        if mounted.returncode != 0:
+            print("backup: no small disk, since nothing can be mounted here")
+            return
+        try:
+            done = backed_up(self.program, self.file, to)
+            self.check("a full disk", done.returncode == 1 and done.stderr.endswith("no space left on the disk\n"),
+                       f"status {done.returncode}: {done.stderr}")
+            self.check("what a full disk leaves", names_in(to) == [], names_in(to))
+        finally:
+            subprocess.run(["umount", to], check=True)
+
+    def find_other_user(self):
+        """A folder that the program may not write, and a database that it may not read. Root may do all."""
+        if os.getuid() != 0:
+            print("backup: only root can start a program as another user")
+            return
+        to = self.folder / "others"
+        to.mkdir(mode=0o700)
+        self.folder.chmod(0o755)
+        program = shutil.copy(self.program, self.folder)
+        for file, name in ((self.backups[0][0], self.backups[0][0]), (self.file, to)):
+            if name == to:
+                self.file.chmod(0o644)
+                Path(f"{self.file}-wal").chmod(0o644)
+            done = backed_up(program, file, to, user=65534, group=65534, extra_groups=[])
+            self.check("another user", done.returncode == 1 and done.stderr == f"{name}: permission denied\n",
+                       done.stderr)
+
+    def keep(self):
+        """Only the newest stay, and other files do."""
+        others = ["broker-20200101T000000Z.db.bak", "broker-2020.db", "other-20200101T000000Z.db", "broker.db"]
+        for name in others:
+            (self.to / name).touch()
+        old = [self.to / f"broker-20200101T00000{number}Z.db" for number in range(3)]
+        for path in old:
+            path.touch()
+        Path(f"{old[0]}-wal").touch()
+        before = {name for name in names_in(self.to) if NAME.fullmatch(name)}
+        done = backed_up(self.program, self.file, self.to, "--keep", str(KEPT))
+        now = names_in(self.to)
+        kept = [name for name in now if NAME.fullmatch(name)]
+        newest = sorted(before | set(kept))[-KEPT:]
+        self.check("--keep", done.returncode == 0 and kept == newest, f"{now}: {done.stdout}{done.stderr}")
+        self.check("other files", set(now) - set(kept) == set(others), now)
+        self.backups = [it for it in self.backups if it[0].exists()]
+
+    def taken(self):
+        """No other file is replaced: names are taken for the next seconds."""
+        to, second = self.folder / "taken", int(time.time())
+        to.mkdir()
+        for number in range(second, second + 20):
+            (to / time.strftime("broker-%Y%m%dT%H%M%SZ.db", time.gmtime(number))).write_text("mine", encoding="ascii")
+        done = backed_up(self.program, self.file, to)
+        self.check("a name that is taken", done.returncode == 1 and "there is a file of this name" in done.stderr,
+                   done.stderr)
+        texts = {(to / name).read_text(encoding="ascii") for name in names_in(to)}
+        self.check("what had the name", texts == {"mine"}, texts)
+
+    def move(self):
+        """The log gets another head all the time, as where it is moved into the database during each copy."""
+        file, to, is_over = self.folder / "moved.db", self.folder / "moved", threading.Event()
+        shutil.copyfile(self.file, file)
+        with open(file, "ab") as grown:
+            grown.truncate(MOVED)
+        log = open(f"{file}-wal", "wb", buffering=0)
+
+        def change():
+            while not is_over.wait(0.0005):
+                log.seek(0)
+                log.write(os.urandom(32))
+
+        thread = threading.Thread(target=change)
+        thread.start()
+        done = backed_up(self.program, file, to)
+        is_over.set()
+        thread.join()
+        log.close()
+        # Under load the log may rest for as long as a copy takes; then the check refuses what it has.
+        gave_up = "each of 20 copies" in done.stderr or "its copy cannot be opened" in done.stderr
+        self.check("a log that is moved each time", done.returncode == 1 and gave_up and not names_in(to),
+                   f"status {done.returncode}, {names_in(to)}: {done.stderr}")
+        os.remove(file)
 
     def judge(self, token):
-        """Starts a broker from each copy."""
-        for to, answered, status, said in self.copies:
-            self.check(to.name, status == 0, f"status {status}: {said}")
-            if status == 0:
-                again = shutil.copytree(to, self.folder / "judged")
-                why = what_is_wrong(self.program, again / self.file.name, token, answered)
-                self.check(to.name, why is None, why)
-                shutil.rmtree(again)
+        """Checks each backup, and starts a broker from it."""
+        for path, answered in self.backups:
+            again = shutil.copytree(path.parent, self.folder / "judged") / path.name
+            done = subprocess.run([self.program, "check", "--db", again], capture_output=True, text=True, check=False)
+            self.check(path.name, done.returncode == 0 and done.stdout.startswith(f"{again}: ok, "),
+                       done.stdout + done.stderr)
+            why = what_is_wrong(self.program, again, token, answered)
+            self.check(path.name, why is None, why)
+            shutil.rmtree(again.parent)
 
-    def find_program(self):
-        """BROKERD reads the copy, else one on the PATH, else the one of the package of the script."""
-        package, tools = self.folder / "package", self.folder / "program"
-        script = shutil.copytree(SCRIPT.parent, package / "examples") / SCRIPT.name
-        for folder in (package / "bin", tools):
-            folder.mkdir()
-        (tools / "brokerd").symlink_to(self.program)
-        cases = {"no program": ("", [], 1), "no such program": ("brokerd", [], 1), "BROKERD": (self.program, [], 0),
-                 "the PATH": ("", [tools], 0), "the package": ("", [], 0)}
-        for name, (program, folders, wanted) in cases.items():
-            if name == "the package":
-                (package / "bin/brokerd").symlink_to(self.program)
-            to = self.folder / name
-            status, said = copy_by_script(program, self.file, to, *folders, script=script)
-            self.check(name, status == wanted and to.exists() == (status == 0) and
-                       said.endswith("name it by BROKERD" if wanted else ""), f"status {status}: {said}")
+    def restore(self, token, used, waiting):
+        """A response that was unwrapped after the backup waits there again, but not once all that wait were dropped."""
+        for command, wanted in ((None, [200, 400, 200]), ("after-restore", [400, 400, 400])):
+            again = self.folder / "restored/broker.db"
+            again.parent.mkdir()
+            shutil.copyfile(self.backups[0][0], again)
+            if command:
+                words = [self.program, command, "--db", again]
+                done = subprocess.run(words, check=False, capture_output=True, text=True)
+                self.check(command, done.returncode == 0, done.stdout + done.stderr)
+            with Broker(self.program, "--db", again, token=token) as broker:
+                found = [unwrap(broker, used), unwrap(broker, used), unwrap(broker, waiting)]
+                self.check("a restored backup", found == wanted, f"unwraps have {found} in place of {wanted}")
+                self.check("a new response", unwrap(broker, wrap(broker)) == 200, "it is not handed out")
+            shutil.rmtree(again.parent)
 
     def find_no_log(self, token):
         """A database that sqlite3 has closed has no log, and is copied alone."""
-        earlier, answered, *_ = self.copies[0]
-        file, to = shutil.copytree(earlier, self.folder / "closed") / self.file.name, self.folder / "no log"
-        with contextlib.closing(sqlite3.connect(file)) as database:
-            database.execute("PRAGMA user_version").fetchone()
+        earlier, answered = self.backups[0]
+        file = shutil.copyfile(earlier, self.folder / "closed.db")
         self.check("the log of a closed database", not Path(f"{file}-wal").exists(), "it is there")
-        status, said = copy_by_script(self.program, file, to)
-        copied = [it.name for it in to.iterdir()] if status == 0 else []
-        self.check("no log", copied == [file.name], f"status {status}: {said}; {copied}")
-        why = what_is_wrong(self.program, to / file.name, token, answered)
-        self.check("a copy without a log", why is None, why)
-
-    def find_no_broker(self):
-        """Of a database without a broker there is no copy."""
-        file, to = self.folder / "none.db", self.folder / "none"
-        with contextlib.closing(sqlite3.connect(file)) as database:
-            database.executescript("PRAGMA journal_mode = wal; CREATE TABLE a (b); DROP TABLE a")
-            status, said = copy_by_script(self.program, file, to)
-        self.check("no broker", status == 1 and said.endswith(f"there is no broker in {file}") and not to.exists(),
-                   f"status {status}: {said}")
-
-    def restore(self, token, used, waiting):
-        """A response that was unwrapped after the copy waits there again, but not once all that wait were dropped."""
-        code = re.search(r'sqlite3 FILE "(DELETE .*?)"', PAGE.read_text(encoding="utf-8"), re.DOTALL)[1]
-        for statements, wanted in (("", [200, 400, 200]), (code, [400, 400, 400])):
-            again = shutil.copytree(self.copies[0][0], self.folder / "restored") / self.file.name
-            with contextlib.closing(sqlite3.connect(again)) as database:
-                database.executescript(statements)
-            with Broker(self.program, "--db", again, token=token) as broker:
-                found = [unwrap(broker, used), unwrap(broker, used), unwrap(broker, waiting)]
-                self.check("a restored copy", found == wanted, f"unwraps have {found} in place of {wanted}")
-                self.check("a new response", unwrap(broker, wrap(broker)) == 200, "it is not handed out")
-            shutil.rmtree(again.parent)
+        done = backed_up(self.program, file, self.folder / "no log")
+        names = names_in(self.folder / "no log")
+        self.check("no log", done.returncode == 0 and len(names) == 1, f"{names}: {done.stderr}")
+        why = what_is_wrong(self.program, self.folder / "no log" / names[0], token, answered)
+        self.check("a backup without a log", why is None, why)
 
 
 def main():
@@ -266,16 +381,20 @@ def main():
                 copy_by_cp(program, trial.file, trial.folder, writer, times)
                 return 0
             used, waiting = wrap(broker), wrap(broker)
-            trial.copy(writer, times)
+            trial.back_up(writer, times)
             trial.check("an unwrap", unwrap(broker, used) == 200, "it is refused")
-            trial.copy_slowly(writer)
+            trial.kill(writer)
+            trial.taken()
+            trial.refuse()
+            trial.find_small_disk()
+            trial.move()
             token = broker.token
         trial.check("the writes", writer.error is None, writer.error)
         trial.judge(token)
         trial.restore(token, used, waiting)
-        trial.find_program()
         trial.find_no_log(token)
-        trial.find_no_broker()
+        trial.find_other_user()
+        trial.keep()
     print(f"{trial.passed} passed, {trial.failed} failed")
     return trial.failed != 0
 

@@ -1,5 +1,6 @@
 #!/usr/bin/env python3
-"""What `brokerd serve --db` says on standard error before it opens a database: the name and the size of a large one.
+"""What `brokerd serve --db` says on standard error before it opens a database: the name and the size of a large one. So
+does `brokerd backup` before it checks the copy of one.
 
     python3 tests/served/large_files.py PROGRAM
 
@@ -20,7 +21,6 @@ from pathlib import Path
 from broker import Broker
 from cases import expect, report, tried
 
-SCRIPT = Path(__file__).resolve().parents[2] / "examples/backup.sh"
 LARGE = 20_000_000
 ROW = "INSERT INTO broker_rows VALUES (5, ?, '', NULL, zeroblob(?))"
 
@@ -97,15 +97,15 @@ def a_large_file_in_the_log(program, made, token, folder):
     return "it is said between 'starting' and 'listening'"
 
 
-def a_backup_of_a_large_file(program, made, token, folder):
+def a_backup_of_a_large_file(program, made, _, folder):
     copy, _ = grown(made, folder, LARGE, 0)
-    shutil.rmtree(f"{folder}/backup", ignore_errors=True)
-    done = subprocess.run([SCRIPT, copy, f"{folder}/backup"], env={**os.environ, "BROKERD": program},
-                          capture_output=True, text=True)
-    expect((done.returncode, done.stdout + done.stderr) == (0, ""), f"status {done.returncode}: {done.stderr}")
-    told = said(program, f"{folder}/backup/copy.db", token)
-    expect(told.startswith(f"opening {folder}/backup/copy.db: "), f"it said {told}")
-    return "it is read by the script, and served"
+    done = subprocess.run([program, "backup", "--db", copy, "--to", f"{folder}/backup"], capture_output=True, text=True)
+    first, *others = done.stderr.splitlines()
+    expect(first == f"checking the copy of {copy}: 20 MB", f"it said {done.stderr}")
+    why = f"{copy}: no backup is kept: row 1 of kind cubbyhole object: "
+    expect(done.returncode == 1 and others[-1].startswith(why), f"status {done.returncode}: {done.stderr}")
+    expect(os.listdir(f"{folder}/backup") == [], "something is left")
+    return "it is said that its copy is checked, which is none of a broker's"
 
 
 def main(program):

@@ -432,6 +432,7 @@ def no_folder(program):
     with tempfile.TemporaryDirectory() as place, Logged(program, file=f"{place}/none/log") as broker:
         ask = request("GET", "auth/token/lookup-self", broker.token)
         expect([broker.ask(ask) for _ in range(5)] == [200] * 5, "no reply")
+        time.sleep(0.3)  # lines are written together
         Path(place, "none").mkdir()
         time.sleep(1.1)
         expect(broker.ask(ask) == 200, "no reply")

@@ -147,7 +147,7 @@ fn counted<S: Alter>(
     rt: &HostRuntime,
     records: &mut SqlRecords<S>,
     watched: Option<Watched>,
-) -> Result<Option<Watched>, AllocError> {
+) -> Result<Option<Watched>, Fault> {
     let Some(mut watched) = watched else {
         return Ok(None);
     };

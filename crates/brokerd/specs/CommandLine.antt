@@ -8,7 +8,8 @@ use Rattle.clap.specs.declared.builder.value_parser.ValueParser.TheVariants.{Sig
 use Rattle.server.specs.declared.settings.LogFormat.{LogFormat}
 use Rattle.server.specs.declared.settings.LogFormat.TheVariants.{Text as AsText, Json}
 use Rattle.brokerd.specs.declared.command.Command.{Command}
-use Rattle.brokerd.specs.declared.command.Command.TheVariants.{Check, Replay, Serve}
+use Rattle.brokerd.specs.declared.command.Command.TheVariants.{AfterRestore, Backup, Check, NewRoot, Replay}
+use Rattle.brokerd.specs.declared.command.Command.TheVariants.{Serve}
 
 -- `--listen ADDR`, which is required
 abbrev pub listen_rule : Rule
@@ -22,6 +23,19 @@ db_rule = record (new_rule (codes "db")) { long = Some (codes "db"); value_names
 -- `--db FILE`, which is required
 abbrev pub checked_rule : Rule
 checked_rule = record (new_rule (codes "db")) { long = Some (codes "db"); value_names = 1; required = true }
+
+-- `--to FOLDER`, which is required
+abbrev pub to_rule : Rule
+to_rule = record (new_rule (codes "to")) { long = Some (codes "to"); value_names = 1; required = true }
+
+-- `--keep N`, from 1 to 100,000
+abbrev pub keep_rule : Rule
+keep_rule =
+    record (new_rule (codes "keep")) {
+      long = Some (codes "keep");
+      value_names = 1;
+      parser = Some (Signed (pos 1) (pos 100000));
+    }
 
 -- `--connections N`, from 1 to 4,294,967,295
 abbrev pub connections_rule : Rule
@@ -71,6 +85,15 @@ status_rule = record (new_rule (codes "status")) { long = Some (codes "status");
 abbrev pub check_rule : Rule
 check_rule = record (new_rule (codes "check")) { long = Some (codes "check"); action = Some SetTrue }
 
+-- `--revoke-others`
+abbrev pub revoke_others_rule : Rule
+revoke_others_rule =
+    record (new_rule (codes "revoke-others")) { long = Some (codes "revoke-others"); action = Some SetTrue }
+
+-- `--tokens`
+abbrev pub tokens_rule : Rule
+tokens_rule = record (new_rule (codes "tokens")) { long = Some (codes "tokens"); action = Some SetTrue }
+
 -- `brokerd replay`
 abbrev pub replay_app : App
 replay_app = new_app (codes "replay")
@@ -78,6 +101,18 @@ replay_app = new_app (codes "replay")
 -- `brokerd check --db FILE`
 abbrev pub check_app : App
 check_app = with_rule (new_app (codes "check")) checked_rule
+
+-- `brokerd backup --db FILE --to FOLDER [--keep N]`
+abbrev pub backup_app : App
+backup_app = with_rule (with_rule (with_rule (new_app (codes "backup")) checked_rule) to_rule) keep_rule
+
+-- `brokerd new-root --db FILE [--revoke-others]`
+abbrev pub new_root_app : App
+new_root_app = with_rule (with_rule (new_app (codes "new-root")) checked_rule) revoke_others_rule
+
+-- `brokerd after-restore --db FILE [--tokens]`
+abbrev pub after_restore_app : App
+after_restore_app = with_rule (with_rule (new_app (codes "after-restore")) checked_rule) tokens_rule
 
 -- `brokerd serve --listen ADDR [--db FILE [--check]] [--connections N] [--at-once M] [--until-stopped]
 -- [--stop-on-input] [--log] [--log-format FORMAT] [--log-file FILE] [--status ADDR]`
@@ -110,7 +145,14 @@ top_app =
 
 -- the whole command line
 unfoldable pub program_app : App
-program_app = with_subcommand (with_subcommand (with_subcommand top_app replay_app.top) check_app.top) serve_app.top
+program_app =
+    with_subcommand
+    (with_subcommand
+    (with_subcommand
+    (with_subcommand (with_subcommand (with_subcommand top_app replay_app.top) check_app.top) backup_app.top)
+    new_root_app.top)
+    after_restore_app.top)
+    serve_app.top
 
 -- the text is a number below 2^32
 abbrev pub IsNumber : Text → Type 0
@@ -176,22 +218,60 @@ abbrev pub LacksFormat : List Row → Type 0
 LacksFormat rows =
     (word : Text) × (first_of (codes "log-format") rows ≡ Some word) × (word ≢ codes "text") × (word ≢ codes "json")
 
+-- the number that the text is, if there is one
+abbrev pub IsNumberIf : Option Text → Option ℕ → Type 0
+IsNumberIf None count = count ≡ None
+IsNumberIf (Some text) count = IsNumber text × (count ≡ Some (digits_value 10 (without_leading_plus text)))
+
+-- how many backups are kept: as many as asked for, or all
+abbrev pub IsKept : List Row → Option ℕ → Type 0
+IsKept rows keep = IsNumberIf (one_of (codes "keep") rows) keep
+
+-- the text for that is no number, which `clap` does not let through
+abbrev pub LacksKept : List Row → Type 0
+LacksKept rows = (text : Text) × (one_of (codes "keep") rows ≡ Some text) × (¬ IsNumber text)
+
+-- ---- what the values of a subcommand mean: none without a value that `clap` does not let be absent
+
+-- a check
+abbrev pub IsCheck : List Row → Option Command → Type 0
+IsCheck rows None = first_of (codes "db") rows ≡ None
+IsCheck rows (Some (Check db)) = first_of (codes "db") rows ≡ Some db.now
+IsCheck rows _ = ⊥
+
+-- a backup; none also for a number that is none, which `clap` does not let through
+abbrev pub IsBackup : List Row → Option Command → Type 0
+IsBackup rows None = (first_of (codes "db") rows ≡ None) ⊎ ((first_of (codes "to") rows ≡ None) ⊎ LacksKept rows)
+IsBackup rows (Some (Backup db to keep)) =
+    (first_of (codes "db") rows ≡ Some db.now)
+    × (first_of (codes "to") rows ≡ Some to.now)
+    × IsKept rows keep
+IsBackup rows _ = ⊥
+
+-- one more root token
+abbrev pub IsNewRoot : List Row → Option Command → Type 0
+IsNewRoot rows None = first_of (codes "db") rows ≡ None
+IsNewRoot rows (Some (NewRoot db revokes_others)) =
+    (first_of (codes "db") rows ≡ Some db.now) × IsFlag revokes_others (one_of (codes "revoke-others") rows)
+IsNewRoot rows _ = ⊥
+
+-- what goes after a restore
+abbrev pub IsAfterRestore : List Row → Option Command → Type 0
+IsAfterRestore rows None = first_of (codes "db") rows ≡ None
+IsAfterRestore rows (Some (AfterRestore db revokes_tokens)) =
+    (first_of (codes "db") rows ≡ Some db.now) × IsFlag revokes_tokens (one_of (codes "tokens") rows)
+IsAfterRestore rows _ = ⊥
+
 -- the values have no address, which `clap` does not let through, or no count, or no places, or no format of the log
 abbrev pub LacksValues : List Row → Type 0
 LacksValues rows =
     (first_of (codes "listen") rows ≡ None) ⊎ (LacksCount rows ⊎ (LacksPlaces rows ⊎ LacksFormat rows))
 
--- the command that a subcommand's name and the values of its matches mean; none if it is the name of another
-abbrev pub IsMeant : Text → List Row → Option Command → Type 0
-IsMeant name rows None =
-    (name ≢ codes "replay")
-    × (name ≡ codes "check" → first_of (codes "db") rows ≡ None)
-    × (name ≡ codes "serve" → LacksValues rows)
-IsMeant name rows (Some Replay) = name ≡ codes "replay"
-IsMeant name rows (Some (Check db)) = (name ≡ codes "check") × (first_of (codes "db") rows ≡ Some db.now)
-IsMeant name rows (Some (Serve db settings)) =
-    (name ≡ codes "serve")
-    × (option_map (λ path. path.now) db ≡ first_of (codes "db") rows)
+-- a broker that is served
+abbrev pub IsServe : List Row → Option Command → Type 0
+IsServe rows None = LacksValues rows
+IsServe rows (Some (Serve db settings)) =
+    (option_map (λ path. path.now) db ≡ first_of (codes "db") rows)
     × (first_of (codes "listen") rows ≡ Some settings.address.now)
     × IsCount rows settings.connections
     × (settings.is_number_given ≡ is_some (first_of (codes "connections") rows))
@@ -202,6 +282,24 @@ IsMeant name rows (Some (Serve db settings)) =
     × (option_map (λ path. path.now) settings.log_file ≡ first_of (codes "log-file") rows)
     × (option_map (λ address. address.now) settings.status ≡ first_of (codes "status") rows)
     × IsFlag settings.checks (one_of (codes "check") rows)
+IsServe rows _ = ⊥
+
+-- the name of no subcommand
+abbrev pub IsNoName : Text → Type 0
+IsNoName name =
+    (name ≢ codes "replay") × (name ≢ codes "check") × (name ≢ codes "backup") × (name ≢ codes "new-root")
+    × (name ≢ codes "after-restore") × (name ≢ codes "serve")
+
+-- the command that a subcommand's name and the values of its matches mean
+abbrev pub IsMeant : Text → List Row → Option Command → Type 0
+IsMeant name rows command =
+    (name ≡ codes "replay" → command ≡ Some Replay)
+    × (name ≡ codes "check" → IsCheck rows command)
+    × (name ≡ codes "backup" → IsBackup rows command)
+    × (name ≡ codes "new-root" → IsNewRoot rows command)
+    × (name ≡ codes "after-restore" → IsAfterRestore rows command)
+    × (name ≡ codes "serve" → IsServe rows command)
+    × (IsNoName name → command ≡ None)
 
 -- the command that the words of a line name, by the subcommand that they enter
 abbrev pub IsCommandOf : Option (Text × List Row) → Option Command → Type 0

@@ -2,8 +2,11 @@
 
 ghost use Rattle.std.specs.Prelude.{◌≡◌, ◌||◌, IfOk, IfErr, IfSome, None, codes, false, map, string_bytes, true};
 ghost use Rattle.clap.specs.Words.{app_of, found_of, kind_of, rows_of, rule_of, subcommand_of, takes};
-ghost use Rattle.brokerd.specs.CommandLine.{program_app, check_app, replay_app, serve_app, listen_rule};
+ghost use Rattle.brokerd.specs.CommandLine.{program_app, backup_app, check_app, replay_app, serve_app, listen_rule};
 ghost use Rattle.brokerd.specs.CommandLine.{at_once_rule, check_rule, checked_rule, connections_rule, db_rule};
+ghost use Rattle.brokerd.specs.CommandLine.{after_restore_app, keep_rule, new_root_app, revoke_others_rule, to_rule};
+ghost use Rattle.brokerd.specs.CommandLine.{tokens_rule, IsAfterRestore, IsBackup, IsCheck, IsKept, IsNewRoot};
+ghost use Rattle.brokerd.specs.CommandLine.{IsServe, LacksKept};
 ghost use Rattle.brokerd.specs.CommandLine.{log_file_rule, log_format_rule, log_rule, status_rule, stop_on_input_rule};
 ghost use Rattle.brokerd.specs.CommandLine.{until_stopped_rule};
 ghost use Rattle.brokerd.specs.CommandLine.{IsMeant, IsCommandOf, IsCount, IsFormat, IsLogged, IsPlaces};
@@ -29,6 +32,22 @@ pub(crate) enum Command<'a> {
     /// Tell whether a file is the database of a broker.
     Check {
         db: &'a str,
+    },
+    /// Copy a database to a file of a folder, and keep so many of them there, or all.
+    Backup {
+        db: &'a str,
+        to: &'a str,
+        keep: Option<u32>,
+    },
+    /// Make one more root token of the broker of a file.
+    NewRoot {
+        db: &'a str,
+        revokes_others: bool,
+    },
+    /// Drop what a restore must not bring back.
+    AfterRestore {
+        db: &'a str,
+        revokes_tokens: bool,
     },
     /// Serve the broker of a file, or one in memory.
     Serve {
@@ -65,12 +84,54 @@ fn meant<'a>(name: &str, found: &ArgMatches<'a>) -> Option<Command<'a>>
         return Some(Command::Replay);
     }
     if name == "check" {
-        let db = found.get_str("db")?;
-        return Some(Command::Check { db });
+        return check_of(found);
     }
-    if name != "serve" {
-        return None;
+    if name == "backup" {
+        return backup_of(found);
     }
+    if name == "new-root" {
+        return new_root_of(found);
+    }
+    if name == "after-restore" {
+        return after_restore_of(found);
+    }
+    if name == "serve" {
+        return serve_of(found);
+    }
+    None
+}
+
+/// The check that is asked for. None without a database, which `clap` does not let through.
+fn check_of<'a>(found: &ArgMatches<'a>) -> Option<Command<'a>>
+    ensures { IsCheck (rows_of (found_of found.now)) result }
+{
+    let db = found.get_str("db")?;
+    Some(Command::Check { db })
+}
+
+/// The root token that is asked for. None without a database, which `clap` does not let through.
+fn new_root_of<'a>(found: &ArgMatches<'a>) -> Option<Command<'a>>
+    ensures { IsNewRoot (rows_of (found_of found.now)) result }
+{
+    let db = found.get_str("db")?;
+    let revokes_others = found.get_flag("revoke-others");
+    Some(Command::NewRoot { db, revokes_others })
+}
+
+/// What is asked for after a restore. None without a database, which `clap` does not let through.
+fn after_restore_of<'a>(found: &ArgMatches<'a>) -> Option<Command<'a>>
+    ensures { IsAfterRestore (rows_of (found_of found.now)) result }
+{
+    let db = found.get_str("db")?;
+    let revokes_tokens = found.get_flag("tokens");
+    Some(Command::AfterRestore { db, revokes_tokens })
+}
+
+/// The serving that is asked for. None without an address, which `clap` does not let through, for both so many
+/// connections and no end, or for a log in a format that there is not.
+fn serve_of<'a>(found: &ArgMatches<'a>) -> Option<Command<'a>>
+    ensures { IsServe (rows_of (found_of found.now)) result }
+{
     let Some(address) = found.get_str("listen") else {
         return None;
     };
@@ -89,6 +150,28 @@ fn meant<'a>(name: &str, found: &ArgMatches<'a>) -> Option<Command<'a>>
             checks: found.get_flag("check"),
         },
     })
+}
+
+/// The backup that is asked for. None without a database, a folder or a number where there should be one, which `clap`
+/// does not let through.
+fn backup_of<'a>(found: &ArgMatches<'a>) -> Option<Command<'a>>
+    ensures { IsBackup (rows_of (found_of found.now)) result }
+{
+    let db = found.get_str("db")?;
+    let to = found.get_str("to")?;
+    let keep = kept(found)?;
+    Some(Command::Backup { db, to, keep })
+}
+
+/// How many backups to keep, and in it none to keep all. None if that is no number, which `clap` does not let through.
+fn kept(found: &ArgMatches<'_>) -> Option<Option<u32>>
+    ensures some { IfSome result (IsKept (rows_of (found_of found.now))) }
+    ensures none { (result ≡ None) → LacksKept (rows_of (found_of found.now)) }
+{
+    match found.try_get_one::<u32>("keep") {
+        Ok(given) => Some(given),
+        Err(_) => None,
+    }
 }
 
 /// Whether requests are to be logged: a format or a file of the log asks for it, too.
@@ -162,6 +245,9 @@ fn program<'a>(alloc: Global) -> Result<clap::Command<'a>, AllocError>
         .subcommand_required(true)
         .subcommand(replay(alloc))?
         .subcommand(check(alloc)?)?
+        .subcommand(backup(alloc)?)?
+        .subcommand(new_root(alloc)?)?
+        .subcommand(after_restore(alloc)?)?
         .subcommand(serve(alloc)?)
 }
 
@@ -190,6 +276,91 @@ fn checked<'a>(alloc: Global) -> Arg<'a>
         .value_name("FILE")
         .help("The database; no program may have it open")
         .required(true)
+}
+
+fn backup<'a>(alloc: Global) -> Result<clap::Command<'a>, AllocError>
+    ensures { IfOk result (λ c. app_of c ≡ backup_app) }
+{
+    clap::Command::new(alloc, "backup")
+        .about(
+            "Copies a database, whose broker may run meanwhile, to a new file of a folder, and checks the copy",
+        )
+        .arg(backed_up(alloc))?
+        .arg(to(alloc))?
+        .arg(keep(alloc))
+}
+
+fn backed_up<'a>(alloc: Global) -> Arg<'a>
+    ensures rule { rule_of result ≡ checked_rule }
+    ensures local { result.global ≡ false }
+{
+    Arg::new(alloc, "db")
+        .long("db")
+        .value_name("FILE")
+        .help("The database; its broker may run")
+        .required(true)
+}
+
+fn to<'a>(alloc: Global) -> Arg<'a>
+    ensures rule { rule_of result ≡ to_rule }
+    ensures local { result.global ≡ false }
+{
+    Arg::new(alloc, "to")
+        .long("to")
+        .value_name("FOLDER")
+        .help("The folder of the backups, made if it is not there")
+        .required(true)
+}
+
+fn keep<'a>(alloc: Global) -> Arg<'a>
+    ensures rule { rule_of result ≡ keep_rule }
+    ensures local { result.global ≡ false }
+{
+    Arg::new(alloc, "keep")
+        .long("keep")
+        .value_name("N")
+        .help(
+            "How many of its backups stay in the folder, the newest ones, up to 100000; all if not given",
+        )
+        .value_parser(clap::value_parser!(u32).range(1..=100_000))
+}
+
+fn new_root<'a>(alloc: Global) -> Result<clap::Command<'a>, AllocError>
+    ensures { IfOk result (λ c. app_of c ≡ new_root_app) }
+{
+    clap::Command::new(alloc, "new-root")
+        .about("Makes one more root token of the broker of a file, and prints it")
+        .arg(checked(alloc))?
+        .arg(revoke_others(alloc))
+}
+
+fn revoke_others<'a>(alloc: Global) -> Arg<'a>
+    ensures rule { rule_of result ≡ revoke_others_rule }
+    ensures local { result.global ≡ false }
+{
+    Arg::new(alloc, "revoke-others")
+        .long("revoke-others")
+        .action(ArgAction::SetTrue)
+        .help("Revoke every other token with the policy root; the tokens that it made live on")
+}
+
+fn after_restore<'a>(alloc: Global) -> Result<clap::Command<'a>, AllocError>
+    ensures { IfOk result (λ c. app_of c ≡ after_restore_app) }
+{
+    clap::Command::new(alloc, "after-restore")
+        .about("Drops all wrapped responses, which a restored file may have once more")
+        .arg(checked(alloc))?
+        .arg(tokens(alloc))
+}
+
+fn tokens<'a>(alloc: Global) -> Arg<'a>
+    ensures rule { rule_of result ≡ tokens_rule }
+    ensures local { result.global ≡ false }
+{
+    Arg::new(alloc, "tokens")
+        .long("tokens")
+        .action(ArgAction::SetTrue)
+        .help("Revoke all tokens too, but those with the policy root and without an end")
 }
 
 fn serve<'a>(alloc: Global) -> Result<clap::Command<'a>, AllocError>

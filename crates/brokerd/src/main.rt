@@ -9,12 +9,15 @@ ghost use Rattle.clap.specs.Words.{kind_of};
 ghost use Rattle.brokerd.specs.Exits.{status_after, status_of};
 
 mod command;
+mod maintaining;
 
+use backup::{Failure, Request, back_up, prune};
 use broker_server::{ServeError, serve_file, serve_in_memory};
 use clap::error::{Error, ErrorKind};
 use command::{Command, command_of};
 use database_check::{Finding, check_file};
 use endpoints::{Reading, Writing};
+use maintaining::{after_restore, new_root};
 use replay::{Exit, replay};
 use server::Settings;
 use std::io::{Eprint, Print};
@@ -35,6 +38,18 @@ fn main(rt: HostRuntime) -> anyhow::Result<ExitCode> {
             tell(&rt, exit)
         }
         Ok(Some(Command::Check { db })) => check(&rt, db),
+        Ok(Some(Command::Backup { db, to, keep })) => save(
+            &rt,
+            &Request {
+                db,
+                folder: to,
+                keep,
+            },
+        ),
+        Ok(Some(Command::NewRoot { db, revokes_others })) => new_root(&rt, db, revokes_others),
+        Ok(Some(Command::AfterRestore { db, revokes_tokens })) => {
+            after_restore(&rt, db, revokes_tokens)
+        }
         Ok(Some(Command::Serve { db, settings })) => serve(&rt, db, &settings),
         Ok(None) => refuse_options(
             &rt,
@@ -56,6 +71,28 @@ fn check(rt: &HostRuntime, path: &str) -> anyhow::Result<ExitCode> {
     };
     println!(rt; "{path}: {finding}")?;
     Ok(ExitCode::from(found_status(&finding)))
+}
+
+/// Makes a backup, says on standard output which, and removes older ones. The status is 0, or 1 where there is no
+/// backup, or an older one could not be removed.
+fn save(rt: &HostRuntime, request: &Request<'_>) -> anyhow::Result<ExitCode> {
+    let made = match back_up(rt, request) {
+        Ok(made) => made,
+        Err(failure) => return refuse_backup(rt, &failure),
+    };
+    println!(rt; "{made}")?;
+    match prune(rt, request) {
+        Ok(()) => Ok(ExitCode::SUCCESS),
+        Err(failure) => refuse_backup(rt, &failure),
+    }
+}
+
+/// Says on standard error why there is no backup, or why an older one is left, and answers the status.
+fn refuse_backup<R: Eprint>(rt: &R, failure: &Failure) -> anyhow::Result<ExitCode>
+    ensures { IfOk result (λ code. exit_status code ≡ 1) }
+{
+    eprintln!(rt; "{failure}")?;
+    Ok(ExitCode::from(1))
 }
 
 /// The exit status after a check: 0 where the rows are those of a sound broker.
@@ -99,7 +136,7 @@ fn refuse_options<R: Eprint>(rt: &R, why: &str) -> anyhow::Result<ExitCode>
 
 /// Says on standard error why the command did not end well, if so, and answers the status: 0, or 1 after a
 /// fault, or 2 at a bad line.
-fn tell<R: Eprint>(rt: &R, exit: Exit) -> anyhow::Result<ExitCode>
+pub(crate) fn tell<R: Eprint>(rt: &R, exit: Exit) -> anyhow::Result<ExitCode>
     ensures { IfOk result (λ code. exit_status code ≡ status_after exit) }
 {
     match exit {

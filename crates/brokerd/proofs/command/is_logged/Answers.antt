@@ -1,4 +1,4 @@
-use Rattle.std.proofs.Common.{◌≡◌, ◌∙◌, ◌||◌, Bool, ap₂, codes}
+use Rattle.std.proofs.Common.{◌∙◌, ◌||◌, Bool, ap₂, codes}
 use Rattle.clap.specs.Words.{found_of, one_text}
 use Rattle.clap.proofs.WalkLemmas.{first_value-rows, one_text-rows}
 use Rattle.brokerd.proofs.FlagLemmas.{given_of, is_flag}

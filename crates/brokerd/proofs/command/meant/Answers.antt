@@ -1,83 +1,137 @@
-use Rattle.std.proofs.Common.{◌≡◌, ◌≢◌, ◌∙◌, ◌∷◌, [], arith, inl, inr, List, ℕ, Option, Some, None, option_map, sym}
-use Rattle.std.proofs.Common.{refl, ap, codes, Bor, rules}
-use Rattle.clap.specs.Words.{found_of, one_text}
-use Rattle.clap.proofs.WalkLemmas.{first_value-rows, one_text-rows}
-use Rattle.brokerd.proofs.FlagLemmas.{given_of, is_flag}
+use Rattle.std.proofs.Common.{◌≡◌, ◌≢◌, ◌∙◌, ◌∷◌, [], arith, List, ℕ, refl, ap, codes, rules, sym}
 use Rattle.brokerd.proofs.command.meant.Goals as goal
 
-none_of : {X : Type 0} (o : Option X) → ((x : X) → o ≢ Some x) → o ≡ None
-none_of None never = refl
-none_of (Some x) never = absurd (never x refl)
+-- ---- names of subcommands differ in their first letters
 
 abbrev first : List ℕ → ℕ
 first [] = 0
 first (c ∷ cs) = c
 
-differ : codes "check" ≢ codes "serve"
-differ e = let c : 99 ≡ 115 = ap first e in omega (arith, c)
+apart : (name x y : List ℕ) → first x ≢ first y → name ≡ x → name ≢ y
+apart name x y differ is other = differ (ap first (sym is ∙ other))
 
-pub returns-in_err-db : goal.returns-in_err-db
-returns-in_err-db c =
-    let f = found_of c.args.found.now in
-    let is : c.args.name.now ≡ codes "check" = search rules in
-    rw (c.from_residual.ensures) (
-      search rules,
-      λ _. sym (c.in_err-db.ensures ∙ first_value-rows f (codes "db")),
-      λ other. absurd (differ (sym is ∙ other)),
+pub returns-then-eq : goal.returns-then-eq
+returns-then-eq c =
+    let name = c.args.name.now in
+    let is : name ≡ codes "replay" = search rules in (
+      λ _. refl,
+      λ other. absurd (apart name (codes "replay") (codes "check")
+          (λ e. let n : 114 ≡ 99 = e in omega (arith, n)) is other),
+      λ other. absurd (apart name (codes "replay") (codes "backup")
+          (λ e. let n : 114 ≡ 98 = e in omega (arith, n)) is other),
+      λ other. absurd (apart name (codes "replay") (codes "new-root")
+          (λ e. let n : 114 ≡ 110 = e in omega (arith, n)) is other),
+      λ other. absurd (apart name (codes "replay") (codes "after-restore")
+          (λ e. let n : 114 ≡ 97 = e in omega (arith, n)) is other),
+      λ other. absurd (apart name (codes "replay") (codes "serve")
+          (λ e. let n : 114 ≡ 115 = e in omega (arith, n)) is other),
+      λ none. absurd (none.0 is),
     )
 
 pub returns-then-eq-2 : goal.returns-then-eq-2
 returns-then-eq-2 c =
-    let f = found_of c.args.found.now in
-    (search rules, sym (c.in_ok-db.ensures ∙ first_value-rows f (codes "db")))
-
-pub returns-in_default : goal.returns-in_default
-returns-in_default c =
-    let f = found_of c.args.found.now in
-    let none = none_of c.get_str-2.result c.in_default.not-Some in
-    let differs : c.args.name.now ≢ codes "check" = search rules in (
-      search rules,
-      λ is. absurd (differs is),
-      λ _. inl (sym (c.get_str-2.ensures ∙ first_value-rows f (codes "listen")) ∙ ap (option_map _) none),
+    let name = c.args.name.now in
+    let is : name ≡ codes "check" = search rules in
+    let no_replay : name ≢ codes "replay" = search rules in (
+      λ other. absurd (no_replay other),
+      λ _. c.check_of.ensures,
+      λ other. absurd (apart name (codes "check") (codes "backup")
+          (λ e. let n : 99 ≡ 98 = e in omega (arith, n)) is other),
+      λ other. absurd (apart name (codes "check") (codes "new-root")
+          (λ e. let n : 99 ≡ 110 = e in omega (arith, n)) is other),
+      λ other. absurd (apart name (codes "check") (codes "after-restore")
+          (λ e. let n : 99 ≡ 97 = e in omega (arith, n)) is other),
+      λ other. absurd (apart name (codes "check") (codes "serve")
+          (λ e. let n : 99 ≡ 115 = e in omega (arith, n)) is other),
+      λ none. absurd (none.1 is),
     )
 
-pub returns-in_err-count : goal.returns-in_err-count
-returns-in_err-count c =
-    let differs : c.args.name.now ≢ codes "check" = search rules in
-    rw (c.from_residual-in_err-count.ensures)
-    (search rules, λ is. absurd (differs is), λ _. inr (inl (c.in_err-count.ensures.none refl)))
+pub returns-then-eq-3 : goal.returns-then-eq-3
+returns-then-eq-3 c =
+    let name = c.args.name.now in
+    let is : name ≡ codes "backup" = search rules in
+    let no_replay : name ≢ codes "replay" = search rules in
+    let no_check : name ≢ codes "check" = search rules in (
+      λ other. absurd (no_replay other),
+      λ other. absurd (no_check other),
+      λ _. c.backup_of.ensures,
+      λ other. absurd (apart name (codes "backup") (codes "new-root")
+          (λ e. let n : 98 ≡ 110 = e in omega (arith, n)) is other),
+      λ other. absurd (apart name (codes "backup") (codes "after-restore")
+          (λ e. let n : 98 ≡ 97 = e in omega (arith, n)) is other),
+      λ other. absurd (apart name (codes "backup") (codes "serve")
+          (λ e. let n : 98 ≡ 115 = e in omega (arith, n)) is other),
+      λ none. absurd (none.2 is),
+    )
 
-pub returns-in_err-places : goal.returns-in_err-places
-returns-in_err-places c =
-    let differs : c.args.name.now ≢ codes "check" = search rules in
-    rw (c.from_residual-in_err-places.ensures)
-    (search rules, λ is. absurd (differs is), λ _. inr (inr (inl (c.in_err-places.ensures.none refl))))
+pub returns-then-eq-4 : goal.returns-then-eq-4
+returns-then-eq-4 c =
+    let name = c.args.name.now in
+    let is : name ≡ codes "new-root" = search rules in
+    let no_replay : name ≢ codes "replay" = search rules in
+    let no_check : name ≢ codes "check" = search rules in
+    let no_backup : name ≢ codes "backup" = search rules in (
+      λ other. absurd (no_replay other),
+      λ other. absurd (no_check other),
+      λ other. absurd (no_backup other),
+      λ _. c.new_root_of.ensures,
+      λ other. absurd (apart name (codes "new-root") (codes "after-restore")
+          (λ e. let n : 110 ≡ 97 = e in omega (arith, n)) is other),
+      λ other. absurd (apart name (codes "new-root") (codes "serve")
+          (λ e. let n : 110 ≡ 115 = e in omega (arith, n)) is other),
+      λ none. absurd (none.3 is),
+    )
 
-pub returns-in_err-log_form : goal.returns-in_err-log_form
-returns-in_err-log_form c =
-    let differs : c.args.name.now ≢ codes "check" = search rules in
-    rw (c.from_residual-in_err-log_form.ensures)
-    (search rules, λ is. absurd (differs is), λ _. inr (inr (inr (c.in_err-log_form.ensures.none refl))))
+pub returns-then-eq-5 : goal.returns-then-eq-5
+returns-then-eq-5 c =
+    let name = c.args.name.now in
+    let is : name ≡ codes "after-restore" = search rules in
+    let no_replay : name ≢ codes "replay" = search rules in
+    let no_check : name ≢ codes "check" = search rules in
+    let no_backup : name ≢ codes "backup" = search rules in
+    let no_new_root : name ≢ codes "new-root" = search rules in (
+      λ other. absurd (no_replay other),
+      λ other. absurd (no_check other),
+      λ other. absurd (no_backup other),
+      λ other. absurd (no_new_root other),
+      λ _. c.after_restore_of.ensures,
+      λ other. absurd (apart name (codes "after-restore") (codes "serve")
+          (λ e. let n : 97 ≡ 115 = e in omega (arith, n)) is other),
+      λ none. absurd (none.4 is),
+    )
+
+pub returns-then-eq-6 : goal.returns-then-eq-6
+returns-then-eq-6 c =
+    let name = c.args.name.now in
+    let is : name ≡ codes "serve" = search rules in
+    let no_replay : name ≢ codes "replay" = search rules in
+    let no_check : name ≢ codes "check" = search rules in
+    let no_backup : name ≢ codes "backup" = search rules in
+    let no_new_root : name ≢ codes "new-root" = search rules in
+    let no_after_restore : name ≢ codes "after-restore" = search rules in (
+      λ other. absurd (no_replay other),
+      λ other. absurd (no_check other),
+      λ other. absurd (no_backup other),
+      λ other. absurd (no_new_root other),
+      λ other. absurd (no_after_restore other),
+      λ _. c.serve_of.ensures,
+      λ none. absurd (none.5 is),
+    )
 
 pub returns : goal.returns
 returns c =
-    let f = found_of c.args.found.now in (
-      search rules,
-      c.get_str-3.ensures ∙ first_value-rows f (codes "db"),
-      sym (c.get_str-2.ensures ∙ first_value-rows f (codes "listen"))
-          ∙ ap (λ (o : Option (Bor (List ℕ))). option_map (λ s. s.now) o) c.in-Some.is,
-      c.in_ok-count.ensures.some,
-      c.is_some.ensures
-          ∙ given_of c.get_str-4.result _ (c.get_str-4.ensures ∙ first_value-rows f (codes "connections")),
-      c.in_ok-places.ensures.some,
-      rw (← one_text-rows f (codes "stop-on-input"))
-          (is_flag (one_text f (codes "stop-on-input")) c.get_flag.result c.get_flag.ensures.none
-          c.get_flag.ensures.other c.get_flag.ensures.value),
-      c.is_logged.ensures,
-      c.in_ok-log_form.ensures.some,
-      c.get_str-5.ensures ∙ first_value-rows f (codes "log-file"),
-      c.get_str-6.ensures ∙ first_value-rows f (codes "status"),
-      rw (← one_text-rows f (codes "check"))
-          (is_flag (one_text f (codes "check")) c.get_flag-2.result c.get_flag-2.ensures.none c.get_flag-2.ensures.other
-          c.get_flag-2.ensures.value),
+    let name = c.args.name.now in
+    let no_replay : name ≢ codes "replay" = search rules in
+    let no_check : name ≢ codes "check" = search rules in
+    let no_backup : name ≢ codes "backup" = search rules in
+    let no_new_root : name ≢ codes "new-root" = search rules in
+    let no_after_restore : name ≢ codes "after-restore" = search rules in
+    let no_serve : name ≢ codes "serve" = search rules in (
+      λ other. absurd (no_replay other),
+      λ other. absurd (no_check other),
+      λ other. absurd (no_backup other),
+      λ other. absurd (no_new_root other),
+      λ other. absurd (no_after_restore other),
+      λ other. absurd (no_serve other),
+      λ _. refl,
     )

@@ -41,6 +41,12 @@ returns c =
     ∙ ap₂ with_subcommand begun (top c.replay.ensures) in
     let two = c.in_ok-subcommand-2.ensures.shape (local _ _ c.in_ok-check.ensures refl)
     ∙ ap₂ with_subcommand one (top c.in_ok-check.ensures) in
-    IfOk-weaker c.subcommand-3.result _ _
-    (λ d h. h.shape (local _ _ c.in_ok-serve.ensures refl) ∙ ap₂ with_subcommand two (top c.in_ok-serve.ensures))
-    c.subcommand-3.ensures
+    let three = c.in_ok-subcommand-3.ensures.shape (local _ _ c.in_ok-backup.ensures refl)
+    ∙ ap₂ with_subcommand two (top c.in_ok-backup.ensures) in
+    let four = c.in_ok-subcommand-4.ensures.shape (local _ _ c.in_ok-new_root.ensures refl)
+    ∙ ap₂ with_subcommand three (top c.in_ok-new_root.ensures) in
+    let five = c.in_ok-subcommand-5.ensures.shape (local _ _ c.in_ok-after_restore.ensures refl)
+    ∙ ap₂ with_subcommand four (top c.in_ok-after_restore.ensures) in
+    IfOk-weaker c.subcommand-6.result _ _
+    (λ d h. h.shape (local _ _ c.in_ok-serve.ensures refl) ∙ ap₂ with_subcommand five (top c.in_ok-serve.ensures))
+    c.subcommand-6.ensures
