@@ -136,7 +136,8 @@ def try_asked(trial, task):
             expect(found == wanted, f"a token is answered {found} in place of {wanted}")
             asked += 1
         if text is not None:
-            expect(status(running, "POST", "sys/policies/acl/new", text, '{"policy":"{\\"path\\":{}}"}') == 204, "it is no root")
+            made = status(running, "POST", "sys/policies/acl/new", text, '{"policy":"{\\"path\\":{}}"}')
+            expect(made == 204, f"it is no root: {made}")
         root = text or next(token for token in after.tokens if after.tokens[token].is_root())
         body = f'{{"token":"{known["waiting"]}"}}'
         found, wanted = status(running, "POST", "sys/wrapping/unwrap", root, body), 200 if after.waiting else 400
