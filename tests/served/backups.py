@@ -38,6 +38,7 @@ KEPT = 5
 MOVED = 50_000_000  # bytes of a database whose copy takes so long that its log changes meanwhile
 NAME = re.compile(r"broker-\d{8}T\d{6}Z\.db")
 LINE = re.compile(r"(\S+): (\d+) bytes, ok, 1 token, 0 cubbyhole objects, (\d+) secrets with \3 versions, .*\n")
+PROGRESS = re.compile(r"(?:(?:copying|checking the copy of) \S+: \d+ MB\n)*")  # of a large file, or one that takes long
 SAMPLES = 20
 SHOWN = 3
 BETWEEN = 0.2  # seconds between the plain copies of the two files
@@ -173,7 +174,7 @@ class Trial:
             answered = writer.answered
             done = backed_up(self.program, self.file, self.to)
             found = LINE.fullmatch(done.stdout)
-            self.check(f"backup {turn}", done.returncode == 0 and found and not done.stderr,
+            self.check(f"backup {turn}", done.returncode == 0 and found and PROGRESS.fullmatch(done.stderr),
                        f"status {done.returncode}: {done.stdout}{done.stderr}")
             if found:
                 path, size = Path(found[1]), int(found[2])
