@@ -33,6 +33,7 @@ from broker import Broker, connect, exchange, request
 
 SECRETS = 1_000
 TIMES = 20
+PAUSE = 0.004  # seconds between two writes
 LEAST = 5  # secrets that are written during a backup, on average
 KEPT = 5
 MOVED = 50_000_000  # bytes of a database whose copy takes so long that its log changes meanwhile
@@ -45,7 +46,8 @@ BETWEEN = 0.2  # seconds between the plain copies of the two files
 LONGEST = 1.0  # seconds without a reply
 
 class Writer:
-    """Writes one secret after another, until the block ends."""
+    """Writes one secret after another, until the block ends; after the first ones not so fast that the database grows
+    much while it is backed up."""
 
     def __init__(self, broker):
         self.broker, self.answered, self.longest, self.error = broker, -1, 0.0, None
@@ -74,6 +76,8 @@ class Writer:
                     if status != 200:
                         raise AssertionError(f"the write of secret {number} has status {status}")
                     self.answered, self.longest = number, max(self.longest, seconds)
+                    if number > SECRETS:
+                        time.sleep(PAUSE)
         except (AssertionError, OSError) as error:
             self.error = error
 
