@@ -189,7 +189,10 @@ def try_failed(trial, task, call, way):
             break
         is_killed = ended.returncode == -9
         expect(is_killed if way == "kill" else fault_in(ended) == FAULT_OF_STORAGE, f"{call} {number}: {ended}")
-        expect(after == before or is_whole(task, broker, before, after), f"{call} {number}: a part is done")
+        # A sync that fails can leave what it should have kept.
+        may_be_done = is_killed or call in ("fsync", "fdatasync")
+        expect(after == before or (may_be_done and is_whole(task, broker, before, after)),
+               f"{call} {number}: a part is done")
         met.append("killed" if is_killed else "failed")
     else:
         expect(False, f"{call} is called more than 99 times")
