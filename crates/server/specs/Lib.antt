@@ -1,12 +1,17 @@
+pub mod Accepted
+pub mod Arriving
 pub mod Drawn
 pub mod Hiding
 pub mod Lines
 pub mod LogLine
 pub mod Moments
 pub mod Noting
+pub mod Numbers
 pub mod Patience
 pub mod Places
 pub mod Pulling
 pub mod Replying
 pub mod ServedHub
+pub mod Serving
+pub mod Sockets
 pub mod Starting

@@ -25,6 +25,12 @@ longest_silence = 5000
 abbrev pub longest_exchange : ℕ
 longest_exchange = 20000
 
+-- whether what comes is passed over
+abbrev pub is_farewell : Wait → Bool
+is_farewell NextRequest = false
+is_farewell Progress = false
+is_farewell Farewell = true
+
 -- Whether its time is over, by the time since the last byte, and the age of what is waited for.
 abbrev pub is_over : Wait → ℕ → ℕ → Bool → Bool
 is_over NextRequest silence age is_pressed = not (nat_lt age (if is_pressed then short_pause else long_pause))

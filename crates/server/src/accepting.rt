@@ -1,12 +1,16 @@
 //! New connections: how many there may be, and when the next one is accepted.
 
+ghost use Rattle.std.specs.Prelude.{◌≡◌, ◌⊎◌, List, [], None, Some};
+ghost use Rattle.server.specs.Accepted.{AreServed};
+ghost use Rattle.server.specs.Arriving.{HandsOut};
+ghost use Rattle.server.specs.Numbers.{connection_at};
+
+use crate::ends::{Listener, Reader, Writer};
 use crate::links::Links;
+use crate::peers::Accepted;
 use crate::waiting::TICK;
-use mio::net::TcpListener;
-use mio::{Interest, Registry, Token};
+use mio::{Registry, Token};
 use std::cell::Cell;
-use std::io;
-use std::io::ErrorKind;
 use std::rc::Rc;
 
 /// The token of the listener: no connection has it.
@@ -24,9 +28,6 @@ pub(crate) const OPERATORS: usize = 16;
 /// The token of the first of these: no other connection has it, nor one of the next `OPERATORS` tokens.
 pub(crate) const FIRST_OPERATOR: usize = usize::MAX - 2 - OPERATORS;
 
-/// Numbers of connections are below this one. Those from it on, as tokens, are the ones above.
-const NUMBERS: u64 = FIRST_OPERATOR as u64;
-
 /// How many connections are accepted in one round.
 const ROUND: u32 = 16;
 
@@ -35,12 +36,10 @@ const PAUSE: u64 = 100;
 
 /// Where connections come from, while more of them are to be served. Times are milliseconds since the start.
 #[derive(Drop)]
-pub(crate) struct Accepting {
-    listener: Option<TcpListener>,
+pub(crate) struct Accepting<L> {
+    listener: Option<L>,
     /// How many more are to be accepted.
     left: u64,
-    /// The number of the next connection.
-    next: u64,
     at_once: usize,
     /// Whether somebody may wait to be accepted.
     may_wait: bool,
@@ -54,42 +53,39 @@ pub(crate) struct Accepting {
     are_all: Rc<Cell<bool>>,
 }
 
-impl Accepting {
-    /// Registers the listener: so many connections are to be served, and at most so many at once.
+impl<L: Drop> Accepting<L> {
+    /// From this listener so many connections are to be served, and at most so many at once.
     pub(crate) fn new(
-        registry: &Registry,
-        mut listener: TcpListener,
+        listener: L,
         connections: u64,
         at_once: usize,
         are_all: Rc<Cell<bool>>,
-    ) -> io::Result<Accepting> {
-        registry.register(&mut listener, LISTENER, Interest::READABLE)?;
-        Ok(Accepting {
+    ) -> Accepting<L>
+        ensures { result.listener ≡ Some listener }
+    {
+        Accepting {
             listener: Some(listener),
             left: connections,
-            next: 0,
             at_once,
             may_wait: false,
             is_scarce: false,
             retry_at: 0,
             look_at: 0,
             are_all,
-        })
-    }
-
-    /// The number of the first connection.
-    pub(crate) fn begin(&mut self, first: u64) {
-        self.next = first;
-        self.shut_if_done();
+        }
     }
 
     /// The listener was reported.
-    pub(crate) fn mark(&mut self) {
+    pub(crate) fn mark(&mut self)
+        ensures { self.new.listener ≡ self.old.listener }
+    {
         self.may_wait = true;
     }
 
     /// Accepts no more. Those that wait in the system's queue are reset.
-    pub(crate) fn shut(&mut self) {
+    pub(crate) fn shut(&mut self)
+        ensures { self.new.listener ≡ None }
+    {
         self.listener = None;
         self.may_wait = false;
     }
@@ -117,7 +113,9 @@ impl Accepting {
 
     /// Another has left its place, or none could. The next one that waits is accepted without a pause then; and until
     /// one was accepted, or some time has passed, no other is to leave.
-    pub(crate) fn note_room(&mut self, was_made: bool, now: u64) {
+    pub(crate) fn note_room(&mut self, was_made: bool, now: u64)
+        ensures { self.new.listener ≡ self.old.listener }
+    {
         if was_made {
             self.retry_at = 0;
         }
@@ -130,49 +128,85 @@ impl Accepting {
     }
 
     /// Accepts those that wait, if there are places.
-    pub(crate) fn accept(&mut self, registry: &Registry, links: &mut Links, now: u64) {
+    pub(crate) fn accept<R: Reader, W: Writer>(
+        &mut self,
+        registry: &Registry,
+        links: &mut Links<R, W>,
+        now: u64,
+    )
+    where
+        L: Listener<R, W>,
+        ensures accepted { (accepted : List (R × W))
+            × HandsOut L.may_accept self.old.listener self.new.listener accepted
+            × AreServed R.left W.written accepted [] links.old.peers.next (connection_at links.old.peers.peers)
+            links.new.peers.next (connection_at links.new.peers.peers) }
+        ensures first { links.new.peers.first ≡ links.old.peers.first }
+    {
         for _ in 0..ROUND {
             if !self.is_open(now, links.len()) {
                 return;
             }
             self.accept_one(registry, links, now);
-            self.shut_if_done();
-            self.ask_if_full(registry, links.len());
         }
     }
 
     /// Accepts one, if one waits. One that cannot be accepted counts, and a pause follows. It does not count if the
     /// system lacked descriptors or memory: then it still waits.
-    fn accept_one(&mut self, registry: &Registry, links: &mut Links, now: u64) {
-        let Some(listener) = &self.listener else {
+    fn accept_one<R: Reader, W: Writer>(
+        &mut self,
+        registry: &Registry,
+        links: &mut Links<R, W>,
+        now: u64,
+    )
+    where
+        L: Listener<R, W>,
+        ensures accepted { (accepted : List (R × W))
+            × HandsOut L.may_accept self.old.listener self.new.listener accepted
+            × AreServed R.left W.written accepted [] links.old.peers.next (connection_at links.old.peers.peers)
+            links.new.peers.next (connection_at links.new.peers.peers) }
+        ensures first { links.new.peers.first ≡ links.old.peers.first }
+    {
+        let Some(listener) = &mut self.listener else {
             return;
         };
-        match listener.accept() {
-            Ok((stream, address)) => {
+        let accepted = links.accept(registry, listener, now);
+        self.note(accepted, now);
+        self.shut_if_done(links.is_used_up());
+        self.ask_if_full::<R, W>(registry, links.len());
+    }
+
+    /// Takes down what came of accepting one.
+    fn note(&mut self, accepted: Accepted, now: u64)
+        ensures { self.new.listener ≡ self.old.listener }
+    {
+        match accepted {
+            Accepted::Open | Accepted::Closed => {
                 self.is_scarce = false;
                 self.look_at = 0;
                 self.left = self.left.saturating_sub(1);
-                links.add(registry, stream, address, self.next, now);
-                self.next = self.next.saturating_add(1);
             }
-            Err(error) if error.kind() == ErrorKind::WouldBlock => {
+            Accepted::NoneWaits => {
                 self.is_scarce = false;
                 self.may_wait = false;
             }
-            Err(error) if error.kind() == ErrorKind::Interrupted => {}
-            Err(error) => {
+            Accepted::Interrupted => {}
+            Accepted::Scarce => {
                 self.retry_at = now.saturating_add(PAUSE);
-                self.is_scarce = is_scarce(&error);
-                if !self.is_scarce {
-                    self.left = self.left.saturating_sub(1);
-                }
+                self.is_scarce = true;
+            }
+            Accepted::Failed => {
+                self.retry_at = now.saturating_add(PAUSE);
+                self.is_scarce = false;
+                self.left = self.left.saturating_sub(1);
             }
         }
     }
 
     /// Accepts no more if enough were accepted, or no number is left.
-    fn shut_if_done(&mut self) {
-        if self.left == 0 || self.next >= NUMBERS {
+    pub(crate) fn shut_if_done(&mut self, is_used_up: bool)
+        ensures { (self.new.listener ≡ self.old.listener) ⊎ (self.new.listener ≡ None) }
+    {
+        if self.left == 0 || is_used_up {
             self.are_all.set(true);
             self.shut();
         }
@@ -181,19 +215,15 @@ impl Accepting {
     /// If every place is taken, or the system lacks descriptors or memory, asks the system anew whether somebody waits:
     /// it reports the listener if so. What was reported before may be over, and nobody should leave for a peer that
     /// does not wait: where descriptors are lacking, an accept fails for that even if none waits.
-    fn ask_if_full(&mut self, registry: &Registry, len: usize) {
+    fn ask_if_full<R: Reader, W: Writer>(&mut self, registry: &Registry, len: usize)
+    where
+        L: Listener<R, W>,
+        ensures { self.new.listener ≡ self.old.listener }
+    {
         if (len >= self.at_once || self.is_scarce)
             && let Some(listener) = &mut self.listener
         {
-            self.may_wait = registry
-                .reregister(listener, LISTENER, Interest::READABLE)
-                .is_err();
+            self.may_wait = listener.ask_again(registry).is_err();
         }
     }
-}
-
-/// Whether the system is out of descriptors or memory: EMFILE, ENFILE, ENOMEM, ENOBUFS. Then no connection was taken
-/// from those that wait.
-fn is_scarce(error: &io::Error) -> bool {
-    matches!(error.raw_os_error(), Some(24 | 23 | 12 | 105))
 }

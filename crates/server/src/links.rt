@@ -1,36 +1,34 @@
 //! The open connections of a server, and a queue of those that can go on.
 
-ghost use Rattle.std.specs.Prelude.{◌≤◌};
-ghost use Rattle.hub.specs.Representing.{ConnectionsRepresent};
-ghost use Rattle.hub.specs.ServedConnection.{LeavesClosed};
-ghost use Rattle.hub.specs.Supplies.{Supplies};
-ghost use Rattle.hub.specs.World.{Connections};
-ghost use Rattle.server.specs.ServedHub.{ClosesSome, LeavesBelow, LeavesServed};
+ghost use Rattle.std.specs.Prelude.{◌≡◌, List, [], Ok};
+ghost use Rattle.hub.specs.Supplies.{GivesInTurn, Supplies};
+ghost use Rattle.server.specs.Accepted.{AreServed};
+ghost use Rattle.server.specs.Numbers.{connection_at};
+ghost use Rattle.server.specs.Serving.{IsEmpty, ServesPeers, Stand};
 
+use crate::ends::{Listener, Reader, Writer};
 use crate::log::Log;
 use crate::notes::Notes;
 use crate::peer::{Peer, Stay};
+use crate::peers::{Accepted, Peers};
 use crate::service::{Round, Service};
 use crate::tally::Tally;
 use crate::waiting::{Claim, goes_before};
 use broker::Store;
 use broker_types::Fault;
 use hub::{Clock, Hub, WordSource};
+use mio::Registry;
 use mio::event::Event;
-use mio::net::TcpStream;
-use mio::{Interest, Registry, Token};
 use status::Closing;
 use std::alloc::{AllocError, Global};
-use std::collections::{BTreeMap, VecDeque};
-use std::net::SocketAddr;
+use std::collections::VecDeque;
 use std::rc::Rc;
 
 /// The connections that are open, by their numbers, and those that can go on.
 #[derive(Drop)]
-pub(crate) struct Links {
-    alloc: Global,
-    peers: BTreeMap<u64, Peer>,
-    /// Each is in it once. Some of them may have been closed since.
+pub(crate) struct Links<R, W> {
+    peers: Peers<R, W>,
+    /// Each is in it once, or twice after a stop was asked for. Some of them may have been closed since.
     ready: VecDeque<u64>,
     /// Those whose time is over, and why, while they are closed.
     over: Vec<(u64, Closing)>,
@@ -42,7 +40,7 @@ pub(crate) struct Links {
     log: Option<Rc<Log>>,
 }
 
-impl Links {
+impl<R: Reader, W: Writer> Links<R, W> {
     /// None is open. So many can be open at once without memory for the queue: a round adds each of them at most, to as
     /// many that were closed since the last.
     pub(crate) fn new(
@@ -50,10 +48,9 @@ impl Links {
         at_once: usize,
         notes: Rc<Notes>,
         log: Option<Rc<Log>>,
-    ) -> Result<Links, AllocError> {
+    ) -> Result<Links<R, W>, AllocError> {
         Ok(Links {
-            alloc,
-            peers: BTreeMap::new(alloc),
+            peers: Peers::new(alloc),
             ready: VecDeque::with_capacity(alloc, at_once.saturating_mul(2))?,
             over: Vec::with_capacity(alloc, at_once)?,
             notes,
@@ -73,7 +70,9 @@ impl Links {
     }
 
     /// Counts the lines of the log that were dropped meanwhile.
-    pub(crate) fn count_dropped(&mut self) {
+    pub(crate) fn count_dropped(&mut self)
+        ensures { self.new.peers ≡ self.old.peers }
+    {
         if let Some(log) = &self.log {
             self.tally.dropped(log.dropped());
         }
@@ -96,59 +95,62 @@ impl Links {
         !self.ready.is_empty()
     }
 
-    /// Opens a connection. One that finds no memory, or cannot be registered, is closed.
-    pub(crate) fn add(
-        &mut self,
-        registry: &Registry,
-        stream: TcpStream,
-        address: SocketAddr,
-        conn: u64,
-        now: u64,
-    ) {
-        self.tally.accepted();
-        if self.open(registry, stream, address, conn, now).is_none() {
-            self.tally.closed(Closing::Fault);
-        }
+    /// Connections are accepted under numbers from this one on.
+    pub(crate) fn begin(&mut self, first: u64)
+        ensures empty { IsEmpty self.new.peers }
+        ensures first { self.new.peers.first ≡ first }
+        ensures next { self.new.peers.next ≡ first }
+    {
+        self.peers.begin(first);
     }
 
-    fn open(
+    /// Whether no number is left for another connection.
+    pub(crate) fn is_used_up(&self) -> bool {
+        self.peers.is_used_up()
+    }
+
+    /// Accepts a connection that waits, if one does.
+    pub(crate) fn accept<L: Listener<R, W>>(
         &mut self,
         registry: &Registry,
-        mut stream: TcpStream,
-        address: SocketAddr,
-        conn: u64,
+        listener: &mut L,
         now: u64,
-    ) -> Option<()> {
-        stream.set_nodelay(true).ok()?;
-        let both = Interest::READABLE | Interest::WRITABLE;
-        registry
-            .register(&mut stream, Token(conn as usize), both)
-            .ok()?;
-        let peer = Peer::new(self.alloc, stream, address, conn, now);
-        self.peers.insert(conn, peer).ok()?;
-        Some(())
+    ) -> Accepted
+        ensures accepted { (accepted : List (R × W))
+            × GivesInTurn L.may_accept listener.old listener.new accepted
+            × AreServed R.left W.written accepted [] self.old.peers.next (connection_at self.old.peers.peers)
+            self.new.peers.next (connection_at self.new.peers.peers) }
+        ensures first { self.new.peers.first ≡ self.old.peers.first }
+    {
+        let accepted = self.peers.accept(registry, listener, now);
+        if accepted == Accepted::Open || accepted == Accepted::Closed {
+            self.tally.accepted();
+        }
+        if accepted == Accepted::Closed {
+            self.tally.closed(Closing::Fault);
+        }
+        accepted
     }
 
     /// Takes down an event of the connection, and puts it into the queue.
-    pub(crate) fn mark(&mut self, conn: u64, event: &Event) {
-        let Some(peer) = self.peers.get_mut(&conn) else {
-            return;
-        };
-        peer.mark(event);
-        if peer.enters_queue() {
+    pub(crate) fn mark(&mut self, conn: u64, event: &Event)
+        ensures { Stand self.old.peers self.new.peers }
+    {
+        if self.peers.mark(conn, event) {
             let _ = self.ready.push_back(conn);
         }
     }
 
-    /// Each is to end once what was begun on it is done, and at this time at the latest. All go into the queue, so that
-    /// those on which nothing was begun end now.
-    pub(crate) fn leave(&mut self, by: u64) {
+    /// Each is to end once what was begun on it is done. All go into the queue, so that those on which nothing was
+    /// begun end now.
+    pub(crate) fn leave(&mut self)
+        ensures { self.new.peers ≡ self.old.peers }
+    {
         if let Some(log) = &self.log {
             log.tell("stopping");
         }
-        for (conn, peer) in &mut self.peers {
-            peer.leave(by);
-            if peer.enters_queue() {
+        for (conn, peer) in self.peers.by_number() {
+            if !peer.is_queued() {
                 let _ = self.ready.push_back(*conn);
             }
         }
@@ -160,11 +162,9 @@ impl Links {
         service: &mut Service<S, C, D>,
         round: Round,
     ) -> Result<(), Fault>
-        ensures served { LeavesServed S.seen
+        ensures { ServesPeers S.seen R.left W.written
             (Supplies C.may_tell service.old.clock service.new.clock D.may_give service.old.words service.new.words)
-            result service.old.hub service.new.hub }
-        ensures below { (all : Connections) → ConnectionsRepresent service.old.hub all
-            → LeavesBelow round.first all service.new.hub }
+            [] result self.old.peers self.new.peers service.old.hub service.new.hub }
     {
         for _ in 0..self.ready.len() {
             self.turn(service, round)?;
@@ -179,45 +179,49 @@ impl Links {
         service: &mut Service<S, C, D>,
         round: Round,
     ) -> Result<(), Fault>
-        ensures served { LeavesServed S.seen
+        ensures { ServesPeers S.seen R.left W.written
             (Supplies C.may_tell service.old.clock service.new.clock D.may_give service.old.words service.new.words)
-            result service.old.hub service.new.hub }
-        ensures below { (all : Connections) → ConnectionsRepresent service.old.hub all
-            → LeavesBelow round.first all service.new.hub }
+            [] result self.old.peers self.new.peers service.old.hub service.new.hub }
     {
         let Some(conn) = self.ready.pop_front() else {
             return Ok(());
         };
-        let Some(peer) = self.peers.get_mut(&conn) else {
-            return Ok(());
-        };
         self.notes.begin();
-        let turned = peer.turn(service, round);
-        note(&self.notes, &mut self.tally, &self.log, peer);
+        let turned = self.peers.turn(conn, service, round);
+        let why = self.note(conn, round);
         match turned {
             Ok(Stay::Ready) => {
-                peer.enters_queue();
                 let _ = self.ready.push_back(conn);
                 Ok(())
             }
             Ok(Stay::Waits) => Ok(()),
             Ok(Stay::Gone) => {
-                let why = peer.end();
-                self.close(&mut service.hub, round.first, conn, why);
+                self.close(&mut service.hub, conn, why);
                 Ok(())
             }
             Err(fault) => Err(fault),
         }
     }
 
+    /// Counts and logs what the last turn of the connection has brought. Why it is closed, if that turn has ended it.
+    fn note(&mut self, conn: u64, round: Round) -> Closing
+        ensures { self.new.peers ≡ self.old.peers }
+    {
+        let Some(peer) = self.peers.get(conn) else {
+            return Closing::Ended;
+        };
+        note(&self.notes, &mut self.tally, &self.log, peer);
+        peer.end(round)
+    }
+
     /// Closes those whose time is over.
     pub(crate) fn look<S: Store>(&mut self, hub: &mut Hub<S>, round: Round, is_pressed: bool)
-        ensures steps { ClosesSome S.seen hub.old hub.new }
-        ensures below { (all : Connections) → ConnectionsRepresent hub.old all → LeavesBelow round.first all hub.new }
+        ensures { ServesPeers {A = Unit {0}} S.seen R.left W.written (λ events. events ≡ []) [] (Ok tt) self.old.peers
+            self.new.peers hub.old hub.new }
     {
         self.over.clear();
-        for (conn, peer) in &self.peers {
-            if let Some(why) = peer.over(round.now, is_pressed) {
+        for (conn, peer) in self.peers.by_number() {
+            if let Some(why) = peer.over(round, is_pressed) {
                 let _ = self.over.push((*conn, why));
             }
         }
@@ -225,27 +229,27 @@ impl Links {
             let Some((conn, why)) = self.over.pop() else {
                 return;
             };
-            self.close(hub, round.first, conn, why);
+            self.close(hub, conn, why);
         }
     }
 
     /// Closes the one that has to leave its place first, if any has to: that which has been idle longest, or else that
     /// whose request has been unfinished longest. Whether one was closed.
     pub(crate) fn make_room<S: Store>(&mut self, hub: &mut Hub<S>, round: Round) -> bool
-        ensures steps { ClosesSome S.seen hub.old hub.new }
-        ensures below { (all : Connections) → ConnectionsRepresent hub.old all → LeavesBelow round.first all hub.new }
+        ensures { ServesPeers {A = Unit {0}} S.seen R.left W.written (λ events. events ≡ []) [] (Ok tt) self.old.peers
+            self.new.peers hub.old hub.new }
     {
         let Some(conn) = self.first_to_leave(round.now) else {
             return false;
         };
-        self.close(hub, round.first, conn, Closing::Room);
+        self.close(hub, conn, Closing::Room);
         true
     }
 
     /// The number of the one that has to leave its place first.
     fn first_to_leave(&self, now: u64) -> Option<u64> {
         let mut first = (None, Claim::Stays);
-        for (conn, peer) in &self.peers {
+        for (conn, peer) in self.peers.by_number() {
             let claim = peer.claim(now);
             if goes_before(claim, first.1) {
                 first = (Some(*conn), claim);
@@ -254,31 +258,31 @@ impl Links {
         first.0
     }
 
-    /// Closes a connection, and drops what waits on it. No connection below the first number is touched.
-    fn close<S: Store>(&mut self, hub: &mut Hub<S>, first: u64, conn: u64, why: Closing)
-        ensures steps { ClosesSome S.seen hub.old hub.new }
-        ensures below { (all : Connections) → ConnectionsRepresent hub.old all → LeavesBelow first all hub.new }
-        ensures closed { first ≤ conn → (all : Connections) → ConnectionsRepresent hub.old all
-            → (after : Connections) × ConnectionsRepresent hub.new after × LeavesClosed all conn after }
+    /// Closes a connection, and drops what waits on it.
+    fn close<S: Store>(&mut self, hub: &mut Hub<S>, conn: u64, why: Closing)
+        ensures { ServesPeers {A = Unit {0}} S.seen R.left W.written (λ events. events ≡ []) [] (Ok tt) self.old.peers
+            self.new.peers hub.old hub.new }
     {
         self.tally.closed(why);
-        self.peers.remove(&conn);
-        if conn < first {
-            return;
-        }
-        hub.close(conn);
+        self.peers.close(hub, conn);
     }
 
-    /// Tries once, on each connection, to send what was not sent of its last reply.
-    pub(crate) fn send_rests(&self) {
-        for (_, peer) in &self.peers {
-            peer.send_rest();
-        }
+    /// Tries once, on each connection, to send what was not sent of its last reply, and closes it.
+    pub(crate) fn send_rests(&mut self)
+        ensures { AreServed R.left W.written [] [] self.old.peers.next (connection_at self.old.peers.peers)
+            self.new.peers.next (connection_at self.new.peers.peers) }
+    {
+        self.peers.send_rests();
     }
 }
 
 /// Counts and logs what the last turn of the peer has brought.
-fn note(notes: &Notes, tally: &mut Tally, log: &Option<Rc<Log>>, peer: &Peer) {
+fn note<R: Reader, W: Writer>(
+    notes: &Notes,
+    tally: &mut Tally,
+    log: &Option<Rc<Log>>,
+    peer: &Peer<R, W>,
+) {
     if let Some(fault) = peer.fault() {
         tally.faulted(fault);
     }

@@ -1,22 +1,26 @@
 //! Rounds of a server: it waits for the system, accepts, gives each connection its turns, and may stop.
 
-ghost use Rattle.hub.specs.Representing.{ConnectionsRepresent};
+ghost use Rattle.std.specs.Prelude.{◌≡◌, ◌⊎◌, [], Ok};
 ghost use Rattle.hub.specs.Supplies.{Supplies};
-ghost use Rattle.hub.specs.World.{Connections};
-ghost use Rattle.server.specs.ServedHub.{ClosesSome, LeavesBelow, LeavesServed};
+ghost use Rattle.server.specs.Accepted.{AreServed};
+ghost use Rattle.server.specs.Numbers.{connection_at};
+ghost use Rattle.server.specs.Serving.{IsEmpty, ServesAt, ServesPeers, Stand};
 
 use crate::accepting::{Accepting, FIRST_OPERATOR, INPUT, LISTENER, OPERATORS};
+use crate::ends::{Listener, Reader, Writer};
 use crate::links::Links;
 use crate::log::Log;
 use crate::notes::Notes;
 use crate::operators::Operators;
 use crate::places::places;
 use crate::service::{Round, Service};
+use crate::sockets::{SocketListener, SocketReader, SocketWriter};
 use crate::waiting::{LONGEST_EXCHANGE, TICK};
 use crate::watched::{Known, Watched};
 use broker::Store;
 use broker_types::Fault;
 use hub::{Hub, WordSource};
+use mio::event::Event;
 use mio::net::TcpListener;
 use mio::unix::SourceFd;
 use mio::{Events, Interest, Poll};
@@ -38,13 +42,16 @@ const STANDARD_INPUT: RawFd = 0;
 /// How much time one round counts for at most, in milliseconds: a wait of `TICK`, and some for what is done then.
 const LONGEST_ROUND: u64 = 100;
 
-/// An address that is listened on, the connections that are open, and what the system tells of them.
+/// Sockets that are listened on and served.
+pub type ListeningSockets = Listening<SocketListener, SocketReader, SocketWriter>;
+
+/// What is listened on, the connections that are open, and what the system tells of them.
 #[derive(Drop)]
-pub struct Listening {
+pub struct Listening<L, R, W> {
     poll: Poll,
     events: Events,
-    accepting: Accepting,
-    links: Links,
+    accepting: Accepting<L>,
+    links: Links<R, W>,
     /// The connections of operators, if there is an address for them.
     operators: Option<Operators>,
     start: Instant,
@@ -57,11 +64,11 @@ pub struct Listening {
     look_at: u64,
     /// Whether a stop was asked for.
     is_to_stop: bool,
-    /// Whether it was begun.
-    is_stopping: bool,
+    /// Once it was begun: when each connection is closed at the latest.
+    leaves_by: Option<u64>,
 }
 
-impl Listening {
+impl ListeningSockets {
     /// From this listener so many connections are to be served, or as many as come, and at most `at_once` of them at
     /// once, which is at least 1. None is accepted yet. It fails if memory runs out (`OutOfMemory`), or a call of the
     /// system fails.
@@ -73,21 +80,21 @@ impl Listening {
         are_all: Rc<Cell<bool>>,
         notes: Rc<Notes>,
         log: Option<Rc<Log>>,
-    ) -> io::Result<Listening>
+    ) -> io::Result<ListeningSockets>
     where
         R: AllocGlobal + Clock + Net,
     {
         listener.set_nonblocking(true)?;
         let poll = Poll::new(rt)?;
         let at_once = places(at_once);
-        // Without an end there are more than a program can ever accept.
-        let accepting = Accepting::new(
+        let listener = SocketListener::new(
+            rt.alloc(),
             poll.registry(),
             TcpListener::from_std(listener),
-            connections.map_or(u64::MAX, u64::from),
-            at_once,
-            are_all,
         )?;
+        // Without an end there are more than a program can ever accept.
+        let left = connections.map_or(u64::MAX, u64::from);
+        let accepting = Accepting::new(listener, left, at_once, are_all);
         Ok(Listening {
             poll,
             // One for each connection, for the listeners, and for standard input: a round knows all that can be done.
@@ -100,10 +107,12 @@ impl Listening {
             now: 0,
             look_at: TICK,
             is_to_stop: false,
-            is_stopping: false,
+            leaves_by: None,
         })
     }
+}
 
+impl<L: Drop, R: Reader, W: Writer> Listening<L, R, W> {
     /// The end of standard input, or a byte on it, is to stop the serving: no more connections are accepted, those that
     /// are open end once what was begun on them is done, after `LONGEST_EXCHANGE` at the latest, and then all is done.
     /// Nothing is read there. It fails if standard input is a file, or `/dev/null`: they cannot be waited for.
@@ -121,8 +130,15 @@ impl Listening {
     }
 
     /// Connections are accepted under numbers from this one on.
-    pub(crate) fn begin(&mut self, first: u64) {
-        self.accepting.begin(first);
+    pub(crate) fn begin(&mut self, first: u64)
+        ensures empty { IsEmpty self.new.links.peers }
+        ensures first { self.new.links.peers.first ≡ first }
+        ensures next { self.new.links.peers.next ≡ first }
+        ensures listener { (self.new.accepting.listener ≡ self.old.accepting.listener)
+            ⊎ (self.new.accepting.listener ≡ None) }
+    {
+        self.links.begin(first);
+        self.accepting.shut_if_done(self.links.is_used_up());
     }
 
     /// Whether all is done: no more connections are accepted, and none is open.
@@ -131,24 +147,24 @@ impl Listening {
     }
 
     /// One round: waits until something can be done, accepts those that wait, takes some turns of each connection that
-    /// can go on, and closes those whose time is over. No connection below the first number is touched.
-    pub(crate) fn round<S: Store, C: hub::Clock, D: WordSource, R: Clock>(
+    /// can go on, and closes those whose time is over.
+    pub(crate) fn round<S: Store, C: hub::Clock, D: WordSource, T: Clock>(
         &mut self,
-        rt: &R,
+        rt: &T,
         service: &mut Service<S, C, D>,
-        first: u64,
     ) -> Result<(), Fault>
-        ensures served { LeavesServed S.seen
+    where
+        L: Listener<R, W>,
+        ensures { ServesAt L.may_accept S.seen R.left W.written
             (Supplies C.may_tell service.old.clock service.new.clock D.may_give service.old.words service.new.words)
-            result service.old.hub service.new.hub }
-        ensures below { (all : Connections) → ConnectionsRepresent service.old.hub all
-            → LeavesBelow first all service.new.hub }
+            result self.old.accepting.listener self.new.accepting.listener self.old.links.peers self.new.links.peers
+            service.old.hub service.new.hub }
     {
         self.await_events(rt);
         self.stop_if_asked();
         let round = Round {
-            first,
             now: self.now,
+            leaves_by: self.leaves_by,
         };
         self.make_room(&mut service.hub, round);
         self.accepting
@@ -159,20 +175,28 @@ impl Listening {
         Ok(())
     }
 
-    /// Tries once, on each connection, to send what was not sent of its last reply.
-    pub(crate) fn send_rests(&self) {
+    /// The serving has ended. After a fault it is tried once, on each connection, to send what was not sent of its last
+    /// reply.
+    pub(crate) fn finish(&mut self, has_failed: bool)
+        ensures { AreServed R.left W.written [] [] self.old.links.peers.next
+            (connection_at self.old.links.peers.peers) self.new.links.peers.next
+            (connection_at self.new.links.peers.peers) }
+    {
+        if !has_failed {
+            self.links.flush_log();
+            return;
+        }
         self.links.send_rests();
-    }
-
-    /// Writes the lines of the log that wait.
-    pub(crate) fn flush_log(&self) {
         self.links.flush_log();
     }
 
     // ---- the parts of a round
 
     /// Waits for events, unless something can be done at once, and takes them down.
-    fn await_events<R: Clock>(&mut self, rt: &R) {
+    fn await_events<T: Clock>(&mut self, rt: &T)
+        ensures peers { Stand self.old.links.peers self.new.links.peers }
+        ensures listener { self.new.accepting.listener ≡ self.old.accepting.listener }
+    {
         let longest = self.longest_wait();
         if self.poll.poll(&mut self.events, longest).is_err() {
             thread::sleep(rt, Duration::from_millis(TICK));
@@ -187,16 +211,23 @@ impl Listening {
     }
 
     /// Accepts no more, and has each connection end, if that was asked for.
-    fn stop_if_asked(&mut self) {
-        if self.is_to_stop && !self.is_stopping {
-            self.is_stopping = true;
+    fn stop_if_asked(&mut self)
+        ensures peers { self.new.links.peers ≡ self.old.links.peers }
+        ensures listener { (self.new.accepting.listener ≡ self.old.accepting.listener)
+            ⊎ (self.new.accepting.listener ≡ None) }
+    {
+        if self.is_to_stop && self.leaves_by.is_none() {
+            self.leaves_by = Some(self.now.saturating_add(LONGEST_EXCHANGE));
             self.accepting.shut();
-            self.links.leave(self.now.saturating_add(LONGEST_EXCHANGE));
+            self.links.leave();
         }
     }
 
     /// Counts the time since the last round, as far as a round counts.
-    fn count_time<R: Clock>(&mut self, rt: &R) {
+    fn count_time<T: Clock>(&mut self, rt: &T)
+        ensures peers { self.new.links.peers ≡ self.old.links.peers }
+        ensures listener { self.new.accepting.listener ≡ self.old.accepting.listener }
+    {
         let age = milliseconds(self.start.elapsed(rt), self.age);
         let passed = age.saturating_sub(self.age).min(LONGEST_ROUND);
         self.now = self.now.saturating_add(passed);
@@ -223,8 +254,9 @@ impl Listening {
     /// waits, and no more: a client that keeps many connections open in good faith keeps the others, where closing all
     /// that are idle would have it connect again with each, though one place was wanted.
     fn make_room<S: Store>(&mut self, hub: &mut Hub<S>, round: Round)
-        ensures steps { ClosesSome S.seen hub.old hub.new }
-        ensures below { (all : Connections) → ConnectionsRepresent hub.old all → LeavesBelow round.first all hub.new }
+        ensures peers { ServesPeers {A = Unit {0}} S.seen R.left W.written (λ events. events ≡ []) [] (Ok tt)
+            self.old.links.peers self.new.links.peers hub.old hub.new }
+        ensures listener { self.new.accepting.listener ≡ self.old.accepting.listener }
     {
         if self.accepting.wants_room(round.now, self.links.len()) {
             let was_made = self.links.make_room(hub, round);
@@ -238,11 +270,10 @@ impl Listening {
         service: &mut Service<S, C, D>,
         round: Round,
     ) -> Result<(), Fault>
-        ensures served { LeavesServed S.seen
+        ensures peers { ServesPeers S.seen R.left W.written
             (Supplies C.may_tell service.old.clock service.new.clock D.may_give service.old.words service.new.words)
-            result service.old.hub service.new.hub }
-        ensures below { (all : Connections) → ConnectionsRepresent service.old.hub all
-            → LeavesBelow round.first all service.new.hub }
+            [] result self.old.links.peers self.new.links.peers service.old.hub service.new.hub }
+        ensures listener { self.new.accepting.listener ≡ self.old.accepting.listener }
     {
         for _ in 0..PASSES {
             self.links.turns(service, round)?;
@@ -253,8 +284,9 @@ impl Listening {
     /// Writes the log, and closes the connections whose time is over, if it is time to look. Once no more are accepted,
     /// those that are idle are not waited for longer than where their places are wanted.
     fn look<S: Store>(&mut self, hub: &mut Hub<S>, round: Round)
-        ensures steps { ClosesSome S.seen hub.old hub.new }
-        ensures below { (all : Connections) → ConnectionsRepresent hub.old all → LeavesBelow round.first all hub.new }
+        ensures peers { ServesPeers {A = Unit {0}} S.seen R.left W.written (λ events. events ≡ []) [] (Ok tt)
+            self.old.links.peers self.new.links.peers hub.old hub.new }
+        ensures listener { self.new.accepting.listener ≡ self.old.accepting.listener }
     {
         if round.now >= self.look_at {
             self.look_at = round.now.saturating_add(TICK);
@@ -264,7 +296,10 @@ impl Listening {
     }
 
     /// Serves operators, if it is time to.
-    fn look_at_operators(&mut self) {
+    fn look_at_operators(&mut self)
+        ensures peers { self.new.links.peers ≡ self.old.links.peers }
+        ensures listener { self.new.accepting.listener ≡ self.old.accepting.listener }
+    {
         if !matches!(&self.operators, Some(operators) if operators.is_due(self.now)) {
             return;
         }
@@ -294,28 +329,48 @@ impl Listening {
 }
 
 /// Takes down all that was reported. Whether standard input was.
-fn mark_all(
+fn mark_all<L: Drop, R: Reader, W: Writer>(
     events: &Events,
-    accepting: &mut Accepting,
-    links: &mut Links,
+    accepting: &mut Accepting<L>,
+    links: &mut Links<R, W>,
     operators: &mut Option<Operators>,
-) -> bool {
+) -> bool
+    ensures peers { Stand links.old.peers links.new.peers }
+    ensures listener { accepting.new.listener ≡ accepting.old.listener }
+{
     let mut is_input = false;
     for event in events {
-        let token = event.token();
-        if token == LISTENER {
-            accepting.mark();
-        } else if token == INPUT {
-            is_input = true;
-        } else if token.0 >= FIRST_OPERATOR {
-            if let Some(operators) = operators {
-                operators.mark(event);
-            }
-        } else {
-            links.mark(token.0 as u64, event);
-        }
+        is_input |= mark_one(event, accepting, links, operators);
     }
     is_input
+}
+
+/// Takes down one event. Whether it is of standard input.
+fn mark_one<L: Drop, R: Reader, W: Writer>(
+    event: &Event,
+    accepting: &mut Accepting<L>,
+    links: &mut Links<R, W>,
+    operators: &mut Option<Operators>,
+) -> bool
+    ensures peers { Stand links.old.peers links.new.peers }
+    ensures listener { accepting.new.listener ≡ accepting.old.listener }
+{
+    let token = event.token();
+    if token == INPUT {
+        return true;
+    }
+    if token == LISTENER {
+        accepting.mark();
+        return false;
+    }
+    if token.0 < FIRST_OPERATOR {
+        links.mark(token.0 as u64, event);
+        return false;
+    }
+    if let Some(operators) = operators {
+        operators.mark(event);
+    }
+    false
 }
 
 /// The age in milliseconds; the last one if it cannot be told.

@@ -4,9 +4,10 @@ use endpoints::{Failed, NowSource};
 
 /// A source over another one, which counts the bytes.
 #[derive(Drop)]
-pub(crate) struct Pulling<R: NowSource> {
+pub(crate) struct Pulling<R> {
     source: R,
     count: u64,
+    has_pulled: bool,
 }
 
 impl<R: NowSource> Pulling<R> {
@@ -14,15 +15,31 @@ impl<R: NowSource> Pulling<R> {
 
     /// The source, with what it has left.
     pub(crate) fn new(source: R) -> Pulling<R>
-        ensures left { ⟦<Pulling<R> as NowSource>⟧.left result ≡ R.left source }
-        ensures failing { ⟦<Pulling<R> as NowSource>⟧.has_failed result ≡ R.has_failed source }
+        ensures { result.source ≡ source }
     {
-        Pulling { source, count: 0 }
+        Pulling {
+            source,
+            count: 0,
+            has_pulled: false,
+        }
+    }
+
+    /// Counts anew.
+    pub(crate) fn begin(&mut self)
+        ensures { self.new.source ≡ self.old.source }
+    {
+        self.count = 0;
+        self.has_pulled = false;
     }
 
     /// The source below.
     pub(crate) fn source(&self) -> &R {
         &self.source
+    }
+
+    /// Whether the source was asked for bytes.
+    pub(crate) fn has_pulled(&self) -> bool {
+        self.has_pulled
     }
 
     /// How many bytes were pulled.
@@ -39,6 +56,7 @@ impl<R: NowSource> NowSource for Pulling<R> {
     ghost has_failed = { λ pulling. R.has_failed (source_of pulling) };
 
     fn pull_now(&mut self, buffer: &mut [u8]) -> Result<Option<usize>, Failed> {
+        self.has_pulled = true;
         let pulled = self.source.pull_now(buffer);
         if let Ok(Some(count)) = pulled {
             self.count = self.count.saturating_add(count as u64);

@@ -4,7 +4,7 @@ use endpoints::{Failed, NowSink};
 
 /// A sink over another one, which remembers the status line that the last bytes began with.
 #[derive(Drop)]
-pub(crate) struct Replying<W: NowSink> {
+pub(crate) struct Replying<W> {
     sink: W,
     status: Option<u16>,
     len: usize,
@@ -15,14 +15,21 @@ impl<W: NowSink> Replying<W> {
 
     /// The sink, with what was pushed to it.
     pub(crate) fn new(sink: W) -> Replying<W>
-        ensures written { ⟦<Replying<W> as NowSink>⟧.written result ≡ W.written sink }
-        ensures failing { ⟦<Replying<W> as NowSink>⟧.has_failed result ≡ W.has_failed sink }
+        ensures { result.sink ≡ sink }
     {
         Replying {
             sink,
             status: None,
             len: 0,
         }
+    }
+
+    /// Forgets what was pushed.
+    pub(crate) fn begin(&mut self)
+        ensures { self.new.sink ≡ self.old.sink }
+    {
+        self.status = None;
+        self.len = 0;
     }
 
     /// The sink below.

@@ -17,8 +17,8 @@ pub struct Service<S: Store, C, D> {
 /// What is the same for all that is done in a round.
 #[derive(Clone, Copy)]
 pub(crate) struct Round {
-    /// Connections are accepted under numbers from this one on. None below it is touched.
-    pub(crate) first: u64,
     /// The time by which limits are counted, in milliseconds since the start.
     pub(crate) now: u64,
+    /// If the program is to stop: when each connection is closed at the latest.
+    pub(crate) leaves_by: Option<u64>,
 }

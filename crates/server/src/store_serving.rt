@@ -5,7 +5,7 @@ ghost use Rattle.broker_types.specs.Broker.{Broker};
 ghost use Rattle.broker_rows.specs.Representing.{Represents};
 ghost use Rattle.server.specs.Starting.{IsAlwaysHonest, IsFaultOfNew};
 
-use crate::listening::Listening;
+use crate::listening::ListeningSockets;
 use crate::log::Log;
 use crate::notes::Notes;
 use crate::noting::Noting;
@@ -77,10 +77,10 @@ fn listen(
     notes: &Rc<Notes>,
     log: &Option<Rc<Log>>,
     watched: Option<Watched>,
-) -> io::Result<Listening> {
+) -> io::Result<ListeningSockets> {
     let listener = bind(rt, settings.address, log)?;
     let address = listener.local_addr()?;
-    let mut listening = Listening::new(
+    let mut listening = ListeningSockets::new(
         rt,
         listener,
         settings.connections,
@@ -106,7 +106,7 @@ fn listen(
 
 /// Has operators told of the server from now on.
 fn tell_operators(
-    listening: &mut Listening,
+    listening: &mut ListeningSockets,
     watched: Watched,
     log: &Option<Rc<Log>>,
 ) -> io::Result<()> {

@@ -1,7 +1,7 @@
 //! For how long a server waits for a peer, by what the peer is to do.
 
 ghost use Rattle.std.specs.Prelude.{◌≡◌};
-ghost use Rattle.server.specs.Patience.{claim_of, goes_before, is_over};
+ghost use Rattle.server.specs.Patience.{claim_of, goes_before, is_farewell, is_over};
 
 /// What a peer is waited for.
 #[derive(Clone, Copy, Debug, PartialEq, Eq)]
@@ -12,6 +12,18 @@ pub(crate) enum Wait {
     Progress,
     /// The end of what it still sends, after its last reply.
     Farewell,
+}
+
+impl Wait {
+    /// Whether it is the last.
+    pub(crate) fn is_farewell(self) -> bool
+        ensures { result ≡ is_farewell self }
+    {
+        match self {
+            Wait::Farewell => true,
+            Wait::NextRequest | Wait::Progress => false,
+        }
+    }
 }
 
 /// Whether a peer may have to leave its place to one that waits for it.

@@ -99,7 +99,7 @@ fn put_without_clock<S: Alter>(alloc: Global, records: &mut SqlRecords<S>) -> Re
     tx.commit()
 }
 
-/// Rows without that of the clock are refused.
+/// Rows without that of the clock are refused, and stay.
 #[derive(Drop)]
 struct NeedsClock;
 
@@ -107,7 +107,11 @@ impl Trial for NeedsClock {
     fn holds<S: Alter + Drop>(&self, alloc: Global, store: SqlStore<S>) -> Result<bool, Fault> {
         let mut records = store.into_records();
         put_without_clock(alloc, &mut records)?;
-        Ok(matches!(SqlStore::adopt(alloc, records), Err(Fault::BadStart)))
+        let words = Words([0, 1, 2, 3, 4, 5, 6, 7]);
+        let refused = prepare(alloc, &mut records, moment()?, &words);
+        let mut tx = records.begin()?;
+        let stays = tx.get(Kind::Cubby, "a")?.is_some() && tx.get(Kind::Clock, "")?.is_none();
+        Ok(matches!(refused, Err(Fault::BadStart)) && stays)
     }
 }
 
@@ -117,15 +121,14 @@ fn rows_without_a_clock_are_refused(rt: HostRuntime) -> Result<(), Fail> {
     Ok(())
 }
 
-/// The records once a broker was opened over them, and whether its root token is told, if one is.
-fn prepared<S: Alter + Drop>(
+/// Whether the root token is told of a broker over the records that are made ready, if one is.
+fn prepared<S: Alter>(
     alloc: Global,
-    records: SqlRecords<S>,
+    records: &mut SqlRecords<S>,
     words: &Words,
-) -> Result<(SqlRecords<S>, Option<bool>), Fault> {
-    let (store, told) = prepare(alloc, records, moment()?, words)?;
-    let is_root = told.map(|token| token.as_str() == ROOT);
-    Ok((store.into_records(), is_root))
+) -> Result<Option<bool>, Fault> {
+    let told = prepare(alloc, records, moment()?, words)?;
+    Ok(told.map(|token| token.as_str() == ROOT))
 }
 
 /// Records without a row become the first broker, whose root token is told, and are opened from then on: by the same
@@ -136,9 +139,10 @@ struct IsPreparedOnce;
 impl Trial for IsPreparedOnce {
     fn holds<S: Alter + Drop>(&self, alloc: Global, store: SqlStore<S>) -> Result<bool, Fault> {
         let words = Words([0, 1, 2, 3, 4, 5, 6, 7]);
-        let (records, first) = prepared(alloc, store.into_records(), &words)?;
-        let (records, again) = prepared(alloc, records, &words)?;
-        let (_, equal) = prepared(alloc, records, &Words([7; 8]))?;
+        let mut records = store.into_records();
+        let first = prepared(alloc, &mut records, &words)?;
+        let again = prepared(alloc, &mut records, &words)?;
+        let equal = prepared(alloc, &mut records, &Words([7; 8]))?;
         Ok(first == Some(true) && again.is_none() && equal.is_none())
     }
 }

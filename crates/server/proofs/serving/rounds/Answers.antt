@@ -1,44 +1,43 @@
-use Rattle.records.specs.Words.{◌∙◌, Ok, Err, ap, err_from_is_err_and}
+use Rattle.std.proofs.Common.{◌∙◌, Ok, Err, ap, inl, refl}
+use Rattle.records.specs.Words.{err_from_is_err_and}
 use Rattle.hub.specs.Words.{Supplies-append, Supplies-nil}
-use Rattle.server.proofs.ServingLemmas.{below_all, below_on, leaves_none, leaves_on}
+use Rattle.server.proofs.ServingLemmas.{at_on, at_peers, serves_same}
 use Rattle.server.proofs.serving.rounds.Goals as goal
 
 pub loop-init : goal.loop-init
 loop-init g c =
-    let old = c.args.service.now in
-    record {
-      served = leaves_none g.S.Store.seen _ tt old.hub
-          (Supplies-nil g.C.Clock.may_tell old.clock g.D.WordSource.may_give old.words);
-      below = λ all each. below_all c.args.first all old.hub each;
-    }
+    let l = c.args.listening.now.accepting.listener in
+    let p = c.args.listening.now.links.peers in
+    at_peers g.L.Listener.may_accept g.S.Store.seen g.R.NowSource.left g.W.NowSink.written _ (Ok (tt {0})) l l p p
+    c.args.service.now.hub c.args.service.now.hub (inl refl)
+    (serves_same g.S.Store.seen g.R.NowSource.left g.W.NowSink.written _ (tt {0}) p p c.args.service.now.hub
+    (Supplies-nil g.C.Clock.may_tell c.args.service.now.clock g.D.WordSource.may_give c.args.service.now.words) refl)
 
 pub loop-preserved : goal.loop-preserved
 loop-preserved g c =
     let old = c.args.service.now in
     let mid = c.loop.service in
     let new = c.round.new.service in
-    record {
-      served = leaves_on g.S.Store.seen _ _ _ tt (Ok tt) old.hub mid.hub new.hub
-          (Supplies-append g.C.Clock.may_tell old.clock mid.clock new.clock g.D.WordSource.may_give
-          old.words mid.words new.words)
-          c.loop.invariant.served c.in_ok-round.ensures.served;
-      below = λ all each.
-          below_on c.args.first all mid.hub new.hub (c.loop.invariant.below all each) c.round.ensures.below;
-    }
+    at_on g.L.Listener.may_accept g.S.Store.seen g.R.NowSource.left g.W.NowSink.written _ _ _ (tt {0}) (Ok (tt {0}))
+    c.args.listening.now.accepting.listener c.loop.listening.accepting.listener
+    c.round.new.self.accepting.listener c.args.listening.now.links.peers c.loop.listening.links.peers
+    c.round.new.self.links.peers old.hub mid.hub new.hub
+    (Supplies-append g.C.Clock.may_tell old.clock mid.clock new.clock g.D.WordSource.may_give
+    old.words mid.words new.words)
+    c.loop.invariant c.in_ok-round.ensures
 
-pub returns-in_err-round-clause-served : goal.returns-in_err-round-clause-served
-returns-in_err-round-clause-served g c =
+pub returns-in_err-round : goal.returns-in_err-round
+returns-in_err-round g c =
     let p = err_from_is_err_and c.from_residual.result c.from_residual.ensures.1 in
     let old = c.args.service.now in
     let mid = c.loop.service in
     let new = c.round.new.service in
     rw (p.1 ∙ ap Err p.2)
-    (leaves_on g.S.Store.seen _ _ _ tt (Err c.in_err-round.field-0.0) old.hub mid.hub new.hub
+    (at_on g.L.Listener.may_accept g.S.Store.seen g.R.NowSource.left g.W.NowSink.written _ _ _ (tt {0})
+    (Err c.in_err-round.field-0.0)
+    c.args.listening.now.accepting.listener c.loop.listening.accepting.listener
+    c.round.new.self.accepting.listener c.args.listening.now.links.peers c.loop.listening.links.peers
+    c.round.new.self.links.peers old.hub mid.hub new.hub
     (Supplies-append g.C.Clock.may_tell old.clock mid.clock new.clock g.D.WordSource.may_give
     old.words mid.words new.words)
-    c.loop.invariant.served c.in_err-round.ensures.served)
-
-pub returns-in_err-round-clause-below : goal.returns-in_err-round-clause-below
-returns-in_err-round-clause-below g c = λ all each.
-    below_on c.args.first all c.loop.service.hub c.round.new.service.hub (c.loop.invariant.below all each)
-    c.round.ensures.below
+    c.loop.invariant c.in_err-round.ensures)

@@ -11,7 +11,7 @@ returns-in_err-serve g c always stands b represents =
     let opened = subst (λ (k : Kept). IsTrue k.is_open) (sym (c.new-hub.ensures.store ∙ c.new.ensures)) stands in
     let rows = subst (λ (k : Kept). Represents None k.rows b) (sym c.new.ensures) represents in
     let storage : c.in_err-serve.field-0.0 ≡ Storage =
-    c.in_err-serve.ensures.served.wants (always (store_of c.serve.new.service.hub.store)) opened (new_world b)
+    c.in_err-serve.ensures.ends.wants (always (store_of c.serve.new.service.hub.store)) opened (new_world b)
     (c.new-hub.ensures.represents b rows) in
     rw (p.1 ∙ ap Err p.2) (rw storage tt)
 

@@ -1,17 +1,13 @@
-use Rattle.server.proofs.ServingLemmas.{below_all, below_on, closes_none, closes_on}
+use Rattle.std.proofs.Common.{refl}
+use Rattle.server.proofs.ServingLemmas.{closes_on, serves_same}
 use Rattle.server.proofs.links.Links.look.Goals as goal
 
 pub loop-init : goal.loop-init
-loop-init g c = record {
-  steps = closes_none g.S.Store.seen c.args.hub.now;
-  below = λ all each. below_all c.args.round.first all c.args.hub.now each;
-}
+loop-init g c =
+    serves_same g.S.Store.seen g.R.NowSource.left g.W.NowSink.written _ tt c.args.self.now.peers c.args.self.now.peers
+    c.args.hub.now refl refl
 
 pub loop-preserved : goal.loop-preserved
-loop-preserved g c = record {
-  steps = closes_on g.S.Store.seen c.args.hub.now c.loop.hub c.close.new.hub c.loop.invariant.steps
-      c.close.ensures.steps;
-  below = λ all each.
-      below_on c.args.round.first all c.loop.hub c.close.new.hub (c.loop.invariant.below all each)
-      c.close.ensures.below;
-}
+loop-preserved g c =
+    closes_on g.S.Store.seen g.R.NowSource.left g.W.NowSink.written (tt {0}) (tt {0}) c.args.self.now.peers
+    c.loop.self.peers c.close.new.self.peers c.args.hub.now c.loop.hub c.close.new.hub c.loop.invariant c.close.ensures

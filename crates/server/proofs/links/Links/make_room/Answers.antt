@@ -1,8 +1,8 @@
-use Rattle.server.proofs.ServingLemmas.{below_all, closes_none}
+use Rattle.std.proofs.Common.{refl}
+use Rattle.server.proofs.ServingLemmas.{serves_same}
 use Rattle.server.proofs.links.Links.make_room.Goals as goal
 
-pub returns-in_default-clause-steps : goal.returns-in_default-clause-steps
-returns-in_default-clause-steps g c = closes_none g.S.Store.seen c.args.hub.now
-
-pub returns-in_default-clause-below : goal.returns-in_default-clause-below
-returns-in_default-clause-below g c = λ all each. below_all c.args.round.first all c.args.hub.now each
+pub returns-in_default : goal.returns-in_default
+returns-in_default g c =
+    serves_same g.S.Store.seen g.R.NowSource.left g.W.NowSink.written _ tt c.args.self.now.peers c.args.self.now.peers
+    c.args.hub.now refl refl

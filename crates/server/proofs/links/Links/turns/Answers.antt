@@ -1,44 +1,36 @@
-use Rattle.records.specs.Words.{◌∙◌, Ok, Err, ap, err_from_is_err_and}
-use Rattle.hub.specs.Words.{Supplies-append, Supplies-nil}
-use Rattle.server.proofs.ServingLemmas.{below_all, below_on, leaves_none, leaves_on}
+use Rattle.std.proofs.Common.{◌∙◌, Ok, Err, ap, refl, []}
+use Rattle.records.specs.Words.{err_from_is_err_and}
+use Rattle.hub.specs.Words.{Supplies, Supplies-append, Supplies-nil}
+use Rattle.server.proofs.ServingLemmas.{serves_on, serves_same}
 use Rattle.server.proofs.links.Links.turns.Goals as goal
 
 pub loop-init : goal.loop-init
 loop-init g c =
-    let old = c.args.service.now in
-    record {
-      served = leaves_none g.S.Store.seen _ tt old.hub
-          (Supplies-nil g.C.Clock.may_tell old.clock g.D.WordSource.may_give old.words);
-      below = λ all each. below_all c.args.round.first all old.hub each;
-    }
+    serves_same g.S.Store.seen g.R.NowSource.left g.W.NowSink.written _ tt c.args.self.now.peers c.args.self.now.peers
+    c.args.service.now.hub
+    (Supplies-nil g.C.Clock.may_tell c.args.service.now.clock g.D.WordSource.may_give c.args.service.now.words) refl
 
 pub loop-preserved : goal.loop-preserved
 loop-preserved g c =
     let old = c.args.service.now in
     let mid = c.loop.service in
     let new = c.turn.new.service in
-    record {
-      served = leaves_on g.S.Store.seen _ _ _ tt (Ok tt) old.hub mid.hub new.hub
-          (Supplies-append g.C.Clock.may_tell old.clock mid.clock new.clock g.D.WordSource.may_give
-          old.words mid.words new.words)
-          c.loop.invariant.served c.in_ok-turn.ensures.served;
-      below = λ all each.
-          below_on c.args.round.first all mid.hub new.hub (c.loop.invariant.below all each) c.turn.ensures.below;
-    }
+    serves_on g.S.Store.seen g.R.NowSource.left g.W.NowSink.written _ _ _ [] [] tt (Ok tt) c.args.self.now.peers
+    c.loop.self.peers c.turn.new.self.peers old.hub mid.hub new.hub
+    (Supplies-append g.C.Clock.may_tell old.clock mid.clock new.clock g.D.WordSource.may_give
+    old.words mid.words new.words)
+    c.loop.invariant c.in_ok-turn.ensures
 
-pub returns-in_err-turn-clause-served : goal.returns-in_err-turn-clause-served
-returns-in_err-turn-clause-served g c =
+pub returns-in_err-turn : goal.returns-in_err-turn
+returns-in_err-turn g c =
     let p = err_from_is_err_and c.from_residual.result c.from_residual.ensures.1 in
     let old = c.args.service.now in
     let mid = c.loop.service in
     let new = c.turn.new.service in
     rw (p.1 ∙ ap Err p.2)
-    (leaves_on g.S.Store.seen _ _ _ tt (Err c.in_err-turn.field-0.0) old.hub mid.hub new.hub
+    (serves_on g.S.Store.seen g.R.NowSource.left g.W.NowSink.written _ _ _ [] [] tt (Err c.in_err-turn.field-0.0)
+    c.args.self.now.peers
+    c.loop.self.peers c.turn.new.self.peers old.hub mid.hub new.hub
     (Supplies-append g.C.Clock.may_tell old.clock mid.clock new.clock g.D.WordSource.may_give
     old.words mid.words new.words)
-    c.loop.invariant.served c.in_err-turn.ensures.served)
-
-pub returns-in_err-turn-clause-below : goal.returns-in_err-turn-clause-below
-returns-in_err-turn-clause-below g c = λ all each.
-    below_on c.args.round.first all c.loop.service.hub c.turn.new.service.hub (c.loop.invariant.below all each)
-    c.turn.ensures.below
+    c.loop.invariant c.in_err-turn.ensures)

@@ -1,5 +1,8 @@
-use Rattle.server.proofs.ServingLemmas.{closes_none}
+use Rattle.std.proofs.Common.{refl}
+use Rattle.server.proofs.ServingLemmas.{serves_same}
 use Rattle.server.proofs.listening.Listening.look.Goals as goal
 
-pub returns-else-round-self-clause-steps : goal.returns-else-round-self-clause-steps
-returns-else-round-self-clause-steps g c = closes_none g.S.Store.seen c.args.hub.now
+pub returns-else-round-self-clause-peers : goal.returns-else-round-self-clause-peers
+returns-else-round-self-clause-peers g c =
+    serves_same g.S.Store.seen g.R.NowSource.left g.W.NowSink.written _ (tt {0}) c.args.self.now.links.peers
+    c.args.self.now.links.peers c.args.hub.now refl refl

@@ -1,14 +1,13 @@
-use Rattle.records.specs.Words.{Ok}
-use Rattle.hub.specs.Words.{ConnectionsRepresent, Supplies, Connections}
-use Rattle.server.specs.ServedHub.{LeavesBelow, LeavesServed}
+use Rattle.std.proofs.Common.{◌≡◌, Ok, []}
+use Rattle.hub.specs.Words.{Supplies}
+use Rattle.server.specs.Serving.{ServesPeers}
 use Rattle.server.proofs.listening.Listening.take_turns.Given as goal
 
 abbrev pub invariant-loop : goal.invariant-loop
 invariant-loop g l = record {
-  served : LeavesServed {A = Unit {0}} g.S.Store.seen
+  peers : ServesPeers {A = Unit {0}} g.S.Store.seen g.R.NowSource.left g.W.NowSink.written
       (Supplies g.C.Clock.may_tell l.fn.service.clock l.service.clock
       g.D.WordSource.may_give l.fn.service.words l.service.words)
-      (Ok tt) l.fn.service.hub l.service.hub;
-  below : (all : Connections) → ConnectionsRepresent l.fn.service.hub all
-      → LeavesBelow l.fn.round.first all l.service.hub;
+      [] (Ok tt) l.fn.self.links.peers l.self.links.peers l.fn.service.hub l.service.hub;
+  listener : l.self.accepting.listener ≡ l.fn.self.accepting.listener;
 }
