@@ -17,8 +17,7 @@ PLACES = {"bin/brokerd": "usr/bin/brokerd", "bin/client": "usr/bin/dehluvima-cli
           "bin/dehluvima-run": "usr/bin/dehluvima-run",
           "examples/client.bash": "usr/share/bash-completion/completions/dehluvima-client",
           "examples/logrotate": "etc/logrotate.d/dehluvima"}
-CALL = re.compile(rb"(?<![\w/.-])client (?=-|[a-z]+ )")  # of a script, where a page shows it too
-SHOWN = re.compile(rb"^```sh\n.*?^```$", re.MULTILINE | re.DOTALL)
+CALL = re.compile(rb"(?<![\w/.-])client (?=-|[a-z]+ )")  # of a script
 MAINTAINER_SCRIPTS = ("postinst", "prerm", "postrm")
 
 
@@ -49,8 +48,7 @@ def installed(files, version, built_from, seconds):
         elif path in PLACES:
             placed[PLACES[path]] = (data, mode)
         elif path.startswith("docs/"):
-            page = SHOWN.sub(lambda it: called_as_installed(it[0]), data)
-            placed[f"{PAGES}/{Path(path).name}"] = (page.replace(b"](../examples/", b"](examples/"), mode)
+            placed[f"{PAGES}/{Path(path).name}"] = (data.replace(b"](../examples/", b"](examples/"), mode)
         elif path.endswith(".sh"):
             placed[f"{PAGES}/{path}"] = (called_as_installed(data), mode)
         elif path != "SHA256SUMS":  # dpkg keeps sums of its own

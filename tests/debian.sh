@@ -81,18 +81,14 @@ asked() {
     if grep -q 'hvs\.[0-9a-f]' "$found/log"; then fail "the log" "it has a token"; else pass; fi
 }
 
-# The scripts call the client by its name in the package, and are otherwise as they stand on the page there.
+# The scripts call the client by its name in the package, and are linked by the page there.
 called_otherwise() {
     local name script pages=$found/unpacked/usr/share/doc/dehluvima
     for name in agent leaked once rotate; do
         script=$pages/examples/$name.sh
         same "what $name.sh calls" "$(grep -cE '(^|[^-])client ' "$script")" 0
         same "$name.sh" "$(diff "examples/$name.sh" <(sed 's/dehluvima-client /client /g' "$script"))" ""
-        if [[ $(< "$pages/CLIENT.md") == *$'```sh\n'"$(< "$script")"$'\n```'* ]]; then
-            pass
-        else
-            fail "$name.sh" "CLIENT.md has another one"
-        fi
+        same "links of $name.sh" "$(grep -cF "](examples/$name.sh)" "$pages/CLIENT.md")" 1
     done
 }
 

@@ -247,13 +247,15 @@ keep_in_a_file() {
 import sqlite3
 with sqlite3.connect('$file') as database:
     database.execute(\"UPDATE broker_rows SET body = x'02' WHERE kind = 11\")"
-    start --until-stopped --db "$file"
+    run "a damaged row" 1 'row 1 of kind mount (secret): it is not in its format' \
+        serve --listen 127.0.0.1:0 --db "$file"
+    start --until-stopped --unchecked --db "$file"
     curl -s -m 20 -o "$found/body" -H "X-Vault-Token: $token" "http://127.0.0.1:$port/v1/secret/data/app"
     wait "$pid"
     if [ $? -eq 1 ] && [ "$(tail -n 1 "$found/served.err")" = 'fault 3' ]; then
         pass
     else
-        fail "a damaged row" "it is served on"
+        fail "a damaged row that is not looked for" "it is served on"
     fi
     pid=
     python3 -c "
@@ -294,6 +296,8 @@ run "no address" 2 '--listen <ADDR>' serve
 run "no connections" 2 '--connections <N>' serve --listen 127.0.0.1:0 --connections 0
 run "too many connections" 2 '--connections <N>' serve --listen 127.0.0.1:0 --connections 4294967296
 run "both a number and no end" 2 'give one of them' serve --listen 127.0.0.1:0 --connections 1 --until-stopped
+run "a check and none" 2 'give one of them' serve --listen 127.0.0.1:0 --db "$found/none" --check --unchecked
+run "no check without a database" 2 'give --db too' serve --listen 127.0.0.1:0 --unchecked
 run "no end with a value" 2 '--until-stopped' serve --listen 127.0.0.1:0 --until-stopped=yes
 run "no places" 2 '--at-once <M>' serve --listen 127.0.0.1:0 --at-once 0
 run "too many places" 2 '--at-once <M>' serve --listen 127.0.0.1:0 --at-once 10001

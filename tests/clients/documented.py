@@ -7,8 +7,9 @@ compared with the reply.
 The examples are those of the pages on tokens, cubbyholes, KV version 2, leases, wrapping, mounts and policies, as far
 as docs/API.md has the route; no copy of the documentation was at hand, so they are written down from memory. A member
 that is printed has to be there with the value that is printed; where VARIES has its name, with one of the same type.
-The differences have to be those of the table in docs/API.md, none more and none less. Each member of each reply is also
-left out once, which has to be told. The last line is 'N passed, M failed'.
+The differences have to be those of documented.txt, none more and none less: a line has the requests, the members, and
+what is here. Each member of each reply is also left out once, which has to be told. The last line is 'N passed, M
+failed'.
 """
 
 import json
@@ -19,8 +20,7 @@ from pathlib import Path
 sys.path.insert(0, str(Path(__file__).resolve().parent.parent / "served"))
 from broker import connect, exchange, request  # noqa: E402
 
-PAGE = Path(__file__).resolve().parent.parent.parent / "docs/API.md"
-TITLE = "### The examples of the documentation"
+WRITTEN = Path(__file__).resolve().parent / "documented.txt"
 EXAMPLES, MEMBERS = 48, 280  # that are compared, at least
 VARIES = {"accessor", "client_token", "created_time", "creation_time", "expire_time", "id", "issue_time", "lease_id",
           "request_id", "token", "ttl", "updated_time"}
@@ -266,7 +266,7 @@ def quoted(words):
 
 
 def table(found):
-    """The rows for the differences: members of one request, and requests with the same members, share a row."""
+    """The lines for the differences: members of one request, and requests with the same members, share a line."""
     members, requests = {}, {}
     for words, member, here in dict.fromkeys(found):
         members.setdefault((words, here), []).append(member)
@@ -276,19 +276,13 @@ def table(found):
             for (names, here), several in requests.items()]
 
 
-def rows_of_page():
-    """The rows of the table in the page."""
-    section = PAGE.read_text(encoding="utf-8").partition(f"\n{TITLE}\n")[2].partition("\n#")[0]
-    return [line for line in section.splitlines() if line.startswith("| ") and not line.startswith("| Example ")]
-
-
 def main():
     page = Documentation(int(sys.argv[1]), sys.argv[2])
     for ask in (tokens, cubbyholes, mounts, secrets, leases, wrapping, policies):
         ask(page)
-    rows, written = table(page.found), rows_of_page()
-    wrong = page.wrong + [f"{PAGE.name} lacks {row}" for row in rows if row not in written]
-    wrong += [f"{PAGE.name} has {row}" for row in written if row not in rows]
+    rows, written = table(page.found), WRITTEN.read_text(encoding="utf-8").splitlines()
+    wrong = page.wrong + [f"{WRITTEN.name} lacks {row}" for row in rows if row not in written]
+    wrong += [f"{WRITTEN.name} has {row}" for row in written if row not in rows]
     if page.examples < EXAMPLES or page.members < MEMBERS:
         wrong.append("it compares fewer than once")
     print(f"documented: {page.examples} examples, {page.members} members, {len(rows)} differences")

@@ -226,7 +226,7 @@ CHANGES = {
 def ask_all(trial, file, questions):
     """The replies of the program over a file, until it ends, and its end. Raises Wrong."""
     replies = []
-    with Running(trial.program, file, trial.at(MOMENT + 1)) as running:
+    with Running(trial.program, file, trial.at(MOMENT + 1), options=("--unchecked",)) as running:
         for text in questions:
             data = running.ask(text)
             if not data:

@@ -1,10 +1,11 @@
-"""What `brokerd check` says of a database, and whether `brokerd serve --check` serves it.
+"""What `brokerd check` says of a database, and whether `brokerd serve` serves it.
 
 It has to accept each database that keeps a broker: those of the reference broker at the end of each row of tests/rows
 and after drawn requests, as SQLite writes them, some of their secrets in the older format. The counts that it tells are
 those of the rows. In the database of a broker with rows of every kind each rule is broken by hand: it has to tell the
-row and the rule. No check changes a row, and none prints a token. What is accepted is served then, and what is not is
-refused in the same words, before the program listens; and a broker is started in a new file.
+row and the rule; `check --all` tells of it first, and of each of several that are broken at once. No check changes a
+row, and none prints a token. What is accepted is served then, and what is not is refused in the same words, before the
+program listens; and a broker is started in a new file.
 """
 
 import json
@@ -31,9 +32,13 @@ COUNTED = ((TOKEN, "token", "tokens"), (OBJECT, "cubbyhole object", "cubbyhole o
            (RESPONSE, "wrapped response", "wrapped responses"), (MOUNT, "mount", "mounts"),
            (POLICY, "policy", "policies"), (ROLE, "role", "roles"))
 FAULT_WITHOUT_CLOCK = 4
-WITHOUT_FILE = "brokerd: --check needs a database: give --db too\n"
+WHAT_TO_DO = ("{}: nothing was changed. Restore a backup (brokerd backup made it), or mend it by brokerd export and "
+              "brokerd import --salvage, or serve it as it is with --unchecked\n")
+WITHOUT_FILE = "brokerd: {} needs a database: give --db too\n"
+BOTH = ("brokerd: --until-stopped takes the place of --connections, and --unchecked that of --check: give one of them; "
+        "--log-format is text or json\n")
 SECONDS = 60  # that a check may take beside much other work
-LEAST = {"accepted": 150, "rows in the older format": 20, "rules": 14, "told": 80}
+LEAST = {"accepted": 150, "rows in the older format": 20, "rules": 14, "told": 80, "several": 1}
 
 FORMAT = "it is not in its format"
 KEY = "its key is none of its kind"
@@ -64,13 +69,26 @@ def fault_in(ended):
     return int(found[1]) if found else None
 
 
-def check(trial, file):
+def check(trial, file, *options):
     """What the program says of a file. Raises Wrong if it prints a token, or changes a row."""
     before = rows_in(file)
-    ended = run(trial, "check", "--db", file)
+    ended = run(trial, "check", *options, "--db", file)
     expect(rows_in(file) == before, "a row has changed")
     expect("hvs." not in ended.stdout + ended.stderr, f"a token is printed: {ended.stdout}")
     return ended
+
+
+def told_of_all(trial, file):
+    """What `check --all` tells of the rows of a file that is refused, a line each. Raises Wrong if it does not count
+    them in its last line, or tells of a row twice."""
+    ended = check(trial, file, "--all")
+    *lines, last = ended.stdout.removesuffix("\n").split("\n")
+    rows = "row" if len(lines) == 1 else "rows"
+    expect((ended.returncode, ended.stderr) == (1, ""), f"all: status {ended.returncode}: {ended.stderr}")
+    expect(last == f"{file}: {len(lines)} {rows} in trouble", f"all: {len(lines)} lines, and then {last}")
+    expect(all(line.startswith(f"{file}: ") for line in lines), f"all: {lines}")
+    expect(len({line.partition(" (")[0].partition(": it")[0] for line in lines}) == len(lines), f"all: {lines}")
+    return lines
 
 
 def counts_of(rows):
@@ -88,15 +106,16 @@ def accept(trial, rows, draw, served):
     write(file, rows, draw)
     ended = check(trial, file)
     wanted = f"{file}: ok, {counts_of(rows)}\n"
-    expect((ended.returncode, ended.stdout, ended.stderr) == (0, wanted, ""),
-           f"{ended.stdout or ended.stderr} in place of {wanted}")
+    for ended in (ended, check(trial, file, "--all")):
+        expect((ended.returncode, ended.stdout, ended.stderr) == (0, wanted, ""),
+               f"{ended.stdout or ended.stderr} in place of {wanted}")
     expect(serve(trial, file) is None, "a root token is printed")
     expect(rows_in(file) == served, "it serves other rows")
 
 
 def serve(trial, file):
     """The root token that is printed, or None, by a program that checks a file and has to serve it. Raises Wrong."""
-    with Running(trial.program, file, {}, options=("--check",)) as running:
+    with Running(trial.program, file, {}) as running:
         connection = running.connect()
         if connection is not None:
             connection.close()
@@ -109,12 +128,13 @@ def refuse_to_serve(trial, file, said):
     """A program that checks a file has to end before it listens, with these words, and to change no row. Raises
     Wrong."""
     before = rows_in(file)
-    with Running(trial.program, file, {}, options=("--check",)) as running:
+    with Running(trial.program, file, {}) as running:
         connection = running.connect()
         expect(connection is None, "it listens")
         end = running.close()
     found = end.said if end.fault() is None else f"fault {end.fault()}\n"
-    expect((end.status, end.printed, found) == (1, "", said), f"{end} in place of {said}")
+    wanted = said + WHAT_TO_DO.format(file) if end.fault() is None else said
+    expect((end.status, end.printed, found) == (1, "", wanted), f"{end} in place of {wanted}")
     expect(rows_in(file) == before, "a row has changed")
 
 
@@ -311,6 +331,8 @@ def refuse(trial, rule, place, rows):
     expect((ended.returncode, ended.stderr) == (1, ""), f"status {ended.returncode}: {ended.stdout}{ended.stderr}")
     expect(line.startswith(begin) and line.endswith(end), f"{line} in place of {begin} .. {end}")
     expect(place[0] not in (TOKEN, RESPONSE) or rule == FORMAT or " (accessor " in line, f"no accessor: {line}")
+    first = told_of_all(trial, file)[0]
+    expect(first == ended.stdout.removesuffix("\n"), f"all: {first} in place of {ended.stdout}")
     refuse_to_serve(trial, file, ended.stdout if rule else f"fault {FAULT_WITHOUT_CLOCK}\n")
 
 
@@ -340,6 +362,22 @@ def try_refused(trial, rule, place, rows):
     return ["told"]
 
 
+def try_several(trial):
+    """Rows of several kinds that are in no format: each has to be told. Raises Wrong."""
+    planted = Planted()
+    places = [(kind, key) for kind in (VERSION, MOUNT, POLICY, ROLE) for key in planted.of(kind)]
+    rows = {place: (*row[:2], row[2] + b"\0") if place in places else row for place, row in planted.rows.items()}
+    file = trial.place() / "broker.db"
+    write(file, rows, random.Random(1))
+    lines = told_of_all(trial, file)
+    for place in places:
+        begin, end = told_of(FORMAT, place, rows)
+        expect(any(line.startswith(f"{file}: {begin}") and line.endswith(end) for line in lines),
+               f"no {begin}: {lines}")
+    expect(len(lines) == len(places), f"{len(lines)} rows are told, and {len(places)} were changed: {lines}")
+    return ["several"]
+
+
 def try_files(trial):
     """Files that are none of a broker, and one that is in use; a broker is started in a new file. Raises Wrong."""
     place = trial.place()
@@ -357,8 +395,11 @@ def try_files(trial):
         expect(serve(trial, file) is None, f"of {file.name}: a root token is printed twice")
     ended = run(trial, "serve", "--listen", "127.0.0.1:0", "--connections", "1", "--check", "--db", other)
     expect((ended.returncode, ended.stdout, fault_in(ended)) == (1, "", FAULT_OF_STORAGE), f"{ended}")
-    ended = run(trial, "serve", "--listen", "127.0.0.1:0", "--check")
-    expect((ended.returncode, ended.stdout, ended.stderr) == (2, "", WITHOUT_FILE), f"{ended}")
+    for option in ("--check", "--unchecked"):
+        ended = run(trial, "serve", "--listen", "127.0.0.1:0", option)
+        expect((ended.returncode, ended.stdout, ended.stderr) == (2, "", WITHOUT_FILE.format(option)), f"{ended}")
+    ended = run(trial, "serve", "--listen", "127.0.0.1:0", "--check", "--unchecked", "--db", absent)
+    expect((ended.returncode, ended.stdout, ended.stderr) == (2, "", BOTH), f"{ended}")
     with Running(trial.program, place / "used.db", {}) as running:
         running.told_root()
         ended = run(trial, "check", "--db", place / "used.db")
@@ -372,7 +413,7 @@ def try_checked(trial, jobs):
     tally, rules = Tally("checked"), set()
     tasks = [(try_accepted, row) for row in rows_of_tests()]
     tasks += [(try_refused, planted) for planted in Planted().all()]
-    tasks += [(try_files, ())]
+    tasks += [(try_several, ()), (try_files, ())]
     for (task, arguments), found, wrong in side_by_side(lambda it: it[0](trial, *it[1]), tasks, jobs):
         if wrong is None:
             tally.passes(*found)

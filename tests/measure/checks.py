@@ -1,5 +1,5 @@
 #!/usr/bin/env python3
-"""Measures `brokerd check`, and the starts of `brokerd serve` with and without `--check`, over many secrets and tokens.
+"""Measures `brokerd check`, and starts of `brokerd serve` with and without `--unchecked`, over many secrets and tokens.
 
     python3 checks.py PROGRAM.. --many MANY.. [--runs N] [--db FOLDER]
 
@@ -39,8 +39,8 @@ def run(program, source, token, many, folder):
     """All steps, in turn, over a copy."""
     file = f"{folder}/broker.db"
     shutil.copyfile(source, file)
-    return (check(program, file, many), start(program, file, token), check(program, file, many),
-            start(program, file, token, "--check"))
+    return (check(program, file, many), start(program, file, token, "--unchecked"), check(program, file, many),
+            start(program, file, token))
 
 
 def tell(program, many, runs):

@@ -1,5 +1,5 @@
 #!/usr/bin/env python3
-"""Measures the starts of `brokerd serve --db` over many secrets and tokens, whose keys are of format 1 at first.
+"""Measures the starts of `brokerd serve --db --unchecked` over many secrets and tokens, whose keys are of format 1.
 
     python3 starts.py PROGRAM.. --many MANY.. [--runs N] [--db FOLDER]
 
@@ -61,9 +61,9 @@ def run(program, source, token, _many, folder):
     """Two starts over a copy."""
     file = f"{folder}/broker.db"
     shutil.copyfile(source, file)
-    first = start(program, file, token)
+    first = start(program, file, token, "--unchecked")
     sizes = [os.stat(file + end).st_size for end in ("", "-wal")]
-    second = start(program, file, token)
+    second = start(program, file, token, "--unchecked")
     return Run(first, second, *sizes, formats_in(file))
 
 

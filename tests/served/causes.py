@@ -234,7 +234,7 @@ def no_clock(place):
 
 def a_damaged_row(place):
     file = place.copy("UPDATE broker_rows SET body = x'02' WHERE kind = 9")
-    with Broker(place.program, "--db", str(file), token=place.token) as broker:
+    with Broker(place.program, "--unchecked", "--db", str(file), token=place.token) as broker:
         expect(broker.ask("GET", "secret/data/a")[0] == 0, "the damaged row is answered")
         status, said = broker.ended()
     expect(status == 1, f"status {status}")
@@ -349,10 +349,10 @@ def memory(place):
 
 
 def randomness(place):
-    """The opening asks first, and there is no telling whether for the files or for randomness; then the database does,
-    then the server."""
+    """The server asks first; then the opening, and there is no telling whether for the files or for randomness; then
+    the database."""
     file, met = place.new(), []
-    for number, fault in ((2, STORAGE), (3, READING)):
+    for number, fault in ((3, STORAGE), (1, READING)):
         variables = environment(place.library, f"getentropy:{number}+:EIO", report=file.parent / "report")
         said = place.served(file, env=variables)
         found = FAULT.fullmatch(said)

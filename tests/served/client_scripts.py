@@ -1,5 +1,5 @@
 #!/usr/bin/env python3
-"""Runs the scripts of examples/ that call `client`, as they stand in docs/CLIENT.md, against a running `brokerd serve`.
+"""Runs the scripts of examples/ that call `client`, which docs/CLIENT.md links, against a running `brokerd serve`.
 
     python3 tests/served/client_scripts.py PROGRAM
 
@@ -108,11 +108,10 @@ class Tried(Checks):
 
 
 def pages(tried):
-    """The page has each script as it is; they are short."""
-    text = PAGE.read_text(encoding="utf-8")
-    blocks = re.findall(r"^```sh\n(.*?)^```$", text, re.MULTILINE | re.DOTALL)
+    """The page links each script; they are short."""
+    linked = re.findall(r"\]\(\.\./examples/(\w+\.sh)\)", PAGE.read_text(encoding="utf-8"))
+    tried.same("the scripts of the page", linked, list(SCRIPTS))
     scripts = [(TOP / "examples" / name).read_text(encoding="utf-8") for name in SCRIPTS]
-    tried.same("the scripts of the page", blocks, scripts)
     for name, script in zip(SCRIPTS, scripts):
         lines = script.splitlines()
         head = next(place for place, line in enumerate(lines) if not line.startswith("#"))

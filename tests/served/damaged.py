@@ -1,6 +1,6 @@
 #!/usr/bin/env python3
-"""Damaged rows under `brokerd serve --db`: a request that reads one ends the program with `fault 3` and changes
-nothing; one that does not, or asks only whether the row is there, has its usual reply.
+"""Damaged rows under `brokerd serve --unchecked --db`: a request that reads one ends the program with `fault 3` and
+changes nothing; one that does not, or asks only whether the row is there, has its usual reply.
 
     python3 tests/served/damaged.py PROGRAM
 
@@ -153,7 +153,7 @@ def damage(file, kind, key, change):
 def why_not_told(made, file, asked):
     """Why a request that reads a damaged row does not end the program with its fault alone, or None if it does."""
     before = rows_in(file)
-    with Broker(made.program, "--db", str(file), token=made.names["root"]) as broker:
+    with Broker(made.program, "--unchecked", "--db", str(file), token=made.names["root"]) as broker:
         found = answer(broker, made.spelled(asked))
         if found != (0, ""):
             return f"the reply to a request that reads it is {found}"
@@ -169,7 +169,7 @@ def why_not_told(made, file, asked):
 
 def why_not_served(made, file, usual):
     """Why requests have not their usual replies, or None if they have."""
-    with Broker(made.program, "--db", str(file), token=made.names["root"]) as broker:
+    with Broker(made.program, "--unchecked", "--db", str(file), token=made.names["root"]) as broker:
         for asked, status, begin in usual:
             found = answer(broker, made.spelled(asked))
             if found[0] != status or not found[1].startswith(begin):

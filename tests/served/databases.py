@@ -1,5 +1,6 @@
 #!/usr/bin/env python3
-"""Which databases `brokerd serve --db` takes, and which it refuses with `fault 2` or `fault 4`.
+"""Which databases `brokerd serve --unchecked --db` takes, and which it refuses with `fault 2` or `fault 4`, also
+without `--unchecked`; what a check refuses, `tests/disk/checked.py` tries.
 
     python3 tests/served/databases.py PROGRAM
 
@@ -64,7 +65,7 @@ def changed(folder, made, statements):
 def why_not_served(program, database, token):
     """Why a database is not served to a token, or to the root token of a new broker; None if it is."""
     try:
-        with Broker(program, "--db", str(database), token=token) as broker:
+        with Broker(program, "--unchecked", "--db", str(database), token=token) as broker:
             status, _ = broker.ask("GET", "auth/token/lookup-self")
             return None if status == 200 else f"status {status}"
     except SystemExit as end:
@@ -72,12 +73,13 @@ def why_not_served(program, database, token):
 
 
 def why_not_refused(program, database, fault):
-    """Why a database is not refused with a fault, or None if it is."""
-    done = subprocess.run([program, "serve", "--listen", "127.0.0.1:0", "--connections", "1", "--db", str(database)],
-                          capture_output=True, text=True, timeout=60, check=False)
-    if (done.returncode, done.stdout, fault_in(done.stderr)) == (1, "", f"fault {fault}"):
-        return None
-    return f"status {done.returncode}: {done.stderr[:100]}"
+    """Why a database is not refused with a fault, checked or not, or None if it is."""
+    for options in ((), ("--unchecked",)):
+        done = subprocess.run([program, "serve", "--listen", "127.0.0.1:0", "--connections", "1", *options,
+                               "--db", str(database)], capture_output=True, text=True, timeout=60, check=False)
+        if (done.returncode, done.stdout, fault_in(done.stderr)) != (1, "", f"fault {fault}"):
+            return f"{options}: status {done.returncode}: {done.stderr[:100]}"
+    return None
 
 
 def try_all(program, folder):

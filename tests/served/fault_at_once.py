@@ -140,7 +140,7 @@ def run(program, folder):
     file = str(Path(folder) / "broker.db")
     root, tokens = made(program, file)
     body = row(file, b"\x02")
-    with Broker(program, "--db", file, token=root) as broker:
+    with Broker(program, "--unchecked", "--db", file, token=root) as broker:
         peers = [Peer(broker.port, token) for token in tokens]
         before = meet_the_fault(broker, peers)
     row(file, body)

@@ -51,7 +51,7 @@ def ended(broker):
 
 def said(program, copy, token, *arguments):
     """What the program says until it has answered a request."""
-    with Broker(program, "--db", copy, *arguments, token=token) as broker:
+    with Broker(program, "--unchecked", "--db", copy, *arguments, token=token) as broker:
         status, _ = broker.ask("GET", "auth/token/lookup-self")
         expect(status == 200, f"status {status}")
         return ended(broker)

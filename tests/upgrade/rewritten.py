@@ -102,9 +102,9 @@ class Made:
         self.keys = keys_in(self.rows)
         expect(len(self.keys) == KEYS, f"{len(self.keys)} keys are made")
 
-    def running(self, file):
+    def running(self, file, *options):
         """The program over a file. Its clock stands still, so no read changes a row."""
-        return Running(self.program, file, self.variables)
+        return Running(self.program, file, self.variables, options=options)
 
     def answer(self, running, request):
         """A reply without its request id."""
@@ -114,13 +114,13 @@ class Made:
         """The changes that write these keys in format 1."""
         return [(UPDATE, (*self.rows[KEY, key][:2], old_body(self.rows[KEY, key][2]), key)) for key in keys]
 
-    def try_case(self, changes, left=None, damaged=None):
-        """A copy with these changes, which leave those of the keys (all, if none are named), and of them a damaged one.
-        Raises Wrong."""
+    def try_case(self, changes, left=None, damaged=None, is_sound=True):
+        """A copy with these changes, which leave those of the keys (all, if none are named), and of them a damaged one;
+        or rows that are those of no broker. Raises Wrong."""
         file = self.folder / "copy.db"
         before = copied(self.file, file, changes)
         paths = [key.removeprefix("secret/") for key in (self.keys if left is None else left) if key != damaged]
-        with self.running(file) as running:
+        with self.running(file, *(() if is_sound and damaged is None else ("--unchecked",))) as running:
             asked = [request for path in paths for request in reads(path)]
             for request in (*asked, *(LISTS if left is None else ())):
                 found, wanted = self.answer(running, request), self.replies[request.method, request.path]
@@ -171,7 +171,8 @@ def cases(made):
     for count in FEW:
         yield f"{count} keys", few_keys(made, count)
     beside = [(INSERT, (f"secret/z{chr(0) * number}", BOUNDS[0])) for number in range(AGAIN)]
-    yield "keys beside each other", {"changes": [*made.old(*made.keys), *beside], "left": made.keys}
+    yield "keys beside each other", {
+        "changes": [*made.old(*made.keys), *beside], "left": made.keys, "is_sound": False}
     bounds = [(INSERT, (f"secret/z{number}", body)) for number, body in enumerate(BOUNDS)]
     yield "numbers at their bounds", {"changes": [*made.old(*made.keys), *bounds], "left": made.keys}
     for number, damage in enumerate(DAMAGES):

@@ -1,30 +1,29 @@
 //! Programs that serve: a broker in memory, or that of a file.
 
-ghost use Rattle.std.specs.Prelude.{◌≡◌, ◌⊎◌, IsTrue, IfOk, IfErr, None};
+ghost use Rattle.std.specs.Prelude.{◌≡◌, IsTrue, IfErr, None};
 ghost use Rattle.std.specs.FinMap as map;
 ghost use Rattle.broker_types.specs.Broker.{Broker};
 ghost use Rattle.records.specs.Kept.{IsHonestStore};
 ghost use Rattle.records_sql.specs.KeptRecords.{kept_records};
-ghost use Rattle.broker_rows.specs.ClockRow.{HasNoClock};
 ghost use Rattle.broker_rows.specs.Representing.{Represents};
-ghost use Rattle.broker_sql.specs.SqlKept.{ReturnsWhatWasWritten, sql_kept};
-ghost use Rattle.database_check.specs.Findings.{OpenAsNone};
+ghost use Rattle.broker_sql.specs.SqlKept.{ReturnsWhatWasWritten};
 ghost use Rattle.server.specs.Starting.{IsFaultOfNew};
-ghost use Rattle.broker_server.specs.Starting.{IfFaulted, IfRefused};
 
+use crate::files::{Reports, Serving, serve_from};
 use crate::opening::tell_opening;
-use crate::preparing::prepare_checked;
 use crate::serve_error::ServeError;
 use crate::telling::tell_why;
 use broker_sql::{SqlStore, prepare};
-use broker_types::{Fault, Moment, TokenText, Words};
+use broker_types::{Fault, TokenText};
 use hub::{Clock, ConnectionFault, WordSource};
-use records_sql::{Cause, Commits, LastCause, Numbers, SqlRecords};
+use rand_chacha::ChaCha20Rng;
+use records_sql::{Cause, Numbers, SqlRecords};
 use server::{
-    Log, Settings, SystemClock, Watched, begin_log, begin_status, seeded, serve_store, shared, tell,
+    DrawnWords, Log, Settings, SystemClock, Watched, begin_log, begin_status, seeded, serve_store,
+    shared, tell,
 };
 use sqlite::{Alter, Unknown};
-use std::alloc::{AllocError, Global};
+use std::alloc::AllocError;
 use std::fs::OpenOptions;
 use std::io;
 use std::os::unix::fs::OpenOptionsExt;
@@ -63,12 +62,27 @@ fn serve_new(
     let Ok(records) = SqlRecords::in_memory(rt.alloc()) else {
         return Err(ConnectionFault::Broker(Fault::Storage));
     };
-    match serve_records(rt, records, settings, its_log, watched) {
-        Ok(()) => Ok(()),
-        Err(ServeError::Faulted(fault)) => Err(fault),
-        // A database without a row has none in trouble.
-        Err(ServeError::Unsound(_)) => unreachable!(),
-    }
+    start_and_serve(rt, records, settings, its_log, watched)
+}
+
+/// Starts a broker in records without a row, whose storage returns what was written, and serves it. It is generic in
+/// the storage, since each call at the type of the one in memory takes the prover long.
+fn start_and_serve<S: Alter + Drop>(
+    rt: &HostRuntime,
+    records: SqlRecords<S>,
+    settings: &Settings<'_>,
+    log: Option<Rc<Log>>,
+    watched: Option<Watched>,
+) -> Result<(), ConnectionFault>
+    requires always { ReturnsWhatWasWritten S.Store }
+    requires empty { (kept_records S.Store records).rows ≡ map.empty }
+    ensures { IfErr result IsFaultOfNew }
+{
+    let mut records = records;
+    let mut words = drawn(rt, &log)?;
+    let moment = SystemClock::new(rt).now();
+    let root = prepare(rt.alloc(), &mut records, moment, &words.words())?;
+    serve_ready(rt, records, root, settings, log, words, watched)
 }
 
 /// Serves the broker that a file keeps, with its log beside it, or starts one in a file that is new, and prints its
@@ -80,14 +94,14 @@ fn serve_new(
 /// of it then.
 pub fn serve_file(rt: &HostRuntime, path: &str, settings: &Settings<'_>) -> Result<(), ServeError> {
     let log = begin(rt, path, settings)?;
-    let last = LastCause::new(rt.alloc());
-    let served = match &last {
-        Ok(last) => open_and_serve(rt, path, settings, &log, last),
+    let reports = Reports::new(rt, settings.status.is_some());
+    let served = match &reports {
+        Ok(reports) => serve_named(rt, path, settings, &log, reports),
         Err(AllocError) => Err(ServeError::from(Fault::Memory)),
     };
     if let Err(ServeError::Faulted(fault)) = &served {
-        let cause = match &last {
-            Ok(last) => last.get(),
+        let cause = match &reports {
+            Ok(reports) => reports.causes.get(),
             Err(AllocError) => None,
         };
         tell_why(rt, &log, path, *fault, cause);
@@ -106,55 +120,103 @@ fn begin(rt: &HostRuntime, name: &str, settings: &Settings<'_>) -> Result<Option
     log
 }
 
-/// Opens the file, and serves its broker.
-fn open_and_serve(
+/// Serves the broker of the file, of whose contents nothing is supposed.
+fn serve_named(
     rt: &HostRuntime,
     path: &str,
     settings: &Settings<'_>,
     log: &Option<Rc<Log>>,
-    last: &LastCause,
+    reports: &Reports,
 ) -> Result<(), ServeError> {
-    let watched = begin_status(rt, settings, log, Some(path))?;
+    let watched = counted(begin_status(rt, settings, log, Some(path))?, reports)?;
+    let its_log = shared(log)?;
+    let mut words = drawn(rt, log)?;
     // If it is there, or cannot be made, opening it tells.
     let _ = make_private(rt, path);
     tell_opening(rt, path, log)?;
-    match SqlRecords::open_from(rt, path, Unknown) {
-        Ok(records) => serve_opened(rt, records, settings, log, last, watched),
-        Err(cause) => {
-            last.tell(cause);
-            Err(ServeError::from(Fault::Storage))
-        }
+    let moment = SystemClock::new(rt).now();
+    let first = words.words();
+    let serving = OverSockets {
+        rt,
+        settings,
+        log: its_log,
+        words,
+        watched,
+    };
+    serve_from(
+        rt,
+        path,
+        Unknown,
+        reports,
+        settings.checks,
+        moment,
+        &first,
+        serving,
+    )
+}
+
+/// What serves the broker of a file.
+#[derive(Drop)]
+struct OverSockets<'s> {
+    rt: &'s HostRuntime,
+    settings: &'s Settings<'s>,
+    log: Option<Rc<Log>>,
+    words: DrawnWords<ChaCha20Rng>,
+    watched: Option<Watched>,
+}
+
+impl<'s> Serving for OverSockets<'s> {
+    ghost use Rattle.std.specs.Prelude.{IsTrue, None, ⊤};
+    ghost use Rattle.broker_types.specs.Broker.{Broker};
+    ghost use Rattle.broker_rows.specs.Representing.{Represents};
+
+    ghost may = { λ s rows root. IsTrue s.settings.now.checks → (b : Broker) × Represents None rows b };
+
+    ghost served = { λ _. ⊤ };
+
+    fn serve<S: Alter + Drop>(
+        self,
+        records: SqlRecords<S>,
+        root: Option<TokenText>,
+    ) -> Result<(), ConnectionFault> {
+        let OverSockets {
+            rt,
+            settings,
+            log,
+            words,
+            watched,
+        } = self;
+        serve_ready(rt, records, root, settings, log, words, watched)
     }
 }
 
-/// Serves the broker that the records have, or starts one there; the cause of a failure is told.
-fn serve_opened<S: Alter + Drop>(
-    rt: &HostRuntime,
-    mut records: SqlRecords<S>,
-    settings: &Settings<'_>,
-    log: &Option<Rc<Log>>,
-    last: &LastCause,
-    watched: Option<Watched>,
-) -> Result<(), ServeError> {
-    records.tell_to(last);
-    let watched = counted(rt, &mut records, watched)?;
-    let its_log = shared(log)?;
-    serve_records(rt, records, settings, its_log, watched)
-}
-
-/// What operators are told, with the commits of the records from now on.
-fn counted<S: Alter>(
-    rt: &HostRuntime,
-    records: &mut SqlRecords<S>,
-    watched: Option<Watched>,
-) -> Result<Option<Watched>, Fault> {
+/// What operators are told, with the commits that are counted.
+fn counted(watched: Option<Watched>, reports: &Reports) -> Result<Option<Watched>, Fault>
+    ensures { IfErr result (λ fault. fault ≡ Fault.Memory) }
+{
     let Some(mut watched) = watched else {
         return Ok(None);
     };
-    let commits = Commits::new(rt)?;
-    records.count_in(&commits);
-    watched.count_commits(commits.times()?, commits.micros()?);
+    if let Some(commits) = &reports.commits {
+        watched.count_commits(commits.times()?, commits.micros()?);
+    }
     Ok(Some(watched))
+}
+
+/// Words that the system's randomness draws.
+fn drawn(
+    rt: &HostRuntime,
+    log: &Option<Rc<Log>>,
+) -> Result<DrawnWords<ChaCha20Rng>, ConnectionFault>
+    ensures { IfErr result IsFaultOfNew }
+{
+    match seeded(rt) {
+        Ok(words) => Ok(words),
+        Err(_) => {
+            tell(rt, log, Cause::Randomness);
+            Err(ConnectionFault::Read)
+        }
+    }
 }
 
 /// Makes an empty file that its owner alone may read and write, if there is none.
@@ -167,34 +229,25 @@ fn make_private(rt: &HostRuntime, path: &str) -> io::Result<()> {
     Ok(())
 }
 
-/// Serves the broker that the records have, or starts one in records without a row. If files are checked, it serves
-/// only a sound broker. That, and one that has just been started, has no damaged row, in a storage that returns what
-/// was written.
-fn serve_records<S: Alter + Drop>(
+/// Serves the store of records whose rows were made ready. If files are checked, they are those of a sound broker:
+/// whoever calls this has to know it.
+fn serve_ready<S: Alter + Drop, D: WordSource + Drop>(
     rt: &HostRuntime,
     records: SqlRecords<S>,
+    root: Option<TokenText>,
     settings: &Settings<'_>,
     log: Option<Rc<Log>>,
+    words: D,
     watched: Option<Watched>,
-) -> Result<(), ServeError>
-    ensures faults { ReturnsWhatWasWritten S.Store
-        → IsTrue settings.now.checks ⊎ ((kept_records S.Store records).rows ≡ map.empty)
-        → IfErr result (λ error. IfFaulted error IsFaultOfNew) }
-    ensures unsound { ReturnsWhatWasWritten S.Store
-        → IfErr result (λ error. IfRefused error (OpenAsNone (kept_records S.Store records).rows)) }
-    ensures started { ReturnsWhatWasWritten S.Store
-        → IfErr result (λ error. IfRefused error (λ _. ¬ HasNoClock (kept_records S.Store records).rows)) }
+) -> Result<(), ConnectionFault>
+    requires sound { IsTrue settings.now.checks → IsHonestStore (kept_records S.Store records)
+        → (b : Broker) × Represents None (kept_records S.Store records).rows b }
+    ensures { ReturnsWhatWasWritten S.Store → IsTrue (kept_records S.Store records).is_open → (b : Broker)
+        → Represents None (kept_records S.Store records).rows b → IfErr result IsFaultOfNew }
 {
-    let mut clock = SystemClock::new(rt);
-    let Ok(mut words) = seeded(rt) else {
-        tell(rt, &log, Cause::Randomness);
-        return Err(ServeError::Faulted(ConnectionFault::Read));
-    };
-    let moment = clock.now();
     let watched = told(watched, records.numbers());
-    let (store, root) = made_ready(rt.alloc(), records, settings.checks, moment, &words.words())?;
-    serve_store(rt, store, root, settings, log, words, watched)?;
-    Ok(())
+    let store = SqlStore::new(rt.alloc(), records);
+    serve_store(rt, store, root, settings, log, words, watched)
 }
 
 /// What operators are told, with the numbers of rows that were found.
@@ -202,29 +255,4 @@ fn told(watched: Option<Watched>, numbers: Numbers) -> Option<Watched> {
     let mut watched = watched?;
     watched.found(numbers.tokens, numbers.secrets, numbers.responses);
     Some(watched)
-}
-
-/// A store that is made ready. Its records are checked first, if they are to be.
-fn made_ready<S: Alter + Drop>(
-    alloc: Global,
-    records: SqlRecords<S>,
-    checks: bool,
-    moment: Moment,
-    words: &Words,
-) -> Result<(SqlStore<S>, Option<TokenText>), ServeError>
-    ensures sound { IsTrue checks ⊎ ((kept_records S.Store records).rows ≡ map.empty)
-        → IfOk result (λ made. IsHonestStore (sql_kept S.Store made.0)
-        → (b : Broker) × Represents None (sql_kept S.Store made.0).rows b) }
-    ensures stands { IfOk result (λ made. IsHonestStore (sql_kept S.Store made.0)
-        → IsTrue (sql_kept S.Store made.0).is_open) }
-    ensures unsound { ReturnsWhatWasWritten S.Store
-        → IfErr result (λ error. IfRefused error (OpenAsNone (kept_records S.Store records).rows)) }
-    ensures started { ReturnsWhatWasWritten S.Store
-        → IfErr result (λ error. IfRefused error (λ _. ¬ HasNoClock (kept_records S.Store records).rows)) }
-    ensures faults { IfErr result (λ error. IfFaulted error IsFaultOfNew) }
-{
-    if checks {
-        return prepare_checked(alloc, records, moment, words);
-    }
-    Ok(prepare(alloc, records, moment, words)?)
 }

@@ -1,3 +1,2 @@
 pub mod KindLemmas
-pub mod AdoptLemmas
-pub mod PreparedLemmas
+pub mod StartLemmas

@@ -1,5 +1,4 @@
 pub mod Atomic
-pub mod Beginning
 pub mod Found
 pub mod HonestLaws
 pub mod Prepared

@@ -1,11 +1,8 @@
--- What a store is made ready as (this project's definition).
-use Rattle.std.specs.Prelude.{◌≡◌, ◌≢◌, ◌≤◌, ℕ, Option, Some, None}
+-- What rows are made ready as, for a store (this project's definition).
+use Rattle.std.specs.Prelude.{◌≡◌, ◌≢◌, ◌⊎◌, ℕ, Option, Some, None}
 use Rattle.std.specs.FinMap as map
-use Rattle.sqlite_trees.specs.declared.store.Store as store
 use Rattle.broker_model.specs.Words.{first_broker, id, token_word, accessor_word, Text, token_text, Words}
-use Rattle.broker_model.specs.Words.{IsHonestStore, table_of, Rows, AreUpgraded}
-use Rattle.records_sql.specs.Words.{kept_records}
-use Rattle.records_sql.specs.declared.sql_records.SqlRecords.{SqlRecords}
+use Rattle.broker_model.specs.Words.{table_of, Rows, AreUpgraded}
 use Rattle.broker_rows.specs.Words.{HasNoClock, Represents}
 
 -- a broker that was there before, with the row of the clock, as it was: rows of keys in format 1 are in format 2
@@ -25,10 +22,8 @@ abbrev pub IsPrepared : ℕ → Words → Rows → Rows → Option Text → Type
 IsPrepared moment words before after None = IsOpened before after
 IsPrepared moment words before after (Some token) = IsStarted moment words before after token
 
--- Words 1 and 2 are equal, and there is no row: they would be those of the first broker. The records have shown that
--- before they were let go: it holds, if the storage has returned what was written as they were then.
-pub record CannotStart {S : Type 0} (g : store.Ghosts S) (records : SqlRecords S g) (words : Words) : Type 0 where
-  pub equal : token_word words ≡ accessor_word words
-  pub last : SqlRecords S g
-  pub mismatches : (kept_records g records).mismatches ≤ (kept_records g last).mismatches
-  pub told : IsHonestStore (kept_records g last) → (kept_records g records).rows ≡ map.empty
+-- Neither can be: there are rows and none of the clock, or there is no row, and words 1 and 2, which would be those of
+-- the first broker, are equal.
+abbrev pub CannotStart : Words → Rows → Type 0
+CannotStart words rows =
+    (HasNoClock rows × (rows ≢ map.empty)) ⊎ ((rows ≡ map.empty) × (token_word words ≡ accessor_word words))

@@ -1,7 +1,6 @@
 //! A store of the broker's rows in a database.
 #![tactic(auto)]
 
-mod adopting;
 mod emptiness;
 mod laws;
 mod preparing;

@@ -21,9 +21,8 @@ ghost use Rattle.broker_rows.specs.Representing.{Represents, Gives};
 ghost use Rattle.broker_sql.specs.Atomic.{IsAtomic};
 ghost use Rattle.broker_sql.specs.SqlKept.{sql_kept};
 
-use crate::emptiness::is_empty;
+use crate::preparing::start_rows;
 use broker::{Aids, Noticed, Store, handle_with};
-use broker_rows::write_first_rows;
 use broker_types::{Answer, Ask, Fault, Moment, TokenText, Words};
 use ram_disk::RamFile;
 use records_sql::{Cause, SqlRecords};
@@ -56,6 +55,17 @@ impl SqlStore<FileStore<RamFile>> {
 }
 
 impl<S: Alter> SqlStore<S> {
+    /// The store of these records, whose rows it takes as they are: `prepare` makes them ready before.
+    pub fn new(alloc: Global, records: SqlRecords<S>) -> SqlStore<S>
+        ensures { sql_kept S.Store result ≡ kept_records S.Store records }
+    {
+        SqlStore {
+            alloc,
+            records,
+            aids: None,
+        }
+    }
+
     /// Gives the records back.
     pub fn into_records(self) -> SqlRecords<S>
         ensures { kept_records S.Store result ≡ sql_kept S.Store self }
@@ -125,22 +135,19 @@ impl<S: Alter> SqlStore<S> {
         token_word: u128,
         accessor_word: u128,
     ) -> Result<TokenText, Fault>
-        ensures told { IsHonestStore (sql_kept S.Store self.new) → token_word ≢ accessor_word
+        ensures told { IsHonestStore (sql_kept S.Store self.new)
             → OnOk result (Represents None (sql_kept S.Store self.new).rows
             (first_broker moment token_word accessor_word)) }
         ensures token { IfOk result (λ t. t ≡ token_text (id token_word)) }
         ensures empty { IsHonestStore (sql_kept S.Store self.new)
             → OnOk result ((sql_kept S.Store self.old).rows ≡ map.empty) }
         ensures bad_start { IsHonestStore (sql_kept S.Store self.new) → result ≡ Err Fault.BadStart
-            → (sql_kept S.Store self.old).rows ≢ map.empty }
+            → ((sql_kept S.Store self.old).rows ≢ map.empty) ⊎ (token_word ≡ accessor_word) }
         ensures faults { IfErr result (λ fault. IsMemoryOrStorage fault ⊎ (fault ≡ Fault.BadStart)) }
         ensures atomic { IsAtomic (sql_kept S.Store self.old) (sql_kept S.Store self.new) result }
     {
         let mut tx = self.records.begin()?;
-        if !is_empty(&mut tx)? {
-            return Err(Fault::BadStart);
-        }
-        let token = write_first_rows(self.alloc, &mut tx, moment, token_word, accessor_word)?;
+        let token = start_rows(self.alloc, &mut tx, moment, token_word, accessor_word)?;
         tx.commit()?;
         Ok(token)
     }

@@ -1,6 +1,6 @@
 -- The command line of the program, as `clap` sees it (this project's).
 use Rattle.std.specs.Prelude.{◌≡◌, ◌≢◌, ◌⊎◌, ◌<◌, ◌^◌, ◌||◌, codes, true, false, Bool, option_map, Option, Some, None}
-use Rattle.std.specs.Prelude.{List, ℕ, ⊤, is_some, pos}
+use Rattle.std.specs.Prelude.{List, [], ◌∷◌, ℕ, ⊤, is_some, pos, unwrap_or}
 use Rattle.std.specs.Str.Parse.{IsNumeral, digits_value, without_leading_plus}
 use Rattle.clap.specs.Words.{App, Row, Rule, Text, first_of, new_app, new_rule, one_of, with_rule, with_subcommand}
 use Rattle.clap.specs.declared.builder.action.ArgAction.TheVariants.{SetTrue}
@@ -8,7 +8,8 @@ use Rattle.clap.specs.declared.builder.value_parser.ValueParser.TheVariants.{Sig
 use Rattle.server.specs.declared.settings.LogFormat.{LogFormat}
 use Rattle.server.specs.declared.settings.LogFormat.TheVariants.{Text as AsText, Json}
 use Rattle.brokerd.specs.declared.command.Command.{Command}
-use Rattle.brokerd.specs.declared.command.Command.TheVariants.{AfterRestore, Backup, Check, NewRoot, Replay}
+use Rattle.brokerd.specs.declared.command.Command.TheVariants.{AfterRestore, Backup, Check, Export, Import, NewRoot}
+use Rattle.brokerd.specs.declared.command.Command.TheVariants.{Replay}
 use Rattle.brokerd.specs.declared.command.Command.TheVariants.{Serve}
 
 -- `--listen ADDR`, which is required
@@ -85,6 +86,14 @@ status_rule = record (new_rule (codes "status")) { long = Some (codes "status");
 abbrev pub check_rule : Rule
 check_rule = record (new_rule (codes "check")) { long = Some (codes "check"); action = Some SetTrue }
 
+-- `--unchecked`
+abbrev pub unchecked_rule : Rule
+unchecked_rule = record (new_rule (codes "unchecked")) { long = Some (codes "unchecked"); action = Some SetTrue }
+
+-- `--all`
+abbrev pub all_rule : Rule
+all_rule = record (new_rule (codes "all")) { long = Some (codes "all"); action = Some SetTrue }
+
 -- `--revoke-others`
 abbrev pub revoke_others_rule : Rule
 revoke_others_rule =
@@ -94,13 +103,17 @@ revoke_others_rule =
 abbrev pub tokens_rule : Rule
 tokens_rule = record (new_rule (codes "tokens")) { long = Some (codes "tokens"); action = Some SetTrue }
 
+-- `--salvage`
+abbrev pub salvage_rule : Rule
+salvage_rule = record (new_rule (codes "salvage")) { long = Some (codes "salvage"); action = Some SetTrue }
+
 -- `brokerd replay`
 abbrev pub replay_app : App
 replay_app = new_app (codes "replay")
 
--- `brokerd check --db FILE`
+-- `brokerd check --db FILE [--all]`
 abbrev pub check_app : App
-check_app = with_rule (new_app (codes "check")) checked_rule
+check_app = with_rule (with_rule (new_app (codes "check")) checked_rule) all_rule
 
 -- `brokerd backup --db FILE --to FOLDER [--keep N]`
 abbrev pub backup_app : App
@@ -114,11 +127,20 @@ new_root_app = with_rule (with_rule (new_app (codes "new-root")) checked_rule) r
 abbrev pub after_restore_app : App
 after_restore_app = with_rule (with_rule (new_app (codes "after-restore")) checked_rule) tokens_rule
 
--- `brokerd serve --listen ADDR [--db FILE [--check]] [--connections N] [--at-once M] [--until-stopped]
+-- `brokerd export --db FILE`
+abbrev pub export_app : App
+export_app = with_rule (new_app (codes "export")) checked_rule
+
+-- `brokerd import --db NEW [--salvage]`
+abbrev pub import_app : App
+import_app = with_rule (with_rule (new_app (codes "import")) checked_rule) salvage_rule
+
+-- `brokerd serve --listen ADDR [--db FILE [--check | --unchecked]] [--connections N] [--at-once M] [--until-stopped]
 -- [--stop-on-input] [--log] [--log-format FORMAT] [--log-file FILE] [--status ADDR]`
 abbrev pub serve_app : App
 serve_app =
     with_rule
+    (with_rule
     (with_rule
     (with_rule
     (with_rule
@@ -134,7 +156,8 @@ serve_app =
     log_format_rule)
     log_file_rule)
     status_rule)
-    check_rule
+    check_rule)
+    unchecked_rule
 
 -- `brokerd`, which has a version and requires a subcommand
 abbrev pub top_app : App
@@ -149,9 +172,13 @@ program_app =
     with_subcommand
     (with_subcommand
     (with_subcommand
+    (with_subcommand
+    (with_subcommand
     (with_subcommand (with_subcommand (with_subcommand top_app replay_app.top) check_app.top) backup_app.top)
     new_root_app.top)
     after_restore_app.top)
+    export_app.top)
+    import_app.top)
     serve_app.top
 
 -- the text is a number below 2^32
@@ -236,7 +263,8 @@ LacksKept rows = (text : Text) × (one_of (codes "keep") rows ≡ Some text) × 
 -- a check
 abbrev pub IsCheck : List Row → Option Command → Type 0
 IsCheck rows None = first_of (codes "db") rows ≡ None
-IsCheck rows (Some (Check db)) = first_of (codes "db") rows ≡ Some db.now
+IsCheck rows (Some (Check db lists_all)) =
+    (first_of (codes "db") rows ≡ Some db.now) × IsFlag lists_all (one_of (codes "all") rows)
 IsCheck rows _ = ⊥
 
 -- a backup; none also for a number that is none, which `clap` does not let through
@@ -262,15 +290,40 @@ IsAfterRestore rows (Some (AfterRestore db revokes_tokens)) =
     (first_of (codes "db") rows ≡ Some db.now) × IsFlag revokes_tokens (one_of (codes "tokens") rows)
 IsAfterRestore rows _ = ⊥
 
--- the values have no address, which `clap` does not let through, or no count, or no places, or no format of the log
+-- an export
+abbrev pub IsExport : List Row → Option Command → Type 0
+IsExport rows None = first_of (codes "db") rows ≡ None
+IsExport rows (Some (Export db)) = first_of (codes "db") rows ≡ Some db.now
+IsExport rows _ = ⊥
+
+-- an import
+abbrev pub IsImport : List Row → Option Command → Type 0
+IsImport rows None = first_of (codes "db") rows ≡ None
+IsImport rows (Some (Import db salvages)) =
+    (first_of (codes "db") rows ≡ Some db.now) × IsFlag salvages (one_of (codes "salvage") rows)
+IsImport rows _ = ⊥
+
+-- whether a check of the database is asked for, or none; nothing if the line says neither
+abbrev pub IsCheckAsked : List Row → Option Bool → Type 0
+IsCheckAsked rows None = IsNotSet (one_of (codes "check") rows) × IsNotSet (one_of (codes "unchecked") rows)
+IsCheckAsked rows (Some true) = IsSet (one_of (codes "check") rows) × IsNotSet (one_of (codes "unchecked") rows)
+IsCheckAsked rows (Some false) = IsNotSet (one_of (codes "check") rows) × IsSet (one_of (codes "unchecked") rows)
+
+-- both are asked for
+abbrev pub AsksBoth : List Row → Type 0
+AsksBoth rows = IsSet (one_of (codes "check") rows) × IsSet (one_of (codes "unchecked") rows)
+
+-- the values have no address, which `clap` does not let through, or no count, or no places, or no format of the log, or
+-- ask both for a check and for none
 abbrev pub LacksValues : List Row → Type 0
 LacksValues rows =
-    (first_of (codes "listen") rows ≡ None) ⊎ (LacksCount rows ⊎ (LacksPlaces rows ⊎ LacksFormat rows))
+    (first_of (codes "listen") rows ≡ None)
+    ⊎ (LacksCount rows ⊎ (LacksPlaces rows ⊎ (LacksFormat rows ⊎ AsksBoth rows)))
 
--- a broker that is served
+-- a broker that is served; a file is checked first unless the line says otherwise
 abbrev pub IsServe : List Row → Option Command → Type 0
 IsServe rows None = LacksValues rows
-IsServe rows (Some (Serve db settings)) =
+IsServe rows (Some (Serve db settings check)) =
     (option_map (λ path. path.now) db ≡ first_of (codes "db") rows)
     × (first_of (codes "listen") rows ≡ Some settings.address.now)
     × IsCount rows settings.connections
@@ -281,25 +334,32 @@ IsServe rows (Some (Serve db settings)) =
     × IsFormat rows settings.log_format
     × (option_map (λ path. path.now) settings.log_file ≡ first_of (codes "log-file") rows)
     × (option_map (λ address. address.now) settings.status ≡ first_of (codes "status") rows)
-    × IsFlag settings.checks (one_of (codes "check") rows)
+    × IsCheckAsked rows check
+    × (settings.checks ≡ unwrap_or check true)
 IsServe rows _ = ⊥
 
--- the name of no subcommand
-abbrev pub IsNoName : Text → Type 0
-IsNoName name =
-    (name ≢ codes "replay") × (name ≢ codes "check") × (name ≢ codes "backup") × (name ≢ codes "new-root")
-    × (name ≢ codes "after-restore") × (name ≢ codes "serve")
+-- what the values mean after each name of a subcommand
+abbrev pub meanings : List Row → List (Text × (Option Command → Type 0))
+meanings rows =
+    (codes "replay", λ command. command ≡ Some Replay)
+    ∷ (codes "check", IsCheck rows)
+    ∷ (codes "backup", IsBackup rows)
+    ∷ (codes "new-root", IsNewRoot rows)
+    ∷ (codes "after-restore", IsAfterRestore rows)
+    ∷ (codes "export", IsExport rows)
+    ∷ (codes "import", IsImport rows)
+    ∷ (codes "serve", IsServe rows)
+    ∷ []
+
+-- the first meaning of that name; no command if there is none
+abbrev pub IsMeantBy : List (Text × (Option Command → Type 0)) → Text → Option Command → Type 0
+IsMeantBy [] name command = command ≡ None
+IsMeantBy (meaning ∷ others) name command =
+    (name ≡ meaning.0 → meaning.1 command) × (name ≢ meaning.0 → IsMeantBy others name command)
 
 -- the command that a subcommand's name and the values of its matches mean
 abbrev pub IsMeant : Text → List Row → Option Command → Type 0
-IsMeant name rows command =
-    (name ≡ codes "replay" → command ≡ Some Replay)
-    × (name ≡ codes "check" → IsCheck rows command)
-    × (name ≡ codes "backup" → IsBackup rows command)
-    × (name ≡ codes "new-root" → IsNewRoot rows command)
-    × (name ≡ codes "after-restore" → IsAfterRestore rows command)
-    × (name ≡ codes "serve" → IsServe rows command)
-    × (IsNoName name → command ≡ None)
+IsMeant name rows command = IsMeantBy (meanings rows) name command
 
 -- the command that the words of a line name, by the subcommand that they enter
 abbrev pub IsCommandOf : Option (Text × List Row) → Option Command → Type 0

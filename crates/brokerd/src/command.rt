@@ -3,12 +3,15 @@
 ghost use Rattle.std.specs.Prelude.{◌≡◌, ◌||◌, IfOk, IfErr, IfSome, None, codes, false, map, string_bytes, true};
 ghost use Rattle.clap.specs.Words.{app_of, found_of, kind_of, rows_of, rule_of, subcommand_of, takes};
 ghost use Rattle.brokerd.specs.CommandLine.{program_app, backup_app, check_app, replay_app, serve_app, listen_rule};
-ghost use Rattle.brokerd.specs.CommandLine.{at_once_rule, check_rule, checked_rule, connections_rule, db_rule};
+ghost use Rattle.brokerd.specs.CommandLine.{all_rule, at_once_rule, check_rule, checked_rule, connections_rule};
+ghost use Rattle.brokerd.specs.CommandLine.{db_rule};
 ghost use Rattle.brokerd.specs.CommandLine.{after_restore_app, keep_rule, new_root_app, revoke_others_rule, to_rule};
 ghost use Rattle.brokerd.specs.CommandLine.{tokens_rule, IsAfterRestore, IsBackup, IsCheck, IsKept, IsNewRoot};
 ghost use Rattle.brokerd.specs.CommandLine.{IsServe, LacksKept};
+ghost use Rattle.brokerd.specs.CommandLine.{export_app, import_app, salvage_rule, IsExport, IsImport};
 ghost use Rattle.brokerd.specs.CommandLine.{log_file_rule, log_format_rule, log_rule, status_rule, stop_on_input_rule};
-ghost use Rattle.brokerd.specs.CommandLine.{until_stopped_rule};
+ghost use Rattle.brokerd.specs.CommandLine.{unchecked_rule, until_stopped_rule};
+ghost use Rattle.brokerd.specs.CommandLine.{AsksBoth, IsCheckAsked};
 ghost use Rattle.brokerd.specs.CommandLine.{IsMeant, IsCommandOf, IsCount, IsFormat, IsLogged, IsPlaces};
 ghost use Rattle.brokerd.specs.CommandLine.{LacksCount, LacksFormat, LacksPlaces};
 
@@ -32,6 +35,8 @@ pub(crate) enum Command<'a> {
     /// Tell whether a file is the database of a broker.
     Check {
         db: &'a str,
+        /// Whether each row in trouble is told, and not the first alone.
+        lists_all: bool,
     },
     /// Copy a database to a file of a folder, and keep so many of them there, or all.
     Backup {
@@ -49,16 +54,28 @@ pub(crate) enum Command<'a> {
         db: &'a str,
         revokes_tokens: bool,
     },
+    /// Write the rows of a database to standard output.
+    Export {
+        db: &'a str,
+    },
+    /// Make a database of the rows that come from standard input.
+    Import {
+        db: &'a str,
+        salvages: bool,
+    },
     /// Serve the broker of a file, or one in memory.
     Serve {
         db: Option<&'a str>,
         settings: Settings<'a>,
+        /// Whether the line asks for a check of the database, or for none, if it says so.
+        check: Option<bool>,
     },
 }
 
 /// The command that the words name. The first is the name of the program. None if they name another subcommand, ask
-/// both for a number of connections and for no end, or for a log in another format. The error is one of `clap`: a wrong
-/// command line, help or the version that was asked for, or running out of memory.
+/// both for a number of connections and for no end, ask both for a check and for none, or ask for a log in another
+/// format. The error is one of `clap`: a wrong command line, help or the version that was asked for, or running out of
+/// memory.
 pub(crate) fn command_of<'a>(
     alloc: Global,
     words: &'a [String],
@@ -75,8 +92,8 @@ pub(crate) fn command_of<'a>(
     }
 }
 
-/// The command that a subcommand's name and what it was given mean; none if it is the name of another, or if it is to
-/// serve both so many connections and without an end, or to log in a format that there is not.
+/// The command that a subcommand's name and what it was given mean; none if it is the name of another, or if what it
+/// was given does not go together.
 fn meant<'a>(name: &str, found: &ArgMatches<'a>) -> Option<Command<'a>>
     ensures { IsMeant name.now (rows_of (found_of found.now)) result }
 {
@@ -95,6 +112,12 @@ fn meant<'a>(name: &str, found: &ArgMatches<'a>) -> Option<Command<'a>>
     if name == "after-restore" {
         return after_restore_of(found);
     }
+    if name == "export" {
+        return export_of(found);
+    }
+    if name == "import" {
+        return import_of(found);
+    }
     if name == "serve" {
         return serve_of(found);
     }
@@ -106,7 +129,8 @@ fn check_of<'a>(found: &ArgMatches<'a>) -> Option<Command<'a>>
     ensures { IsCheck (rows_of (found_of found.now)) result }
 {
     let db = found.get_str("db")?;
-    Some(Command::Check { db })
+    let lists_all = found.get_flag("all");
+    Some(Command::Check { db, lists_all })
 }
 
 /// The root token that is asked for. None without a database, which `clap` does not let through.
@@ -127,16 +151,35 @@ fn after_restore_of<'a>(found: &ArgMatches<'a>) -> Option<Command<'a>>
     Some(Command::AfterRestore { db, revokes_tokens })
 }
 
+/// The export that is asked for. None without a database, which `clap` does not let through.
+fn export_of<'a>(found: &ArgMatches<'a>) -> Option<Command<'a>>
+    ensures { IsExport (rows_of (found_of found.now)) result }
+{
+    let db = found.get_str("db")?;
+    Some(Command::Export { db })
+}
+
+/// The import that is asked for. None without a database, which `clap` does not let through.
+fn import_of<'a>(found: &ArgMatches<'a>) -> Option<Command<'a>>
+    ensures { IsImport (rows_of (found_of found.now)) result }
+{
+    let db = found.get_str("db")?;
+    let salvages = found.get_flag("salvage");
+    Some(Command::Import { db, salvages })
+}
+
 /// The serving that is asked for. None without an address, which `clap` does not let through, for both so many
-/// connections and no end, or for a log in a format that there is not.
+/// connections and no end, for both a check and none, or for a log in a format that there is not.
 fn serve_of<'a>(found: &ArgMatches<'a>) -> Option<Command<'a>>
     ensures { IsServe (rows_of (found_of found.now)) result }
 {
     let Some(address) = found.get_str("listen") else {
         return None;
     };
+    let check = check_asked(found)?;
     Some(Command::Serve {
         db: found.get_str("db"),
+        check,
         settings: Settings {
             address,
             connections: count(found)?,
@@ -147,7 +190,7 @@ fn serve_of<'a>(found: &ArgMatches<'a>) -> Option<Command<'a>>
             log_format: log_form(found)?,
             log_file: found.get_str("log-file"),
             status: found.get_str("status"),
-            checks: found.get_flag("check"),
+            checks: check.unwrap_or(true),
         },
     })
 }
@@ -235,6 +278,20 @@ fn places(found: &ArgMatches<'_>) -> Option<u32>
     Some(given.unwrap_or(AT_ONCE))
 }
 
+/// Whether the line asks for a check of the database, or for none, and in it nothing if it says neither. None if it
+/// says both.
+fn check_asked(found: &ArgMatches<'_>) -> Option<Option<bool>>
+    ensures some { IfSome result (IsCheckAsked (rows_of (found_of found.now))) }
+    ensures none { (result ≡ None) → AsksBoth (rows_of (found_of found.now)) }
+{
+    match (found.get_flag("check"), found.get_flag("unchecked")) {
+        (true, true) => None,
+        (true, false) => Some(Some(true)),
+        (false, true) => Some(Some(false)),
+        (false, false) => Some(None),
+    }
+}
+
 /// The parser of the command line.
 fn program<'a>(alloc: Global) -> Result<clap::Command<'a>, AllocError>
     ensures { IfOk result (λ c. app_of c ≡ program_app) }
@@ -248,6 +305,8 @@ fn program<'a>(alloc: Global) -> Result<clap::Command<'a>, AllocError>
         .subcommand(backup(alloc)?)?
         .subcommand(new_root(alloc)?)?
         .subcommand(after_restore(alloc)?)?
+        .subcommand(export(alloc)?)?
+        .subcommand(import(alloc)?)?
         .subcommand(serve(alloc)?)
 }
 
@@ -264,7 +323,18 @@ fn check<'a>(alloc: Global) -> Result<clap::Command<'a>, AllocError>
 {
     clap::Command::new(alloc, "check")
         .about("Tells whether a file is the database of a broker, and changes no row of it")
-        .arg(checked(alloc))
+        .arg(checked(alloc))?
+        .arg(all(alloc))
+}
+
+fn all<'a>(alloc: Global) -> Arg<'a>
+    ensures rule { rule_of result ≡ all_rule }
+    ensures local { result.global ≡ false }
+{
+    Arg::new(alloc, "all")
+        .long("all")
+        .action(ArgAction::SetTrue)
+        .help("Tell of each row that keeps it from being one, and not of the first alone")
 }
 
 fn checked<'a>(alloc: Global) -> Arg<'a>
@@ -363,6 +433,46 @@ fn tokens<'a>(alloc: Global) -> Arg<'a>
         .help("Revoke all tokens too, but those with the policy root and without an end")
 }
 
+fn export<'a>(alloc: Global) -> Result<clap::Command<'a>, AllocError>
+    ensures { IfOk result (λ c. app_of c ≡ export_app) }
+{
+    clap::Command::new(alloc, "export")
+        .about("Writes all rows of a database to standard output, as lines of JSON")
+        .arg(checked(alloc))
+}
+
+fn import<'a>(alloc: Global) -> Result<clap::Command<'a>, AllocError>
+    ensures { IfOk result (λ c. app_of c ≡ import_app) }
+{
+    clap::Command::new(alloc, "import")
+        .about("Makes a database of what an export wrote, which is read from standard input")
+        .arg(imported(alloc))?
+        .arg(salvage(alloc))
+}
+
+fn imported<'a>(alloc: Global) -> Arg<'a>
+    ensures rule { rule_of result ≡ checked_rule }
+    ensures local { result.global ≡ false }
+{
+    Arg::new(alloc, "db")
+        .long("db")
+        .value_name("NEW")
+        .help("The database that is made; no file of this name may be there, unless it is empty")
+        .required(true)
+}
+
+fn salvage<'a>(alloc: Global) -> Arg<'a>
+    ensures rule { rule_of result ≡ salvage_rule }
+    ensures local { result.global ≡ false }
+{
+    Arg::new(alloc, "salvage")
+        .long("salvage")
+        .action(ArgAction::SetTrue)
+        .help(
+            "Leave out the rows that keep the others from being a broker's, and name each of them",
+        )
+}
+
 fn serve<'a>(alloc: Global) -> Result<clap::Command<'a>, AllocError>
     ensures { IfOk result (λ c. app_of c ≡ serve_app) }
 {
@@ -378,7 +488,8 @@ fn serve<'a>(alloc: Global) -> Result<clap::Command<'a>, AllocError>
         .arg(log_format(alloc))?
         .arg(log_file(alloc))?
         .arg(status(alloc))?
-        .arg(check_first(alloc))
+        .arg(check_first(alloc))?
+        .arg(unchecked(alloc))
 }
 
 fn listen<'a>(alloc: Global) -> Arg<'a>
@@ -490,5 +601,19 @@ fn check_first<'a>(alloc: Global) -> Arg<'a>
     Arg::new(alloc, "check")
         .long("check")
         .action(ArgAction::SetTrue)
-        .help("Check the database first, and serve it only if it is the database of a broker")
+        .help(
+            "Check the database first, and serve it only if it is that of a broker, as without this option",
+        )
+}
+
+fn unchecked<'a>(alloc: Global) -> Arg<'a>
+    ensures rule { rule_of result ≡ unchecked_rule }
+    ensures local { result.global ≡ false }
+{
+    Arg::new(alloc, "unchecked")
+        .long("unchecked")
+        .action(ArgAction::SetTrue)
+        .help(
+            "Serve the database without a check, though a row may keep it from being that of a broker",
+        )
 }

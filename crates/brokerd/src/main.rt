@@ -6,16 +6,19 @@ ghost use Rattle.std.specs.IoError.{error_kind};
 ghost use Rattle.std.specs.declared.io.ErrorKind.TheVariants.{OutOfMemory};
 ghost use Rattle.std.specs.Process.{exit_status};
 ghost use Rattle.clap.specs.Words.{kind_of};
-ghost use Rattle.brokerd.specs.Exits.{status_after, status_of};
+ghost use Rattle.brokerd.specs.Exits.{status_after};
 
+mod checking;
 mod command;
 mod maintaining;
+mod transferring;
 
 use backup::{Failure, Request, back_up, prune};
 use broker_server::{ServeError, serve_file, serve_in_memory};
+use checking::check;
 use clap::error::{Error, ErrorKind};
 use command::{Command, command_of};
-use database_check::{Finding, check_file};
+use database_check::Defect;
 use endpoints::{Reading, Writing};
 use maintaining::{after_restore, new_root};
 use replay::{Exit, replay};
@@ -23,6 +26,12 @@ use server::Settings;
 use std::io::{Eprint, Print};
 use std::process::ExitCode;
 use std::{env, io};
+use transferring::{export, import};
+
+/// What can be done about a file that is not served since a row of it is in trouble.
+const UNSOUND: &str =
+    "nothing was changed. Restore a backup (brokerd backup made it), or mend it by brokerd export \
+    and brokerd import --salvage, or serve it as it is with --unchecked";
 
 fn main(rt: HostRuntime) -> anyhow::Result<ExitCode> {
     let alloc = rt.alloc();
@@ -37,7 +46,7 @@ fn main(rt: HostRuntime) -> anyhow::Result<ExitCode> {
             let exit = replay(alloc, &mut reader, &mut writer);
             tell(&rt, exit)
         }
-        Ok(Some(Command::Check { db })) => check(&rt, db),
+        Ok(Some(Command::Check { db, lists_all })) => check(&rt, db, lists_all),
         Ok(Some(Command::Backup { db, to, keep })) => save(
             &rt,
             &Request {
@@ -50,27 +59,24 @@ fn main(rt: HostRuntime) -> anyhow::Result<ExitCode> {
         Ok(Some(Command::AfterRestore { db, revokes_tokens })) => {
             after_restore(&rt, db, revokes_tokens)
         }
-        Ok(Some(Command::Serve { db, settings })) => serve(&rt, db, &settings),
+        Ok(Some(Command::Export { db })) => export(&rt, db),
+        Ok(Some(Command::Import { db, salvages })) => import(&rt, db, salvages),
+        Ok(
+            Some(
+                Command::Serve {
+                    db,
+                    settings,
+                    check,
+                },
+            ),
+        ) => serve(&rt, db, &settings, check),
         Ok(None) => refuse_options(
             &rt,
-            "--until-stopped takes the place of --connections: give one of them; --log-format is text or json",
+            "--until-stopped takes the place of --connections, and --unchecked that of --check: give one of them; \
+             --log-format is text or json",
         ),
         Err(error) => refuse(&rt, &error),
     }
-}
-
-/// Says on standard output whether a file is the database of a broker, and answers the status: 0 if it is, else 1, also
-/// after a fault.
-fn check(rt: &HostRuntime, path: &str) -> anyhow::Result<ExitCode> {
-    let finding = match check_file(rt, path) {
-        Ok(finding) => finding,
-        Err(caused) => {
-            eprintln!(rt; "{path}: {caused}")?;
-            return tell(rt, Exit::Faulted(caused.fault.number()));
-        }
-    };
-    println!(rt; "{path}: {finding}")?;
-    Ok(ExitCode::from(found_status(&finding)))
 }
 
 /// Makes a backup, says on standard output which, and removes older ones. The status is 0, or 1 where there is no
@@ -95,35 +101,52 @@ fn refuse_backup<R: Eprint>(rt: &R, failure: &Failure) -> anyhow::Result<ExitCod
     Ok(ExitCode::from(1))
 }
 
-/// The exit status after a check: 0 where the rows are those of a sound broker.
-fn found_status(finding: &Finding) -> u8
-    ensures { result ≡ status_of finding.now }
-{
-    match finding {
-        Finding::Sound(_) => 0,
-        Finding::Unsound(_) => 1,
+/// Serves the broker of a file, or else one in memory.
+fn serve(
+    rt: &HostRuntime,
+    db: Option<&str>,
+    settings: &Settings<'_>,
+    check: Option<bool>,
+) -> anyhow::Result<ExitCode> {
+    match db {
+        Some(path) => serve_named(rt, path, settings),
+        None => serve_in_memory_alone(rt, settings, check),
     }
 }
 
-/// Serves the broker of a file, or else one in memory, which is never checked.
-fn serve(rt: &HostRuntime, db: Option<&str>, settings: &Settings<'_>) -> anyhow::Result<ExitCode> {
-    let Some(path) = db else {
-        if settings.checks {
-            return refuse_options(rt, "--check needs a database: give --db too");
-        }
-        return match serve_in_memory(rt, settings) {
-            Ok(()) => tell(rt, Exit::Done),
-            Err(fault) => tell(rt, Exit::Faulted(fault.number())),
-        };
-    };
+/// Serves a broker in memory, of which there is nothing to check.
+fn serve_in_memory_alone(
+    rt: &HostRuntime,
+    settings: &Settings<'_>,
+    check: Option<bool>,
+) -> anyhow::Result<ExitCode> {
+    if let Some(is_check) = check {
+        let option = if is_check { "--check" } else { "--unchecked" };
+        eprintln!(rt; "brokerd: {option} needs a database: give --db too")?;
+        return Ok(ExitCode::from(2));
+    }
+    match serve_in_memory(rt, settings) {
+        Ok(()) => tell(rt, Exit::Done),
+        Err(fault) => tell(rt, Exit::Faulted(fault.number())),
+    }
+}
+
+/// Serves the broker of a file.
+fn serve_named(rt: &HostRuntime, path: &str, settings: &Settings<'_>) -> anyhow::Result<ExitCode> {
     match serve_file(rt, path, settings) {
         Ok(()) => tell(rt, Exit::Done),
         Err(ServeError::Faulted(fault)) => tell(rt, Exit::Faulted(fault.number())),
-        Err(ServeError::Unsound(defect)) => {
-            eprintln!(rt; "{path}: {defect}")?;
-            Ok(ExitCode::from(1))
-        }
+        Err(ServeError::Unsound(defect)) => refuse_file(rt, path, &defect),
     }
+}
+
+/// Says on standard error which row keeps a file from being served, and what can be done, and answers the status.
+fn refuse_file<R: Eprint>(rt: &R, path: &str, defect: &Defect) -> anyhow::Result<ExitCode>
+    ensures { IfOk result (λ code. exit_status code ≡ 1) }
+{
+    eprintln!(rt; "{path}: {defect}")?;
+    eprintln!(rt; "{path}: {UNSOUND}")?;
+    Ok(ExitCode::from(1))
 }
 
 /// Says on standard error why options do not go together, and answers the status.

@@ -1,2 +1,3 @@
+mod AllLemmas
 pub mod FindingLemmas
 pub mod NamingLemmas

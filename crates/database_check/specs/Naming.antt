@@ -32,6 +32,10 @@ IsName rows kind.Policy key name = name ≡ visible key
 IsName rows kind.Role key name = name ≡ visible key
 IsName rows _ key name = name ≡ None
 
+-- so many rows of its kind there are up to the row in trouble, in the order of their keys
+abbrev pub IsNumbered : Rows → Trouble → Type 0
+IsNumbered rows t = t.number ≡ length (rows_upto rows t.kind [] t.key)
+
 -- the defect tells of the row in trouble
 pub record TellsOf (rows : Rows) (t : Trouble) (d : Defect) : Type 0 where
   pub of_kind : d.kind ≡ t.kind

@@ -207,7 +207,7 @@ pub fn check_file(rt: &HostRuntime, path: &str) -> Result<Finding, CausedFault>
 }
 
 /// Whether there is a file that is not empty.
-fn find_bytes(rt: &HostRuntime, path: &str) -> Result<(), Cause> {
+pub(crate) fn find_bytes(rt: &HostRuntime, path: &str) -> Result<(), Cause> {
     match fs::metadata(rt, path) {
         Ok(found) if found.len() > 0 => Ok(()),
         Ok(_) => Err(Cause::Empty),

@@ -6,7 +6,7 @@ ghost use Rattle.std.specs.List.{list_all};
 ghost use Rattle.broker_types.specs.Fault.{IsMemoryOrStorage};
 ghost use Rattle.records.specs.Calls.{IsReading};
 ghost use Rattle.records.specs.Transaction.{IsHonest};
-ghost use Rattle.database_check.specs.Naming.{IsName, TellsOf, visible};
+ghost use Rattle.database_check.specs.Naming.{IsName, IsNumbered, TellsOf, visible};
 
 use broker_types::{Fault, TextBuf};
 use records::{Kind, RecordsTx, read_token, read_waiting};
@@ -26,17 +26,17 @@ pub struct Defect {
 }
 
 impl Defect {
-    /// The row in trouble. One of a token or of a response is named by the accessor in it, and never by its key.
+    /// The row in trouble, which is that of its kind with the number. One of a token or of a response is named by the
+    /// accessor in it, and never by its key.
     pub fn at<T: RecordsTx>(alloc: Global, tx: &mut T, trouble: &Trouble) -> Result<Defect, Fault>
-        ensures tells { IsHonest (T.seen tx.new) → IfOk result (TellsOf (T.seen tx.old).rows trouble.now) }
+        ensures tells { IsHonest (T.seen tx.new) → IsNumbered (T.seen tx.old).rows trouble.now
+            → IfOk result (TellsOf (T.seen tx.old).rows trouble.now) }
         ensures call { IsReading (T.seen tx.old) (T.seen tx.new) result IsMemoryOrStorage }
     {
-        let key = trouble.key.as_str();
-        let number = tx.under_upto(trouble.kind, "", key)?.len();
-        let name = name_of(alloc, tx, trouble.kind, key)?;
+        let name = name_of(alloc, tx, trouble.kind, trouble.key.as_str())?;
         Ok(Defect {
             kind: trouble.kind,
-            number,
+            number: trouble.number,
             name,
             rule: trouble.rule,
         })

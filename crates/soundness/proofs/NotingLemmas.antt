@@ -1,6 +1,8 @@
 -- What notes of rows hold, and what stops the noting of a row.
-use Rattle.std.proofs.Common.{◌≡◌, ◌≢◌, ◌⊎◌, ℕ, true, false, cond, Option, Some, None, IfNone, IfSome, Result, refl, ap}
-use Rattle.broker_model.specs.Words.{nat_cmp-IsAntisymmetric, nat_cmp, is_eq, sym, ◌∙◌, subst, inl, inr, tells_apart}
+use Rattle.std.proofs.Common.{◌≡◌, ◌≢◌, ◌⊎◌, ℕ, true, false, cond, Option, Some, None, IfSome, Result, Ok, Err, OnOk}
+use Rattle.std.proofs.Common.{refl}
+use Rattle.broker_model.specs.Words.{ap, nat_cmp-IsAntisymmetric, nat_cmp, is_eq, sym, ◌∙◌, subst, inl, inr}
+use Rattle.broker_model.specs.Words.{tells_apart}
 use Rattle.broker_model.specs.Words.{same_Some, IfOk-weaker, Text, id, lease_identifier, IsIdentifier, IsLeaseId, Fault}
 use Rattle.broker_model.specs.Words.{if_none_weaker, Kind, Row, RowKey, Table, table_of, Rows}
 use Rattle.soundness.specs.Words.{Rule, Trouble, Notes, Breaks, BreaksAt, HasIdentifier, IsKeyOf, Shows, HasEachRooted}
@@ -107,10 +109,6 @@ spares_further rows P Q a b c less ab bc =
 
 -- ---- answers
 
-pub if_none_always : {B P : Type 0} (o : Option B) → P → IfNone o P
-if_none_always None p = p
-if_none_always (Some x) p = tt
-
 -- the row breaks the rule
 pub trouble_at : (rows : Table) (t : Trouble) (k : Kind) (q : Text) (r : Rule) (row : Row) → t.kind ≡ k → t.key ≡ q
     → t.rule ≡ r → rows k q ≡ Some row → BreaksAt rows r k q row → Breaks rows t
@@ -175,12 +173,17 @@ module _ {B : Type 0} (result : Result (Option B) Fault) where
       by None p = tt
       by (Some b) p = f b p
 
+-- what holds of the notes after an answer
+pub ok_as : {A E P Q : Type 0} (r : Result A E) → (P → Q) → OnOk r P → OnOk r Q
+ok_as (Ok x) f p = f p
+ok_as (Err e) f p = tt
+
 -- what is added under an identifier of a kind, once the kind is told
 pub adds_of_kind : {B : Type 0} (result : Result (Option B) Fault) (k l : Kind) (q : Text) (old new : Places) → k ≡ l
-    → Finds result (AddsOnly (HasIdentifier l q) (k, q) old new)
-    → Finds result (AddsOnly (HasIdentifier k q) (k, q) old new)
+    → OnOk result (AddsOnly (HasIdentifier l q) (k, q) old new)
+    → OnOk result (AddsOnly (HasIdentifier k q) (k, q) old new)
 adds_of_kind result k l q old new is =
-    subst (λ (m : Kind). Finds result (AddsOnly (HasIdentifier m q) (k, q) old new)) (sym is)
+    subst (λ (m : Kind). OnOk result (AddsOnly (HasIdentifier m q) (k, q) old new)) (sym is)
 
 -- ---- a row that is visited
 

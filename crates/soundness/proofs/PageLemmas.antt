@@ -1,18 +1,15 @@
--- A walk over the rows of a kind by pages.
-use Rattle.std.proofs.Common.{◌≡◌, ◌<◌, ◌-◌, ◌&&◌, ◌++◌, ◌∷◌, [], ℕ, List, take, drop, length, slice_get, min, nat_eq}
+-- The rows of a kind by pages: what a page has.
+use Rattle.std.proofs.Common.{◌≡◌, ◌<◌, ◌&&◌, ◌++◌, ◌∷◌, [], ℕ, List, take, drop, length, min, nat_eq}
 use Rattle.broker_model.specs.Words.{Bool, true, false, cond, T, Some, None, Contains, eq_by_cmp_equiv, nat_cmp_total}
 use Rattle.broker_model.specs.Words.{get, entries, is_sorted, entries_sorted, is_sorted-where_key, starts_with, is_ge}
-use Rattle.broker_model.specs.Words.{is_le, ordering_then, refl, sym, ◌∙◌, ap, subst, arith, and_parts, false≢true}
+use Rattle.broker_model.specs.Words.{is_le, ordering_then, sym, ◌∙◌, ap, subst, arith, and_parts}
 use Rattle.broker_model.specs.Words.{not-false, take-append-drop, take_all, length-take, All-contains}
 use Rattle.broker_model.specs.Words.{All-contains_itself, Contains-append_left, Contains-append_right, Text, text_cmp}
 use Rattle.broker_model.specs.Words.{is_equal, T_true, Kind, Row, Contains-filter, kept_cases, passing_whole, found_in}
 use Rattle.broker_model.specs.Words.{in_found, RowKey, key_cmp, kind_number, is_of_kind, key_cmp_total, key_cmp_exact}
-use Rattle.broker_model.specs.Words.{same_kind, not_below_none, just_above, last_of, last_got, page_finds, eqb_self}
-use Rattle.broker_model.specs.Words.{table_of, Rows, rows_under, rows_from}
-use Rattle.std.specs.Prelude.{All}
+use Rattle.broker_model.specs.Words.{same_kind, just_above, last_of, page_finds, eqb_self}
+use Rattle.broker_model.specs.Words.{Rows, rows_under, rows_from}
 use Rattle.std.specs.FinMap.{find}
-use Rattle.soundness.specs.Words.{Places, Grows, IsPassed, ArePassed}
-use Rattle.soundness.proofs.VisitLemmas.{still_passed}
 
 -- keys of one kind are in the order of their texts
 pub one_kind : (k : Kind) (q t : Text) → key_cmp (k, q) (k, t) ≡ text_cmp q t
@@ -62,7 +59,7 @@ module _ (rows : Rows) (k : Kind) (from : Text) (count : ℕ) (page : List (RowK
       let whole : page ≡ listed = is ∙ take_all count listed (omega (arith, long, short)) in
       subst (λ es. Contains es ((k, q), row)) (sym whole) (in_list q row here at)
 
-  listed_kind : (e : RowKey × Row) → Contains listed e → is_of_kind k e.0 ≡ true
+  pub listed_kind : (e : RowKey × Row) → Contains listed e → is_of_kind k e.0 ≡ true
   listed_kind e has =
       let under = kept_cases is_from (rows_under rows k []) in
       let each = kept_cases is_under (entries rows) in
@@ -100,54 +97,3 @@ module _ (rows : Rows) (k : Kind) (from : Text) (count : ℕ) (page : List (RowK
         ∙ ap (λ b. cond b (find key_cmp (k, q) (first ∷ others ++ drop count listed)) None) upto ∙ all in
         subst (λ es. Contains es ((k, q), row)) (sym begins)
         (found_in key_cmp key_cmp_exact (k, q) row (first ∷ others) found)
-
--- ---- the walk
-
--- each row of the kind below a key has passed
-abbrev pub ArePassedBelow : Rows → Places → Places → Kind → Text → Type 0
-ArePassedBelow rows i o k from =
-    (q : Text) (row : Row) → get rows (k, q) ≡ Some row → is_ge (text_cmp q from) ≡ false
-    → IsPassed (table_of rows) i o ((k, q), row)
-
--- no key is below the first
-pub none_below : (rows : Rows) (i o : Places) (k : Kind) → ArePassedBelow rows i o k []
-none_below rows i o k q row here low = absurd (false≢true (sym low ∙ not_below_none q))
-
-pub below_still : (rows : Rows) (i j o p : Places) → Grows i j → Grows o p → (k : Kind) (from : Text)
-    → ArePassedBelow rows i o k from → ArePassedBelow rows j p k from
-below_still rows i j o p more_i more_o k from below =
-    λ q row here low. still_passed (table_of rows) i j o p more_i more_o ((k, q), row) (below q row here low)
-
-module _ (rows : Rows) (i o : Places) (k : Kind) (from : Text) (count : ℕ) (page : List (RowKey × Row))
-    (is : page ≡ take count (rows_from rows k [] from)) (below : ArePassedBelow rows i o k from)
-    (all : All (IsPassed (table_of rows) i o) page) where
-  -- a page that is not full ends the walk
-  pub pages_end : length page < count → ArePassed (table_of rows) i o k
-  pages_end short q row here =
-      elim (is_ge (text_cmp q from))
-      as (λ v. is_ge (text_cmp q from) ≡ v → IsPassed (table_of rows) i o ((k, q), row)) [
-        | true ↦ λ at. All-contains (IsPassed (table_of rows) i o) page ((k, q), row) all
-            (short_page rows k from count page is short q row here at)
-        | false ↦ λ low. below q row here low
-      ] refl
-
-  -- any other is followed by the one from just above its last key on
-  pub pages_go_on : 0 < length page
-      → (e : RowKey × Row) × (slice_get page (length page - 1) ≡ Some e)
-      × ArePassedBelow rows i o k (e.0.1 ++ 0 ∷ [])
-  pages_go_on some = by page refl
-    where
-      by : (es : List (RowKey × Row)) → page ≡ es
-          → (e : RowKey × Row) × (slice_get page (length page - 1) ≡ Some e)
-          × ArePassedBelow rows i o k (e.0.1 ++ 0 ∷ [])
-      by [] none = absurd (let long : length page ≡ 0 = ap length none in omega (arith, some, long))
-      by (e ∷ es) begins = (
-        last_of key_cmp key_cmp_total e es,
-        ap (λ (l : List (RowKey × Row)). slice_get l (length l - 1)) begins ∙ last_got key_cmp key_cmp_total e es,
-        λ q row here low. elim (is_ge (text_cmp q from))
-            as (λ v. is_ge (text_cmp q from) ≡ v → IsPassed (table_of rows) i o ((k, q), row)) [
-              | true ↦ λ at. All-contains (IsPassed (table_of rows) i o) page ((k, q), row) all
-                  (long_page rows k from count page is e es begins q row here at low)
-              | false ↦ λ under. below q row here under
-            ] refl,
-      )

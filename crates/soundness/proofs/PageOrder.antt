@@ -51,7 +51,7 @@ turned_le Equal h = refl
 turned_le Greater h = absurd (false≢true (sym h))
 
 -- what is above the key of a page's row is above what the page begins with
-above : (from last q : Text) → is_ge (text_cmp last from) ≡ true → is_ge (text_cmp q (last ++ 0 ∷ [])) ≡ true
+pub above : (from last q : Text) → is_ge (text_cmp last from) ≡ true → is_ge (text_cmp q (last ++ 0 ∷ [])) ≡ true
     → is_ge (text_cmp q from) ≡ true
 above from last q later at =
     let total = nat_list_cmp_total in

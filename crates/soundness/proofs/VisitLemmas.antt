@@ -1,8 +1,8 @@
 -- What a walk over rows knows of the rows that it has passed.
-use Rattle.std.proofs.Common.{◌≢◌, [], List, None, All}
-use Rattle.broker_model.specs.Words.{All-weaker, Text, Kind, Row, RowKey, Table}
+use Rattle.std.proofs.Common.{◌≢◌, [], None}
+use Rattle.broker_model.specs.Words.{Text, Kind, Row, RowKey, Table}
 use Rattle.records.specs.declared.kind.Kind.TheVariants as kind
-use Rattle.soundness.specs.Words.{Places, IsHad, HasItsIdentifier, AreSound, Grows, HasItsOrigin, IsPassed, ArePassed}
+use Rattle.soundness.specs.Words.{Places, IsEntry, IsHad, HasItsIdentifier, AreSound, Grows, HasItsOrigin, IsPassed}
 
 -- ---- more rows that are noted
 
@@ -34,30 +34,20 @@ still_passed rows i j o p more_i more_o e passed =
       chain = passed.chain;
     }
 
-pub all_still_passed : (rows : Table) (i j o p : Places) → Grows i j → Grows o p → (es : List (RowKey × Row))
-    → All (IsPassed rows i o) es → All (IsPassed rows j p) es
-all_still_passed rows i j o p more_i more_o es all =
-    All-weaker (IsPassed rows i o) (IsPassed rows j p) (still_passed rows i j o p more_i more_o) es all
-
 -- nothing grows less
 pub grows_further : (a b c : Places) → Grows a b → Grows b c → Grows a c
 grows_further a b c ab bc = λ word key is. bc word key (ab word key is)
 
--- ---- rows of a kind
-
-pub kind_still_passed : (rows : Table) (i j o p : Places) → Grows i j → Grows o p → (k : Kind) → ArePassed rows i o k
-    → ArePassed rows j p k
-kind_still_passed rows i j o p more_i more_o k passed =
-    λ q row is. still_passed rows i j o p more_i more_o ((k, q), row) (passed q row is)
+-- ---- all rows
 
 -- rows that were all passed keep the rules
 pub passed_sound : (rows : Table) (identifiers origins : Places) → rows kind.Clock [] ≢ None
-    → ((k : Kind) → ArePassed rows identifiers origins k) → AreSound rows
+    → ((e : RowKey × Row) → IsEntry rows e → IsPassed rows identifiers origins e) → AreSound rows
 passed_sound rows identifiers origins clock passed =
     record {
       clock = clock;
-      each = λ k q row is. (passed k q row is).sound;
-      identifiers = (identifiers, λ k q row is. (passed k q row is).identifier);
-      origins = (origins, λ t row is. (passed kind.Waiting t row is).origin);
-      chains = λ t row is. (passed kind.Token t row is).chain;
+      each = λ k q row is. (passed ((k, q), row) is).sound;
+      identifiers = (identifiers, λ k q row is. (passed ((k, q), row) is).identifier);
+      origins = (origins, λ t row is. (passed ((kind.Waiting, t), row) is).origin);
+      chains = λ t row is. (passed ((kind.Token, t), row) is).chain;
     }

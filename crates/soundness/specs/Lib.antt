@@ -6,5 +6,6 @@ pub mod RowRules
 pub mod SoundRows
 pub mod Texts
 pub mod Visiting
+pub mod Walks
 pub mod Words
 pub use Rattle.records.specs.Transaction

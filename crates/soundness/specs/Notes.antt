@@ -1,5 +1,5 @@
 -- How the notes of a walk go on, and what they hold (this project's definition).
-use Rattle.std.specs.Prelude.{◌≡◌, ◌≢◌, ◌<◌, ◌⊎◌, ℕ, List, All, length, slice_index_or, Some, None}
+use Rattle.std.specs.Prelude.{◌≡◌, ◌≢◌, ◌<◌, ◌⊎◌, ℕ, List, length, slice_index_or, Some, None}
 use Rattle.broker_model.specs.Words.{Text, id, Waiting, Kind, Row, RowKey, IsWaitingInRange, waiting_row, Table}
 use Rattle.records.specs.declared.kind.Kind.TheVariants as kind
 use Rattle.soundness.specs.declared.trouble.Rule.{Rule}
@@ -83,13 +83,3 @@ AreApart {X} f xs =
 -- the entry is a row that is there
 abbrev pub IsEntry : Table → RowKey × Row → Type 0
 IsEntry rows e = rows e.0.0 e.0.1 ≡ Some e.1
-
--- entries are such rows, each once, and none was noted
-pub record CanBeVisited (rows : Table) (n : Notes) (es : List (RowKey × Row)) : Type 0 where
-  pub are_rows : All (IsEntry rows) es
-  pub apart : AreApart (λ e. e.0) es
-  pub fresh : All (λ e. IsFresh n e.0) es
-
--- no row of the kind was noted
-abbrev pub IsFreshKind : Notes → Kind → Type 0
-IsFreshKind n k = (q : Text) → IsFresh n (k, q)

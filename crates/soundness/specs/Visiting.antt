@@ -50,8 +50,3 @@ pub record IsPassed (rows : Table) (identifiers origins : Places) (e : RowKey ×
   pub identifier : HasItsIdentifier rows identifiers e.0.0 e.0.1
   pub origin : HasItsOrigin rows origins e.0.0 e.0.1 e.1
   pub chain : HasItsEnd rows e.0.0 e.0.1
-
--- each row of the kind was passed
-abbrev pub ArePassed : Table → Places → Places → Kind → Type 0
-ArePassed rows identifiers origins kind =
-    (q : Text) (row : Row) → rows kind q ≡ Some row → IsPassed rows identifiers origins ((kind, q), row)

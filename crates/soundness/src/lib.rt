@@ -16,7 +16,7 @@ mod tokens;
 mod trouble;
 mod visiting;
 
-pub use checking::check;
+pub use checking::{check, check_all};
 pub use laws::{
     broken_rows_are_of_no_broker, rows_of_a_broker_are_sound, sound_rows_are_of_a_broker,
 };

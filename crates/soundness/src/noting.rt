@@ -1,6 +1,6 @@
 //! Rows noted by the words of their identifiers, each of which is in one row.
 
-ghost use Rattle.std.specs.Prelude.{◌≡◌, ℕ, Some, false, IfOk, IfErr};
+ghost use Rattle.std.specs.Prelude.{◌≡◌, ℕ, Some, false, IfOk, IfErr, OnOk};
 ghost use Rattle.std.specs.Bool.{OnTrue};
 ghost use Rattle.broker_types.specs.Fault.{IsMemoryOrStorage};
 ghost use Rattle.broker_types.specs.IdentifierPlaces as leases;
@@ -64,7 +64,7 @@ fn had<T: RecordsTx>(
     ensures broken { IsHonest (T.seen tx.new) → Shows result
         (StopsNoting (table (T.seen tx.old)) (noted places.old) (IsIdentifier identifier.now)
         (λ i. identifier.now ≡ i)) }
-    ensures adds { Finds result
+    ensures adds { OnOk result
         (AddsOnly (λ i. identifier.now ≡ i) (kind, key.now) (noted places.old) (noted places.new)) }
     ensures call { IsReading (T.seen tx.old) (T.seen tx.new) result IsMemoryOrStorage }
 {
@@ -95,7 +95,7 @@ fn note_token<T: RecordsTx>(
     ensures broken { IsHonest (T.seen tx.new) → Shows result
         (StopsNoting (table (T.seen tx.old)) (noted places.old) (IsTokenText key.now)
         (λ i. key.now ≡ token_text i)) }
-    ensures adds { Finds result
+    ensures adds { OnOk result
         (AddsOnly (λ i. key.now ≡ token_text i) (kind, key.now) (noted places.old) (noted places.new)) }
     ensures call { IsReading (T.seen tx.old) (T.seen tx.new) result IsMemoryOrStorage }
 {
@@ -118,7 +118,7 @@ fn note_lease<T: RecordsTx>(
     ensures broken { IsHonest (T.seen tx.new) → Shows result
         (StopsNoting (table (T.seen tx.old)) (noted places.old) (IsLeaseId key.now)
         (λ i. leases.lease_identifier key.now ≡ i)) }
-    ensures adds { Finds result (AddsOnly (λ i. leases.lease_identifier key.now ≡ i) (kind.Lease, key.now)
+    ensures adds { OnOk result (AddsOnly (λ i. leases.lease_identifier key.now ≡ i) (kind.Lease, key.now)
         (noted places.old) (noted places.new)) }
     ensures call { IsReading (T.seen tx.old) (T.seen tx.new) result IsMemoryOrStorage }
 {
@@ -142,7 +142,7 @@ pub(crate) fn note_identifier<T: RecordsTx>(
     ensures broken { IsHonest (T.seen tx.new) → (owner : Text) → Shows result
         (StopsNoting (table (T.seen tx.old)) (noted places.old) (IsKeyOf kind key.now owner)
         (HasIdentifier kind key.now)) }
-    ensures adds { Finds result
+    ensures adds { OnOk result
         (AddsOnly (HasIdentifier kind key.now) (kind, key.now) (noted places.old) (noted places.new)) }
     ensures call { IsReading (T.seen tx.old) (T.seen tx.new) result IsMemoryOrStorage }
 {
@@ -170,7 +170,7 @@ fn note_response<T: RecordsTx>(
     ensures broken { IsHonest (T.seen tx.new) → AreNotedOrigins (table (T.seen tx.old)) (noted places.old)
         → IsNotNoted (noted places.old) (kind.Waiting, key.now)
         → Shows result (λ rule. BreaksAt (table (T.seen tx.old)) rule kind.Waiting key.now row.now) }
-    ensures adds { Finds result (AddsOnly (HasOrigin kind.Waiting row.now) (kind.Waiting, key.now)
+    ensures adds { OnOk result (AddsOnly (HasOrigin kind.Waiting row.now) (kind.Waiting, key.now)
         (noted places.old) (noted places.new)) }
     ensures call { IsReading (T.seen tx.old) (T.seen tx.new) result IsMemoryOrStorage }
 {
@@ -198,7 +198,7 @@ pub(crate) fn note_origin<T: RecordsTx>(
     ensures broken { IsHonest (T.seen tx.new) → AreNotedOrigins (table (T.seen tx.old)) (noted places.old)
         → IsNotNoted (noted places.old) (kind, key.now)
         → Shows result (λ rule. BreaksAt (table (T.seen tx.old)) rule kind key.now row.now) }
-    ensures adds { Finds result
+    ensures adds { OnOk result
         (AddsOnly (HasOrigin kind row.now) (kind, key.now) (noted places.old) (noted places.new)) }
     ensures call { IsReading (T.seen tx.old) (T.seen tx.new) result IsMemoryOrStorage }
 {

@@ -50,6 +50,8 @@ pub struct Trouble {
     pub key: TextBuf,
     /// What it breaks.
     pub rule: Rule,
+    /// Which it is of the rows of its kind, in the order of their keys, counted from 1; 0 if it is not there.
+    pub number: usize,
 }
 
 impl Trouble {
@@ -59,10 +61,17 @@ impl Trouble {
         kind: Kind,
         key: &str,
         rule: Rule,
+        number: usize,
     ) -> Result<Trouble, AllocError>
-        ensures { IfOk result (λ t. (t.kind ≡ kind) × (t.key ≡ key.now) × (t.rule ≡ rule)) }
+        ensures { IfOk result (λ t.
+            (t.kind ≡ kind) × (t.key ≡ key.now) × (t.rule ≡ rule) × (t.number ≡ number)) }
     {
         let key = TextBuf::copied(alloc, key)?;
-        Ok(Trouble { kind, key, rule })
+        Ok(Trouble {
+            kind,
+            key,
+            rule,
+            number,
+        })
     }
 }

@@ -1,18 +1,18 @@
 //! Rows visited one after another: each is tested, and its identifiers are noted.
 
-ghost use Rattle.std.specs.Prelude.{◌≡◌, ◌≢◌, ◌-◌, ◌++◌, ◌∷◌, [], length, slice_get, All, Some, IfOk, string_bytes};
+ghost use Rattle.std.specs.Prelude.{◌≡◌, ◌≢◌, ◌<◌, ◌+◌, ◌-◌, ◌++◌, ◌∷◌, [], length, nat_le, slice_get, Contains, Some};
+ghost use Rattle.std.specs.Prelude.{IfOk, OnOk, string_bytes};
 ghost use Rattle.broker_types.specs.Fault.{IsMemoryOrStorage};
 ghost use Rattle.records.specs.Calls.{IsReading};
 ghost use Rattle.records.specs.declared.row.Row.{Row};
 ghost use Rattle.records.specs.Kind.{RowKey};
 ghost use Rattle.records.specs.Table.{table};
 ghost use Rattle.records.specs.Transaction.{IsHonest};
-ghost use Rattle.soundness.specs.Broken.{Breaks, BreaksAt, Shows};
+ghost use Rattle.soundness.specs.Broken.{BreaksAt, Shows};
 ghost use Rattle.soundness.specs.RowRules.{IsSoundAt};
-ghost use Rattle.soundness.specs.Visiting.{Finds, EachEnds, IsPassed, ArePassed, noted};
-ghost use Rattle.soundness.specs.Notes.{AreApart, AreTrue, CanBeVisited, GoesOnFrom, IsEntry, IsFresh, IsFreshKind};
-ghost use Rattle.soundness.specs.Notes.{Spares};
-ghost use Rattle.records.specs.declared.kind.Kind.{Kind};
+ghost use Rattle.soundness.specs.Visiting.{Finds, EachEnds, IsPassed, noted};
+ghost use Rattle.soundness.specs.Notes.{AreApart, AreTrue, GoesOnFrom, IsEntry, IsFresh, Spares};
+ghost use Rattle.soundness.specs.Walks.{CanBeWalked, IsNumbered, IsOfKind, IsOfKinds, Walked};
 
 use crate::chains::chain;
 use crate::credentials::{credential, lease};
@@ -37,6 +37,24 @@ pub(crate) struct Notes {
     pub(crate) identifiers: BTreeMap<u128, Place>,
     /// The responses that have origins, by the words of these.
     pub(crate) origins: BTreeMap<u128, Place>,
+}
+
+/// A walk over rows: what it knows of those that it has passed, and what it has found.
+#[derive(Drop)]
+pub(crate) struct Walk {
+    /// What it knows of rows.
+    pub(crate) notes: Notes,
+    /// The rows in trouble, in the order in which it came to them.
+    pub(crate) troubles: Vec<Trouble>,
+    /// At so many of them it stops.
+    pub(crate) most: usize,
+}
+
+/// Whether a walk stops.
+fn is_full(walk: &Walk) -> bool
+    ensures { result ≡ nat_le walk.now.most (length walk.now.troubles.items) }
+{
+    walk.troubles.len() >= walk.most
 }
 
 /// What a row breaks, by itself and by other rows that it needs.
@@ -84,7 +102,8 @@ fn visit<T: RecordsTx>(
         → IsFresh notes.old entry.now.0 → Shows result
         (λ rule. BreaksAt (table (T.seen tx.old)) rule entry.now.0.0 entry.now.0.1 entry.now.1) }
     ensures spares { IsHonest (T.seen tx.new) → IsEntry (table (T.seen tx.old)) entry.now
-        → Finds result (Spares (table (T.seen tx.old)) (λ key. key ≢ entry.now.0) notes.old notes.new) }
+        → OnOk result (Spares (table (T.seen tx.old)) (λ key. key ≢ entry.now.0) notes.old notes.new) }
+    ensures rooted { OnOk result (notes.new.rooted ≡ notes.old.rooted) }
     ensures call { IsReading (T.seen tx.old) (T.seen tx.new) result IsMemoryOrStorage }
 {
     let key = entry.key.as_str();
@@ -100,30 +119,52 @@ fn visit<T: RecordsTx>(
     Ok(chain(&notes.rooted, entry.kind, key))
 }
 
-/// The first row among the entries that breaks a rule. Their identifiers are noted.
+/// Visits a row, which is that of its kind with the number. If it breaks a rule, it is listed.
+fn visit_one<T: RecordsTx>(
+    alloc: Global,
+    tx: &mut T,
+    walk: &mut Walk,
+    entry: &Entry,
+    number: usize,
+) -> Result<(), Fault>
+    ensures walked { IsHonest (T.seen tx.new) → IsNumbered (T.seen tx.old).rows number entry.now
+        → length walk.old.troubles.items < walk.old.most
+        → OnOk result (Walked (T.seen tx.old).rows (λ e. e ≡ entry.now) walk.old walk.new) }
+    ensures call { IsReading (T.seen tx.old) (T.seen tx.new) result IsMemoryOrStorage }
+{
+    if let Some(rule) = visit(alloc, tx, &mut walk.notes, entry)? {
+        let trouble = Trouble::at(alloc, entry.kind, entry.key.as_str(), rule, number)?;
+        walk.troubles.push(trouble)?;
+    }
+    Ok(())
+}
+
+/// Visits rows of a kind that follow so many others of it, until the walk is full, and answers how many there are then.
 fn visit_each<T: RecordsTx>(
     alloc: Global,
     tx: &mut T,
-    notes: &mut Notes,
+    walk: &mut Walk,
     entries: &[Entry],
-) -> Result<Option<Trouble>, Fault>
-    ensures passed { IsHonest (T.seen tx.new) → EachEnds (table (T.seen tx.old)) notes.old.rooted
-        → Finds result (GoesOnFrom notes.old notes.new
-        × All (IsPassed (table (T.seen tx.old)) (noted notes.new.identifiers) (noted notes.new.origins)) entries.now) }
-    ensures broken { IsHonest (T.seen tx.new) → AreTrue (table (T.seen tx.old)) notes.old
-        → CanBeVisited (table (T.seen tx.old)) notes.old entries.now
-        → Shows result (Breaks (table (T.seen tx.old))) }
-    ensures spares { IsHonest (T.seen tx.new) → All (IsEntry (table (T.seen tx.old))) entries.now
-        → Finds result (Spares (table (T.seen tx.old)) (λ key. All (λ e. key ≢ e.0) entries.now)
-        notes.old notes.new) }
+    before: usize,
+) -> Result<usize, Fault>
+    ensures walked { IsHonest (T.seen tx.new) → CanBeWalked (T.seen tx.old).rows before entries.now
+        → OnOk result (Walked (T.seen tx.old).rows (Contains entries.now) walk.old walk.new) }
+    ensures counted { IsHonest (T.seen tx.new) → CanBeWalked (T.seen tx.old).rows before entries.now → IfOk result
+        (λ number. length walk.new.troubles.items < walk.old.most → number ≡ before + length entries.now) }
     ensures call { IsReading (T.seen tx.old) (T.seen tx.new) result IsMemoryOrStorage }
 {
+    let mut number = before;
     for entry in entries {
-        if let Some(rule) = visit(alloc, tx, notes, entry)? {
-            return Ok(Some(Trouble::at(alloc, entry.kind, entry.key.as_str(), rule)?));
+        if is_full(walk) {
+            return Ok(number);
         }
+        let Some(next) = number.checked_add(1) else {
+            return Err(Fault::Memory);
+        };
+        visit_one(alloc, tx, walk, entry, next)?;
+        number = next;
     }
-    Ok(None)
+    Ok(number)
 }
 
 /// The least text above the key of the last of the rows.
@@ -144,30 +185,27 @@ fn just_above(alloc: Global, page: &[Entry]) -> Result<String, AllocError>
 /// How many rows are asked for at once.
 const PAGE: u32 = 16;
 
-/// The first row of a kind that breaks a rule. The identifiers of rows are noted. It holds one page of rows at a time.
+/// Visits the rows of a kind, until the walk is full. It holds one page of rows at a time.
 fn visit_kind<T: RecordsTx>(
     alloc: Global,
     tx: &mut T,
-    notes: &mut Notes,
+    walk: &mut Walk,
     kind: Kind,
-) -> Result<Option<Trouble>, Fault>
-    ensures passed { IsHonest (T.seen tx.new) → EachEnds (table (T.seen tx.old)) notes.old.rooted
-        → Finds result (GoesOnFrom notes.old notes.new
-        × ArePassed (table (T.seen tx.old)) (noted notes.new.identifiers) (noted notes.new.origins) kind) }
-    ensures broken { IsHonest (T.seen tx.new) → AreTrue (table (T.seen tx.old)) notes.old
-        → IsFreshKind notes.old kind → Shows result (Breaks (table (T.seen tx.old))) }
-    ensures spares { IsHonest (T.seen tx.new)
-        → Finds result (Spares (table (T.seen tx.old)) (λ key. key.0 ≢ kind) notes.old notes.new) }
+) -> Result<(), Fault>
+    ensures walked { IsHonest (T.seen tx.new)
+        → OnOk result (Walked (T.seen tx.old).rows (IsOfKind (T.seen tx.old).rows kind) walk.old walk.new) }
     ensures call { IsReading (T.seen tx.old) (T.seen tx.new) result IsMemoryOrStorage }
 {
     let mut from = String::new(alloc);
+    let mut count = 0;
     for _ in 0..u32::MAX {
-        let page = tx.under_from(kind, "", from.as_str(), PAGE)?;
-        if let Some(trouble) = visit_each(alloc, tx, notes, &page)? {
-            return Ok(Some(trouble));
+        if is_full(walk) {
+            return Ok(());
         }
+        let page = tx.under_from(kind, "", from.as_str(), PAGE)?;
+        count = visit_each(alloc, tx, walk, &page, count)?;
         if page.len() < PAGE as usize {
-            return Ok(None);
+            return Ok(());
         }
         from = just_above(alloc, &page)?;
     }
@@ -191,41 +229,32 @@ const KINDS: [Kind; 13] = [
     Kind::Role,
 ];
 
-/// The first row of the kinds that breaks a rule.
+/// Visits the rows of kinds, until the walk is full.
 fn visit_kinds<T: RecordsTx>(
     alloc: Global,
     tx: &mut T,
-    notes: &mut Notes,
+    walk: &mut Walk,
     kinds: &[Kind],
-) -> Result<Option<Trouble>, Fault>
-    ensures passed { IsHonest (T.seen tx.new) → EachEnds (table (T.seen tx.old)) notes.old.rooted
-        → Finds result (GoesOnFrom notes.old notes.new
-        × All (ArePassed (table (T.seen tx.old)) (noted notes.new.identifiers) (noted notes.new.origins)) kinds.now) }
-    ensures broken { IsHonest (T.seen tx.new) → AreTrue (table (T.seen tx.old)) notes.old
-        → AreApart (λ k. k) kinds.now → All (IsFreshKind notes.old) kinds.now
-        → Shows result (Breaks (table (T.seen tx.old))) }
+) -> Result<(), Fault>
+    ensures walked { IsHonest (T.seen tx.new) → AreApart (λ k. k) kinds.now
+        → OnOk result (Walked (T.seen tx.old).rows (IsOfKinds (T.seen tx.old).rows kinds.now) walk.old walk.new) }
     ensures call { IsReading (T.seen tx.old) (T.seen tx.new) result IsMemoryOrStorage }
 {
     for kind in kinds {
-        if let Some(trouble) = visit_kind(alloc, tx, notes, *kind)? {
-            return Ok(Some(trouble));
-        }
+        visit_kind(alloc, tx, walk, *kind)?;
     }
-    Ok(None)
+    Ok(())
 }
 
-/// The first row that breaks a rule.
+/// Visits all rows, until the walk is full.
 pub(crate) fn visit_all<T: RecordsTx>(
     alloc: Global,
     tx: &mut T,
-    notes: &mut Notes,
-) -> Result<Option<Trouble>, Fault>
-    ensures passed { IsHonest (T.seen tx.new) → EachEnds (table (T.seen tx.old)) notes.old.rooted
-        → Finds result ((kind : Kind)
-        → ArePassed (table (T.seen tx.old)) (noted notes.new.identifiers) (noted notes.new.origins) kind) }
-    ensures broken { IsHonest (T.seen tx.new) → AreTrue (table (T.seen tx.old)) notes.old
-        → ((k : Kind) → IsFreshKind notes.old k) → Shows result (Breaks (table (T.seen tx.old))) }
+    walk: &mut Walk,
+) -> Result<(), Fault>
+    ensures walked { IsHonest (T.seen tx.new) → OnOk result
+        (Walked (T.seen tx.old).rows (IsEntry (table (T.seen tx.old))) walk.old walk.new) }
     ensures call { IsReading (T.seen tx.old) (T.seen tx.new) result IsMemoryOrStorage }
 {
-    visit_kinds(alloc, tx, notes, &KINDS)
+    visit_kinds(alloc, tx, walk, &KINDS)
 }

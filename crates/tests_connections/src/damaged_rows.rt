@@ -124,7 +124,7 @@ fn told_over<S: Alter + Drop>(
     records: SqlRecords<S>,
     moment: Moment,
 ) -> Result<(SqlRecords<S>, bool), Fault> {
-    let mut hub = Hub::new(alloc, SqlStore::adopt(alloc, records)?);
+    let mut hub = Hub::new(alloc, SqlStore::new(alloc, records));
     let is_told = tells_damage(&mut hub, moment)?;
     Ok((hub.into_store().into_records(), is_told))
 }

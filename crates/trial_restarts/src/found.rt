@@ -3,7 +3,7 @@
 use crate::disk::pair::Pair;
 use crate::opening::{OverRecords, Until, Writes, over_files};
 use crate::running::{feed, rows_of};
-use broker_sql::prepare;
+use broker_sql::{SqlStore, prepare};
 use broker_types::Fault;
 use hub::{Event, Hub};
 use records_sql::SqlRecords;
@@ -75,8 +75,7 @@ impl<'s> OverRecords for Preparing<'s> {
         mut records: SqlRecords<S>,
     ) -> Result<(SqlRecords<S>, Found), Fault> {
         let rows = rows_of(alloc, &mut records)?;
-        let (store, root) = prepare(alloc, records, self.start.moment, &self.start.words)?;
-        let mut records = store.into_records();
+        let root = prepare(alloc, &mut records, self.start.moment, &self.start.words)?;
         let prepared = rows_of(alloc, &mut records)?;
         let found = Found {
             rows,
@@ -115,10 +114,10 @@ impl<'e> OverRecords for Replying<'e> {
     fn run<S: Alter + Drop>(
         &mut self,
         alloc: Global,
-        records: SqlRecords<S>,
+        mut records: SqlRecords<S>,
     ) -> Result<(SqlRecords<S>, Vec<u8>), Fault> {
-        let (store, _) = prepare(alloc, records, self.event.moment, &self.event.words)?;
-        let mut hub = Hub::new(alloc, store);
+        prepare(alloc, &mut records, self.event.moment, &self.event.words)?;
+        let mut hub = Hub::new(alloc, SqlStore::new(alloc, records));
         let reply = feed(&mut hub, self.event)?;
         Ok((hub.into_store().into_records(), reply))
     }

@@ -5,7 +5,7 @@ use crate::opening::{OverRecords, Until, Writes, over_files};
 use crate::running::Steps;
 use crate::script::script_of;
 use broker::{Noticed, Store};
-use broker_sql::prepare;
+use broker_sql::{SqlStore, prepare};
 use broker_types::{Answer, Ask, Fault, Moment, Words};
 use endpoints::{Sink, Source};
 use hub::Hub;
@@ -97,12 +97,12 @@ impl<'r, 'a> OverRecords for Request<'r, 'a> {
     fn run<S: Alter + Drop>(
         &mut self,
         alloc: Global,
-        records: SqlRecords<S>,
+        mut records: SqlRecords<S>,
     ) -> Result<(SqlRecords<S>, Answer), Fault> {
-        let (mut store, root) = prepare(alloc, records, self.moment, self.words)?;
-        if root.is_some() {
+        if prepare(alloc, &mut records, self.moment, self.words)?.is_some() {
             return Err(Fault::BadStart);
         }
+        let mut store = SqlStore::new(alloc, records);
         let answer = store.one(self.moment, self.words, self.ask)?;
         Ok((store.into_records(), answer))
     }

@@ -130,14 +130,14 @@ impl<'s> Steps<'s> {
     pub(crate) fn take<S: Alter + Drop>(
         &mut self,
         alloc: Global,
-        records: SqlRecords<S>,
+        mut records: SqlRecords<S>,
     ) -> Result<Hub<SqlStore<S>>, Fault> {
-        let (store, root) = prepare(alloc, records, self.start.moment, &self.start.words)?;
+        let root = prepare(alloc, &mut records, self.start.moment, &self.start.words)?;
         if root.is_none() {
             return Err(Fault::BadStart);
         }
         self.answered = 1;
-        let mut hub = Hub::new(alloc, store);
+        let mut hub = Hub::new(alloc, SqlStore::new(alloc, records));
         feed_all(&mut hub, self.events, &mut self.answered)?;
         Ok(hub)
     }

@@ -117,13 +117,13 @@ impl<'s> OverRecords for Opening<'s> {
     fn run<S: Alter + Drop>(
         &mut self,
         alloc: Global,
-        records: SqlRecords<S>,
+        mut records: SqlRecords<S>,
     ) -> Result<(SqlRecords<S>, ()), Fault> {
-        let (store, root) = prepare(alloc, records, self.start.moment, &self.start.words)?;
+        let root = prepare(alloc, &mut records, self.start.moment, &self.start.words)?;
         if root.is_some() {
             return Err(Fault::BadStart);
         }
         self.answered = 1;
-        Ok((store.into_records(), ()))
+        Ok((records, ()))
     }
 }

@@ -60,7 +60,7 @@ fn rows_in<S: Alter + Drop>(
 ) -> Result<(SqlStore<S>, Rows), Fault> {
     let mut records = store.into_records();
     let rows = rows_of(alloc, &mut records)?;
-    Ok((SqlStore::adopt(alloc, records)?, rows))
+    Ok((SqlStore::new(alloc, records), rows))
 }
 
 /// The rows of records.

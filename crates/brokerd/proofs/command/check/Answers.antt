@@ -7,5 +7,7 @@ use Rattle.brokerd.proofs.command.check.Goals as goal
 pub returns : goal.returns
 returns c =
     let told : app_of c.about.result ≡ new_app _ = ap app_of_fields c.about.ensures ∙ c.new.ensures.app in
-    IfOk-weaker c.arg.result _ _ (λ d h. h.shape c.checked.ensures.local ∙ ap₂ with_rule told c.checked.ensures.rule)
-    c.arg.ensures
+    let one = c.in_ok-arg.ensures.shape c.checked.ensures.local ∙ ap₂ with_rule told c.checked.ensures.rule in
+    IfOk-weaker c.arg-2.result _ _
+    (λ d h. h.shape c.all.ensures.local ∙ ap₂ with_rule one c.all.ensures.rule)
+    c.arg-2.ensures

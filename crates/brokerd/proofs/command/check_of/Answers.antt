@@ -1,6 +1,7 @@
 use Rattle.std.proofs.Common.{◌∙◌, codes, sym}
-use Rattle.clap.specs.Words.{found_of}
-use Rattle.clap.proofs.WalkLemmas.{first_value-rows}
+use Rattle.clap.specs.Words.{found_of, one_text}
+use Rattle.clap.proofs.WalkLemmas.{first_value-rows, one_text-rows}
+use Rattle.brokerd.proofs.FlagLemmas.{is_flag}
 use Rattle.brokerd.proofs.command.check_of.Goals as goal
 
 pub returns-in_err-db : goal.returns-in_err-db
@@ -9,4 +10,10 @@ returns-in_err-db c =
     rw (c.from_residual.ensures) (sym (c.in_err-db.ensures ∙ first_value-rows f (codes "db")))
 
 pub returns : goal.returns
-returns c = sym (c.in_ok-db.ensures ∙ first_value-rows (found_of c.args.found.now) (codes "db"))
+returns c =
+    let f = found_of c.args.found.now in (
+      sym (c.in_ok-db.ensures ∙ first_value-rows f (codes "db")),
+      rw (← one_text-rows f (codes "all"))
+          (is_flag (one_text f (codes "all")) c.get_flag-lists_all.result c.get_flag-lists_all.ensures.none
+          c.get_flag-lists_all.ensures.other c.get_flag-lists_all.ensures.value),
+    )

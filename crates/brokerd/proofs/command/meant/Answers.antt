@@ -1,137 +1,77 @@
-use Rattle.std.proofs.Common.{◌≡◌, ◌≢◌, ◌∙◌, ◌∷◌, [], arith, List, ℕ, refl, ap, codes, rules, sym}
+use Rattle.std.proofs.Common.{refl, rules}
 use Rattle.brokerd.proofs.command.meant.Goals as goal
 
--- ---- names of subcommands differ in their first letters
+-- ---- of names and what they mean: a name that it is not, and the name that it is
 
-abbrev first : List ℕ → ℕ
-first [] = 0
-first (c ∷ cs) = c
+skip : {N P Q : Type 0} → ¬ N → Q → (N → P) × (¬ N → Q)
+skip differs rest = (λ is. absurd (differs is), λ _. rest)
 
-apart : (name x y : List ℕ) → first x ≢ first y → name ≡ x → name ≢ y
-apart name x y differ is other = differ (ap first (sym is ∙ other))
+hit : {N P Q : Type 0} → N → P → (N → P) × (¬ N → Q)
+hit is meant = (λ _. meant, λ differs. absurd (differs is))
 
 pub returns-then-eq : goal.returns-then-eq
-returns-then-eq c =
-    let name = c.args.name.now in
-    let is : name ≡ codes "replay" = search rules in (
-      λ _. refl,
-      λ other. absurd (apart name (codes "replay") (codes "check")
-          (λ e. let n : 114 ≡ 99 = e in omega (arith, n)) is other),
-      λ other. absurd (apart name (codes "replay") (codes "backup")
-          (λ e. let n : 114 ≡ 98 = e in omega (arith, n)) is other),
-      λ other. absurd (apart name (codes "replay") (codes "new-root")
-          (λ e. let n : 114 ≡ 110 = e in omega (arith, n)) is other),
-      λ other. absurd (apart name (codes "replay") (codes "after-restore")
-          (λ e. let n : 114 ≡ 97 = e in omega (arith, n)) is other),
-      λ other. absurd (apart name (codes "replay") (codes "serve")
-          (λ e. let n : 114 ≡ 115 = e in omega (arith, n)) is other),
-      λ none. absurd (none.0 is),
-    )
+returns-then-eq c = hit (search rules) refl
 
 pub returns-then-eq-2 : goal.returns-then-eq-2
-returns-then-eq-2 c =
-    let name = c.args.name.now in
-    let is : name ≡ codes "check" = search rules in
-    let no_replay : name ≢ codes "replay" = search rules in (
-      λ other. absurd (no_replay other),
-      λ _. c.check_of.ensures,
-      λ other. absurd (apart name (codes "check") (codes "backup")
-          (λ e. let n : 99 ≡ 98 = e in omega (arith, n)) is other),
-      λ other. absurd (apart name (codes "check") (codes "new-root")
-          (λ e. let n : 99 ≡ 110 = e in omega (arith, n)) is other),
-      λ other. absurd (apart name (codes "check") (codes "after-restore")
-          (λ e. let n : 99 ≡ 97 = e in omega (arith, n)) is other),
-      λ other. absurd (apart name (codes "check") (codes "serve")
-          (λ e. let n : 99 ≡ 115 = e in omega (arith, n)) is other),
-      λ none. absurd (none.1 is),
-    )
+returns-then-eq-2 c = skip (search rules) (hit (search rules) c.check_of.ensures)
 
 pub returns-then-eq-3 : goal.returns-then-eq-3
 returns-then-eq-3 c =
-    let name = c.args.name.now in
-    let is : name ≡ codes "backup" = search rules in
-    let no_replay : name ≢ codes "replay" = search rules in
-    let no_check : name ≢ codes "check" = search rules in (
-      λ other. absurd (no_replay other),
-      λ other. absurd (no_check other),
-      λ _. c.backup_of.ensures,
-      λ other. absurd (apart name (codes "backup") (codes "new-root")
-          (λ e. let n : 98 ≡ 110 = e in omega (arith, n)) is other),
-      λ other. absurd (apart name (codes "backup") (codes "after-restore")
-          (λ e. let n : 98 ≡ 97 = e in omega (arith, n)) is other),
-      λ other. absurd (apart name (codes "backup") (codes "serve")
-          (λ e. let n : 98 ≡ 115 = e in omega (arith, n)) is other),
-      λ none. absurd (none.2 is),
-    )
+    skip (search rules) (skip (search rules) (hit (search rules) c.backup_of.ensures))
 
 pub returns-then-eq-4 : goal.returns-then-eq-4
 returns-then-eq-4 c =
-    let name = c.args.name.now in
-    let is : name ≡ codes "new-root" = search rules in
-    let no_replay : name ≢ codes "replay" = search rules in
-    let no_check : name ≢ codes "check" = search rules in
-    let no_backup : name ≢ codes "backup" = search rules in (
-      λ other. absurd (no_replay other),
-      λ other. absurd (no_check other),
-      λ other. absurd (no_backup other),
-      λ _. c.new_root_of.ensures,
-      λ other. absurd (apart name (codes "new-root") (codes "after-restore")
-          (λ e. let n : 110 ≡ 97 = e in omega (arith, n)) is other),
-      λ other. absurd (apart name (codes "new-root") (codes "serve")
-          (λ e. let n : 110 ≡ 115 = e in omega (arith, n)) is other),
-      λ none. absurd (none.3 is),
-    )
+    skip (search rules)
+    (skip (search rules)
+    (skip (search rules)
+    (hit (search rules) c.new_root_of.ensures)))
 
 pub returns-then-eq-5 : goal.returns-then-eq-5
 returns-then-eq-5 c =
-    let name = c.args.name.now in
-    let is : name ≡ codes "after-restore" = search rules in
-    let no_replay : name ≢ codes "replay" = search rules in
-    let no_check : name ≢ codes "check" = search rules in
-    let no_backup : name ≢ codes "backup" = search rules in
-    let no_new_root : name ≢ codes "new-root" = search rules in (
-      λ other. absurd (no_replay other),
-      λ other. absurd (no_check other),
-      λ other. absurd (no_backup other),
-      λ other. absurd (no_new_root other),
-      λ _. c.after_restore_of.ensures,
-      λ other. absurd (apart name (codes "after-restore") (codes "serve")
-          (λ e. let n : 97 ≡ 115 = e in omega (arith, n)) is other),
-      λ none. absurd (none.4 is),
-    )
+    skip (search rules)
+    (skip (search rules)
+    (skip (search rules)
+    (skip (search rules)
+    (hit (search rules) c.after_restore_of.ensures))))
 
 pub returns-then-eq-6 : goal.returns-then-eq-6
 returns-then-eq-6 c =
-    let name = c.args.name.now in
-    let is : name ≡ codes "serve" = search rules in
-    let no_replay : name ≢ codes "replay" = search rules in
-    let no_check : name ≢ codes "check" = search rules in
-    let no_backup : name ≢ codes "backup" = search rules in
-    let no_new_root : name ≢ codes "new-root" = search rules in
-    let no_after_restore : name ≢ codes "after-restore" = search rules in (
-      λ other. absurd (no_replay other),
-      λ other. absurd (no_check other),
-      λ other. absurd (no_backup other),
-      λ other. absurd (no_new_root other),
-      λ other. absurd (no_after_restore other),
-      λ _. c.serve_of.ensures,
-      λ none. absurd (none.5 is),
-    )
+    skip (search rules)
+    (skip (search rules)
+    (skip (search rules)
+    (skip (search rules)
+    (skip (search rules)
+    (hit (search rules) c.export_of.ensures)))))
+
+pub returns-then-eq-7 : goal.returns-then-eq-7
+returns-then-eq-7 c =
+    skip (search rules)
+    (skip (search rules)
+    (skip (search rules)
+    (skip (search rules)
+    (skip (search rules)
+    (skip (search rules)
+    (hit (search rules) c.import_of.ensures))))))
+
+pub returns-then-eq-8 : goal.returns-then-eq-8
+returns-then-eq-8 c =
+    skip (search rules)
+    (skip (search rules)
+    (skip (search rules)
+    (skip (search rules)
+    (skip (search rules)
+    (skip (search rules)
+    (skip (search rules)
+    (hit (search rules) c.serve_of.ensures)))))))
 
 pub returns : goal.returns
 returns c =
-    let name = c.args.name.now in
-    let no_replay : name ≢ codes "replay" = search rules in
-    let no_check : name ≢ codes "check" = search rules in
-    let no_backup : name ≢ codes "backup" = search rules in
-    let no_new_root : name ≢ codes "new-root" = search rules in
-    let no_after_restore : name ≢ codes "after-restore" = search rules in
-    let no_serve : name ≢ codes "serve" = search rules in (
-      λ other. absurd (no_replay other),
-      λ other. absurd (no_check other),
-      λ other. absurd (no_backup other),
-      λ other. absurd (no_new_root other),
-      λ other. absurd (no_after_restore other),
-      λ other. absurd (no_serve other),
-      λ _. refl,
-    )
+    skip (search rules)
+    (skip (search rules)
+    (skip (search rules)
+    (skip (search rules)
+    (skip (search rules)
+    (skip (search rules)
+    (skip (search rules)
+    (skip (search rules)
+    (refl))))))))

@@ -47,6 +47,10 @@ returns c =
     ∙ ap₂ with_subcommand three (top c.in_ok-new_root.ensures) in
     let five = c.in_ok-subcommand-5.ensures.shape (local _ _ c.in_ok-after_restore.ensures refl)
     ∙ ap₂ with_subcommand four (top c.in_ok-after_restore.ensures) in
-    IfOk-weaker c.subcommand-6.result _ _
-    (λ d h. h.shape (local _ _ c.in_ok-serve.ensures refl) ∙ ap₂ with_subcommand five (top c.in_ok-serve.ensures))
-    c.subcommand-6.ensures
+    let six = c.in_ok-subcommand-6.ensures.shape (local _ _ c.in_ok-export.ensures refl)
+    ∙ ap₂ with_subcommand five (top c.in_ok-export.ensures) in
+    let seven = c.in_ok-subcommand-7.ensures.shape (local _ _ c.in_ok-import.ensures refl)
+    ∙ ap₂ with_subcommand six (top c.in_ok-import.ensures) in
+    IfOk-weaker c.subcommand-8.result _ _
+    (λ d h. h.shape (local _ _ c.in_ok-serve.ensures refl) ∙ ap₂ with_subcommand seven (top c.in_ok-serve.ensures))
+    c.subcommand-8.ensures

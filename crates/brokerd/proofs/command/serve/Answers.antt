@@ -21,6 +21,8 @@ returns c =
     ∙ ap₂ with_rule seven c.log_format.ensures.rule in
     let nine = c.in_ok-arg-9.ensures.shape c.log_file.ensures.local ∙ ap₂ with_rule eight c.log_file.ensures.rule in
     let ten = c.in_ok-arg-10.ensures.shape c.status.ensures.local ∙ ap₂ with_rule nine c.status.ensures.rule in
-    IfOk-weaker c.arg-11.result _ _ (λ d h. h.shape c.check_first.ensures.local
-    ∙ ap₂ with_rule ten c.check_first.ensures.rule)
-    c.arg-11.ensures
+    let eleven = c.in_ok-arg-11.ensures.shape c.check_first.ensures.local
+    ∙ ap₂ with_rule ten c.check_first.ensures.rule in
+    IfOk-weaker c.arg-12.result _ _ (λ d h. h.shape c.unchecked.ensures.local
+    ∙ ap₂ with_rule eleven c.unchecked.ensures.rule)
+    c.arg-12.ensures

@@ -15,8 +15,11 @@ returns-in_default c =
     let none = none_of c.get_str.result c.in_default.not-Some in
     inl (sym (c.get_str.ensures ∙ first_value-rows f (codes "listen")) ∙ ap (option_map _) none)
 
+pub returns-in_err-check : goal.returns-in_err-check
+returns-in_err-check c = rw (c.from_residual.ensures) (inr (inr (inr (inr (c.in_err-check.ensures.none refl)))))
+
 pub returns-in_err-count : goal.returns-in_err-count
-returns-in_err-count c = rw (c.from_residual.ensures) (inr (inl (c.in_err-count.ensures.none refl)))
+returns-in_err-count c = rw (c.from_residual-in_err-count.ensures) (inr (inl (c.in_err-count.ensures.none refl)))
 
 pub returns-in_err-places : goal.returns-in_err-places
 returns-in_err-places c =
@@ -24,7 +27,7 @@ returns-in_err-places c =
 
 pub returns-in_err-log_form : goal.returns-in_err-log_form
 returns-in_err-log_form c =
-    rw (c.from_residual-in_err-log_form.ensures) (inr (inr (inr (c.in_err-log_form.ensures.none refl))))
+    rw (c.from_residual-in_err-log_form.ensures) (inr (inr (inr (inl (c.in_err-log_form.ensures.none refl)))))
 
 pub returns : goal.returns
 returns c =
@@ -43,7 +46,6 @@ returns c =
       c.in_ok-log_form.ensures.some,
       c.get_str-4.ensures ∙ first_value-rows f (codes "log-file"),
       c.get_str-5.ensures ∙ first_value-rows f (codes "status"),
-      rw (← one_text-rows f (codes "check"))
-          (is_flag (one_text f (codes "check")) c.get_flag-2.result c.get_flag-2.ensures.none c.get_flag-2.ensures.other
-          c.get_flag-2.ensures.value),
+      c.in_ok-check.ensures.some,
+      c.unwrap_or.ensures,
     )

@@ -1,7 +1,7 @@
 use Rattle.records.specs.Words.{sym, subst, honest_before, IsHonest, Rows, table_of, AreUpgraded}
 use Rattle.broker_types.specs.OptionLaws.{of_none, of_some}
 use Rattle.soundness.specs.Words.{Breaks, AreOfABroker}
-use Rattle.database_check.specs.Naming.{TellsOf}
+use Rattle.database_check.specs.Naming.{IsNumbered, TellsOf}
 use Rattle.database_check.proofs.FindingLemmas.{opens_as_none}
 use Rattle.database_check.proofs.checking.find_defect.Goals as goal
 
@@ -34,5 +34,9 @@ returns-in_ok-at-in-Some-clause-unsound g c honest =
       trouble = c.in-Some.trouble;
       breaks = breaks;
       tells = subst (λ (r : Rows). TellsOf r c.in-Some.trouble c.in_ok-at-in-Some.field-0)
-          (c.in_ok-check.ensures.call.same checked) (c.in_ok-at-in-Some.ensures.tells honest);
+          (c.in_ok-check.ensures.call.same checked)
+          (c.in_ok-at-in-Some.ensures.tells honest
+          (subst (λ (r : Rows). IsNumbered r c.in-Some.trouble) (sym (c.in_ok-check.ensures.call.same checked))
+          (of_some (IsNumbered rows) c.in_ok-check.field-0 c.in-Some.trouble c.in-Some.is
+          (c.in_ok-check.ensures.number checked))));
     }

@@ -1,6 +1,7 @@
+use Rattle.std.specs.Prelude.{OnOk}
 use Rattle.broker_model.specs.Words.{subst, sym, Kind}
 use Rattle.records.specs.declared.kind.Kind.TheVariants as kind
-use Rattle.soundness.specs.Words.{HasIdentifier, AddsOnly, Finds, noted}
+use Rattle.soundness.specs.Words.{HasIdentifier, AddsOnly, noted}
 use Rattle.soundness.proofs.NotingLemmas.{adds_of_kind}
 use Rattle.soundness.proofs.noting.note_identifier.Goals as goal
 
@@ -17,7 +18,7 @@ returns-in-Waiting-clause-adds g c =
 pub returns-in-Lease-clause-adds : goal.returns-in-Lease-clause-adds
 returns-in-Lease-clause-adds g c =
     subst
-    (λ (k : Kind). Finds c.note_lease.result
+    (λ (k : Kind). OnOk c.note_lease.result
     (AddsOnly (HasIdentifier k c.args.key.now) (k, c.args.key.now) (noted c.args.places.now)
     (noted c.note_lease.new.places)))
     (sym c.in-Lease.is) c.note_lease.ensures.adds

@@ -2,7 +2,7 @@ use Rattle.std.proofs.Common.{◌≡◌, ◌∙◌, sym, subst}
 use Rattle.broker_model.specs.Words.{lease_identifier, IsIdentifier, IsLeaseId, table}
 use Rattle.records.specs.declared.kind.Kind.TheVariants as kind
 use Rattle.soundness.specs.Words.{StopsNoting, noted}
-use Rattle.soundness.proofs.NotingLemmas.{adds_as, finds_as, lease_identified, shows_as, stops_as}
+use Rattle.soundness.proofs.NotingLemmas.{adds_as, lease_identified, ok_as, shows_as, stops_as}
 use Rattle.soundness.proofs.noting.note_lease.Goals as goal
 
 pub returns-in-Some-clause-broken : goal.returns-in-Some-clause-broken
@@ -20,7 +20,7 @@ returns-in-Some-clause-broken g c honest =
 
 pub returns-in-Some-clause-adds : goal.returns-in-Some-clause-adds
 returns-in-Some-clause-adds g c =
-    finds_as c.had.result
+    ok_as c.had.result
     (adds_as (λ j. c.in-Some.identifier.now ≡ j) (λ j. lease_identifier c.args.key.now ≡ j)
     (kind.Lease, c.args.key.now) (noted c.args.places.now) (noted c.had.new.places)
     (λ j same. sym c.in-Some.ensures.sound.1 ∙ same))

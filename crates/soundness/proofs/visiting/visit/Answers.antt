@@ -1,6 +1,6 @@
 use Rattle.broker_model.specs.Words.{refl, ◌∙◌, of_none, of_some, honest_before, table_of}
-use Rattle.soundness.specs.Words.{Rule, Notes, BreaksAt, HasIdentifier, IsKeyOf, StopsNoting, noted}
-use Rattle.soundness.proofs.NotingLemmas.{identifier_breaks, if_none_always, origin_breaks, row_spared}
+use Rattle.soundness.specs.Words.{Rule, Notes, BreaksAt, HasIdentifier, HasOrigin, IsKeyOf, StopsNoting, noted}
+use Rattle.soundness.proofs.NotingLemmas.{adds_none, identifier_breaks, origin_breaks, row_spared}
 use Rattle.soundness.proofs.WalkLemmas.{row_passed}
 use Rattle.soundness.proofs.visiting.visit.Goals as goal
 
@@ -60,6 +60,34 @@ returns-in-Some-3-clause-broken g c honest are fresh =
     (λ origins not_noted. of_some (λ (r : Rule). BreaksAt (table_of now) r k q row) c.in_ok-origin.field-0
     c.in-Some-3.origin c.in-Some-3.is (c.in_ok-origin.ensures.broken honest origins not_noted))
 
+pub returns-in-Some-2-clause-spares : goal.returns-in-Some-2-clause-spares
+returns-in-Some-2-clause-spares g c honest here =
+    let first = (g.T.RecordsTx.seen c.args.tx.now).rows in
+    let after : Notes = record {
+      rooted = c.args.notes.now.rooted;
+      identifiers = c.note_identifier.new.places;
+      origins = c.args.notes.now.origins;
+    } in
+    row_spared (table_of first) c.args.notes.now after refl c.entry.inside.kind c.as_str-key.result.now
+    c.entry.inside.row c.args.entry.now
+    ((λ i. ((c.entry.inside.kind, c.as_str-key.ensures i), c.entry.inside.row)) ∙ c.entry.view_is) here
+    c.in_ok-place.ensures.adds
+    (adds_none (HasOrigin c.entry.inside.kind c.entry.inside.row) (c.entry.inside.kind, c.as_str-key.result.now)
+    (noted c.args.notes.now.origins))
+
+pub returns-in-Some-3-clause-spares : goal.returns-in-Some-3-clause-spares
+returns-in-Some-3-clause-spares g c honest here =
+    let first = (g.T.RecordsTx.seen c.args.tx.now).rows in
+    let after : Notes = record {
+      rooted = c.args.notes.now.rooted;
+      identifiers = c.note_identifier.new.places;
+      origins = c.note_origin.new.places;
+    } in
+    row_spared (table_of first) c.args.notes.now after refl c.entry.inside.kind c.as_str-key.result.now
+    c.entry.inside.row c.args.entry.now
+    ((λ i. ((c.entry.inside.kind, c.as_str-key.ensures i), c.entry.inside.row)) ∙ c.entry.view_is) here
+    c.in_ok-place.ensures.adds c.in_ok-origin.ensures.adds
+
 pub returns-clause-spares : goal.returns-clause-spares
 returns-clause-spares g c honest here =
     let first = (g.T.RecordsTx.seen c.args.tx.now).rows in
@@ -68,9 +96,7 @@ returns-clause-spares g c honest here =
       identifiers = c.note_identifier.new.places;
       origins = c.note_origin.new.places;
     } in
-    if_none_always c.chain.result
-    (row_spared (table_of first) c.args.notes.now after refl c.entry.inside.kind c.as_str-key.result.now
+    row_spared (table_of first) c.args.notes.now after refl c.entry.inside.kind c.as_str-key.result.now
     c.entry.inside.row c.args.entry.now
     ((λ i. ((c.entry.inside.kind, c.as_str-key.ensures i), c.entry.inside.row)) ∙ c.entry.view_is) here
-    (of_none c.in_ok-place.field-0 c.in_default-2.is c.in_ok-place.ensures.adds)
-    (of_none c.in_ok-origin.field-0 c.in_default-3.is c.in_ok-origin.ensures.adds))
+    c.in_ok-place.ensures.adds c.in_ok-origin.ensures.adds

@@ -10,4 +10,4 @@ returns-in-Ok-clause-told g c honest =
     subst (λ (t : ℕ). Represents None rows (first_broker c.args.moment t (accessor_word c.args.words.now)))
     c.token-token_word.ensures
     (subst (λ (a : ℕ). Represents None rows (first_broker c.args.moment token a)) c.accessor-accessor_word.ensures
-    (c.in-Ok.ensures.told honest c.if-token_word-accessor_word.false))
+    (c.in-Ok.ensures.told honest))

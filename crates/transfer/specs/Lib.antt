@@ -1,0 +1,9 @@
+pub mod Counting
+pub mod Files
+pub mod Laws
+pub mod LineEnds
+pub mod LineReads
+pub mod Order
+pub mod Pendings
+pub mod Reading
+pub mod Writing
