@@ -154,10 +154,13 @@ def passes(checkout):
 
 def fails(checkout):
     """What fails is counted, also where it does not say so, and the rest is run."""
-    for name, does in (("rows.sh", "echo '1 passed, 1 failed'; exit 1"), ("run.sh disk", "exit 1")):
+    for name, does in (("rows.sh", "echo 'row 3: two'; echo '1 passed, 1 failed'; exit 1"), ("run.sh disk", "exit 1")):
         checkout.tell(name, does)
-    status, _, last = checkout.run()
+    status, said, last = checkout.run()
     yield "two scripts", (status, last.split(", ")[1]) == (1, "2 failed")
+    told = said[said.index("minutes, and"):]  # below the tables
+    yield "what failed, at the end", "\nbin/test: failed: tests/rows.sh\n    row 3: two\n" in told
+    yield "what said nothing", "\nbin/test: failed: tests/run.sh disk\n" in told
     yield "the others are run", len(checkout.ran("scripts")) == len(checkout.scripts) + 1
     checkout.tell("rows.sh", "echo '2 passed, 0 failed, 5 skipped'; exit")
     checkout.tell("run.sh disk", "echo '2 passed, 0 failed'; exit 1")
