@@ -1,27 +1,146 @@
 -- What is remembered is true of rows that changed.
-use Rattle.std.proofs.Common.{◌≡◌, ◌+◌, ◌<◌, ◌≤◌, ◌==◌, ◌∷◌, ◌∙◌, ℕ, Bool, true, false, not, cond, List, [], length, ap}
+use Rattle.std.proofs.Common.{◌≡◌, ◌≢◌, ◌⊎◌, ◌+◌, ◌<◌, ◌≤◌, ◌==◌, ◌∷◌, ◌∙◌, ℕ, Bool, true, false, cond, List, []}
+use Rattle.std.proofs.Common.{length, ap, ap₂, inl, inr, bytes_eq, string_bytes, string_eq, String, Global}
+use Rattle.std.proofs.lemmas.Cmp.{nat_list_eq_equiv}
+use Rattle.std.proofs.lemmas.List.Elements.{All-contains, All-contains_itself, All-from_recursion}
+use Rattle.std.proofs.lemmas.Map.{lookup-remove_entry, none_passes_from_lookup}
+use Rattle.std.specs.Map.{keys_of, remove_entry, lookup}
+use Rattle.std.specs.String.{string_eq_equiv}
+use Rattle.lru.specs.LruCache.{lru_cache, put_entries}
+use Rattle.lru.proofs.CallerLemmas.{Contains-lookup, Contains-put_entries, Contains-remove_entry}
+use Rattle.records.specs.KeyLaws.{kind_of, kind_of-number, key_cmp_exact}
 use Rattle.records.specs.Words.{refl, sym, subst, arith, Option, None, Some, nat_le, All, Contains, IsPermutation}
-use Rattle.records.specs.Words.{slice_index_or, Ordering, Equal, eq_by_cmp, is_eq, nat_cmp, ordering_then}
-use Rattle.records.specs.Words.{nat_cmp_total, tied_itself, get, insert, remove, get_tied, get-insert, get-remove}
-use Rattle.records.specs.Words.{eqb-true, false≢true, not-true, nat_tests, All-filter, All-head, filter_passes}
-use Rattle.records.specs.Words.{IsPermutation-refl, length_permutation, none-some, same_Some, text_cmp, same}
-use Rattle.records.specs.Words.{same-text_cmp, is_equal, AreDue, is_due, rows_due, passing_each, passing_whole, RowKey}
-use Rattle.records.specs.Words.{key_cmp, kind_number, key_cmp_total, Rows}
-use Rattle.records_sql.specs.Words.{Row, AreFound, IsDueFrom, IsCalmUntil, others}
+use Rattle.records.specs.Words.{slice_index_or, Ordering, eq_by_cmp, is_eq, IsDistinct}
+use Rattle.records.specs.Words.{tied_itself, get, insert, remove, get-insert, get-remove, bytes_eq-Decides}
+use Rattle.records.specs.Words.{eqb-true, false≢true, nat_tests, All-head, false_from_ne_true}
+use Rattle.records.specs.Words.{IsPermutation-refl, length_permutation, none-some, same_Some}
+use Rattle.records.specs.Words.{is_equal, AreDue, is_due, rows_due, passing_each, passing_whole, RowKey}
+use Rattle.records.specs.Words.{key_cmp, kind_number, key_cmp_total, Rows, Text}
+use Rattle.records_sql.specs.Words.{Row, Kind, Agrees, AreBounded, AreFound, AreOthers, Entry, IsDueFrom, IsCalmUntil}
+use Rattle.records_sql.specs.Words.{IsFound, IsSmall, Memory}
+use Rattle.records_sql.specs.Memory.{Cache, entries_of, row_size, greatest_size}
 
--- ---- keys
+-- ---- what is cached
 
--- keys of one kind compare as their texts
-pub alike : (a b : RowKey) → kind_number a.0 ≡ kind_number b.0 → same a.1 b.1 ≡ eq_by_cmp key_cmp a b
-alike a b kinds =
-    same-text_cmp a.1 b.1
-    ∙ ap (λ o. is_eq (ordering_then o (text_cmp a.1 b.1)))
-    (sym (subst (λ n. nat_cmp (kind_number a.0) n ≡ Equal) kinds (tied_itself nat_cmp_total (kind_number a.0))))
+-- keys of other texts do not compare alike
+apart : (a b : RowKey) → a.1 ≢ b.1 → eq_by_cmp key_cmp a b ≡ false
+apart a b differ =
+    false_from_ne_true (eq_by_cmp key_cmp a b)
+    (λ e. differ (ap (λ (k : RowKey). k.1) (key_cmp_exact a b (is_equal (key_cmp a b) e))))
 
--- what an entry says is what is found at a key that compares alike
-pub found_at : (rows : Rows) (key : RowKey) (e : RowKey × Option Row) → eq_by_cmp key_cmp e.0 key ≡ true
-    → get rows e.0 ≡ e.1 → get rows key ≡ e.1
-found_at rows key e alike is = get_tied key_cmp_total rows e.0 key (is_equal (key_cmp e.0 key) alike) ∙ is
+-- whether it is the text of a key
+abbrev is_key : Text → String Global → Bool
+is_key key k = bytes_eq key (string_bytes k)
+
+module _ (rows : Rows) (entries : List Entry) (found : AreFound entries rows) where
+  -- what is cached at a key is the row of its kind
+  pub found_at : (kind : Kind) (key : Text) (v : Kind × Option Row) → Some v ≡ lookup (is_key key) entries
+      → kind_number v.0 ≡ kind_number kind → v.1 ≡ get rows (kind, key)
+  found_at kind key v at kinds =
+      let there = Contains-lookup (is_key key) entries v (sym at) in
+      let text : key ≡ string_bytes there.0 = (bytes_eq-Decides key (string_bytes there.0)).0 there.2 in
+      let same : v.0 ≡ kind = sym (kind_of-number v.0) ∙ ap kind_of kinds ∙ kind_of-number kind in
+      sym (All-contains (IsFound rows) entries (there.0, v) found there.1)
+      ∙ ap₂ (λ (k : Kind) (t : Text). get rows (k, t)) same (sym text)
+
+  -- what is cached at other keys stays true where a row is put
+  pub found_put : (q : RowKey) (row : Row) (others : List Entry) → AreOthers q.1 entries others
+      → AreFound others (insert rows q row)
+  found_put q row others are k d below =
+      let e = slice_index_or others k d in
+      let p : RowKey = (e.1.0, string_bytes e.0) in
+      get-insert key_cmp_total rows q row p
+      ∙ ap (λ b. cond b (Some row) (get rows p)) (apart p q (are k d below).1)
+      ∙ All-contains (IsFound rows) entries e found (are k d below).0
+
+  -- and where one is removed
+  pub found_removed : (q : RowKey) (others : List Entry) → AreOthers q.1 entries others
+      → AreFound others (remove rows q)
+  found_removed q others are k d below =
+      let e = slice_index_or others k d in
+      let p : RowKey = (e.1.0, string_bytes e.0) in
+      get-remove key_cmp_total rows q p
+      ∙ ap (λ b. cond b None (get rows p)) (apart p q (are k d below).1)
+      ∙ All-contains (IsFound rows) entries e found (are k d below).0
+
+-- what a memory recalls is the row
+pub recalled_row : (memory : Memory) (rows : Rows) → Agrees memory rows
+    → (cached : Option Cache) → entries_of cached ≡ memory.entries
+    → (cache : Cache) → Some cache ≡ cached
+    → (kind : Kind) (key : Text) (v : Kind × Option Row) → Some v ≡ lookup (is_key key) cache.entries
+    → kind_number v.0 ≡ kind_number kind → v.1 ≡ get rows (kind, key)
+recalled_row memory rows agrees cached entries cache is kind key v at kinds =
+    found_at rows cache.entries
+    (subst (λ es. AreFound es rows) (sym (ap entries_of is ∙ entries)) agrees.entries) kind key v at kinds
+
+module _ (key : Text) (entries : List Entry) (distinct : IsDistinct string_eq (keys_of entries)) where
+  abbrev rest : List Entry
+  rest = remove_entry (is_key key) entries
+
+  left : (e : Entry) → Contains rest e → string_bytes e.0 ≢ key
+  left e there same =
+      let passes : is_key key e.0 ≡ true = (bytes_eq-Decides key (string_bytes e.0)).1 (sym same) in
+      let none : lookup (string_eq e.0) rest ≡ None =
+      lookup-remove_entry string_eq_equiv (is_key key)
+      (λ x y. nat_list_eq_equiv.congr key (string_bytes x) (string_bytes y)) e.0 entries distinct
+      ∙ ap (λ b. cond b None (lookup (string_eq e.0) entries)) passes in
+      let IsMissed : Entry → Type 0 = λ f. string_eq e.0 f.0 ≡ false in
+      let never : IsMissed e =
+      All-contains IsMissed rest e
+      (All-from_recursion IsMissed rest (none_passes_from_lookup (string_eq e.0) rest none)) there in
+      false≢true (sym never ∙ string_eq_equiv.refl e.0)
+
+  -- without the entry at a key, the others are left
+  pub others_left : AreOthers key entries rest
+  others_left k d below =
+      let there = All-contains_itself rest k d below in
+      let e = slice_index_or rest k d in (Contains-remove_entry (is_key key) entries e there, left e there)
+
+-- each entry of a cache after an entry is put was there, or has the key and what was put
+module _ (cache : Cache) (key : String Global) (v : Kind × Option Row) where
+  abbrev after : List Entry
+  after = put_entries string_eq cache key v
+
+  put_all : (P : Text → Kind × Option Row → Type 0) → All (λ e. P (string_bytes e.0) e.1) cache.entries
+      → P (string_bytes key) v → All (λ e. P (string_bytes e.0) e.1) after
+  put_all P all is k d below =
+      let e = slice_index_or after k d in
+      elim (Contains-put_entries string_eq cache key v e (All-contains_itself after k d below)) [
+        | inl there ↦ All-contains (λ f. P (string_bytes f.0) f.1) cache.entries e all there
+        | inr put ↦ elim put.1 [
+          | inl same ↦ subst (λ w. P (string_bytes e.0) w) (sym put.0)
+              (subst (λ s. P (string_bytes s) v) (sym same) is)
+          | inr alike ↦ subst (λ w. P (string_bytes e.0) w) (sym put.0)
+              (subst (λ t. P t v) ((bytes_eq-Decides (string_bytes key) (string_bytes e.0)).0 alike.2) is)
+        ]
+      ]
+
+  pub found_kept : (rows : Rows) → AreFound cache.entries rows → get rows (v.0, string_bytes key) ≡ v.1
+      → AreFound after rows
+  found_kept rows = put_all (λ t w. get rows (w.0, t) ≡ w.1)
+
+  pub small_kept : All IsSmall cache.entries → length (string_bytes key) + row_size v.1 ≤ greatest_size
+      → All IsSmall after
+  small_kept = put_all (λ t w. length t + row_size w.1 ≤ greatest_size)
+
+  -- and it is bounded, where the key and what was put are small, or nothing was put
+  pub still_bounded : (new : Cache)
+      → (new ≡ lru_cache after cache.cap) ⊎ (new ≡ cache) → AreBounded (Some cache) → IsSmall (key, v)
+      → AreBounded (Some new)
+  still_bounded new (inl put) held small =
+      subst (λ m. AreBounded (Some m)) (sym put) (held.0, small_kept held.1 small)
+  still_bounded new (inr same) held small = subst (λ m. AreBounded (Some m)) (sym same) held
+
+  pub still_found : (new : Cache) (rows : Rows)
+      → (new ≡ lru_cache after cache.cap) ⊎ (new ≡ cache) → AreFound cache.entries rows → IsFound rows (key, v)
+      → AreFound new.entries rows
+  still_found new rows (inl put) found is = subst (λ m. AreFound m.entries rows) (sym put) (found_kept rows found is)
+  still_found new rows (inr same) found is = subst (λ m. AreFound m.entries rows) (sym same) found
+
+-- what is left of small entries is small
+pub small_others : (key : Text) (old new : List Entry) → AreOthers key old new → All IsSmall old → All IsSmall new
+small_others key old new are small k d below =
+    All-contains IsSmall old (slice_index_or new k d) small (are k d below).0
 
 -- ---- rows that change
 
@@ -30,29 +149,6 @@ pub got_put : (rows : Rows) (key : RowKey) (row : Row) → get (insert rows key 
 got_put rows key row =
     get-insert key_cmp_total rows key row key
     ∙ ap (λ (o : Ordering). cond (is_eq o) (Some row) (get rows key)) (tied_itself key_cmp_total key)
-
-module _ (rows : Rows) (key : RowKey) (list : List (RowKey × Option Row)) (found : AreFound list rows) where
-  abbrev IsFound : RowKey × Option Row → Type 0
-  IsFound e = get rows e.0 ≡ e.1
-
-  abbrev is_other : RowKey × Option Row → Bool
-  is_other e = not (eq_by_cmp key_cmp e.0 key)
-
-  -- entries of other keys stay true where a row is put
-  pub found_put : (row : Row) → AreFound (others key list) (insert rows key row)
-  found_put row k d below =
-      let e = slice_index_or (others key list) k d in
-      get-insert key_cmp_total rows key row e.0
-      ∙ ap (λ b. cond b (Some row) (get rows e.0)) (not-true _ (filter_passes is_other list k d below))
-      ∙ All-filter is_other IsFound list found k d below
-
-  -- and where one is removed
-  pub found_removed : AreFound (others key list) (remove rows key)
-  found_removed k d below =
-      let e = slice_index_or (others key list) k d in
-      get-remove key_cmp_total rows key e.0
-      ∙ ap (λ b. cond b None (get rows e.0)) (not-true _ (filter_passes is_other list k d below))
-      ∙ All-filter is_other IsFound list found k d below
 
 module _ (rows : Rows) (key : RowKey) (moment : ℕ) (calm : IsCalmUntil moment rows) where
   put_cases : (row : Row) (sooner : ℕ) → sooner ≤ moment → IsDueFrom sooner row → (q : RowKey) (r : Row) (b : Bool)

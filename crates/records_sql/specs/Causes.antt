@@ -1,5 +1,5 @@
 -- Why the storage failed, by what the database answers (this project's definition).
-use Rattle.std.specs.Prelude.{◌≡◌, Bool, false, Option, None, Some}
+use Rattle.std.specs.Prelude.{◌≡◌, Bool, false, Option, Some}
 use Rattle.sqlite.specs.declared.error.Error.{Error}
 use Rattle.sqlite.specs.declared.error.Error.TheVariants.{SqliteFailure, SqlInputError}
 use Rattle.sqlite.specs.declared.error.ErrorCode.{ErrorCode}

@@ -1,6 +1,9 @@
 -- What is remembered of rows, and when it is true (this project's definition).
-use Rattle.std.specs.Prelude.{◌≡◌, ◌+◌, ◌≤◌, ℕ, Bool, true, false, is_some, List, [], length, Option, Some, None, All}
-use Rattle.records.specs.Words.{filter, not, eq_by_cmp, get, RowKey, key_cmp, Rows}
+use Rattle.std.specs.Prelude.{◌≡◌, ◌≢◌, ◌+◌, ◌≤◌, ℕ, Bool, true, false, ⊤, is_some, List, [], length, Option, Some}
+use Rattle.std.specs.Prelude.{None, All, Contains, String, string_bytes}
+use Rattle.std.specs.declared.alloc.Global.{Global}
+use Rattle.lru.specs.LruCache.{LruCache}
+use Rattle.records.specs.Words.{get, RowKey, Rows, Text}
 use Rattle.records.specs.declared.kind.Kind.{Kind}
 use Rattle.records.specs.declared.kind.Kind.TheVariants as kind
 use Rattle.records.specs.declared.row.Row.{Row}
@@ -32,24 +35,50 @@ abbrev pub greatest_size : ℕ
 greatest_size = 4096
 
 abbrev pub greatest_count : ℕ
-greatest_count = 64
+greatest_count = 1024
+
+-- a key, the kind of its row, and the row, or that there is none
+abbrev pub Entry : Type 0
+Entry = String Global × (Kind × Option Row)
+
+-- a cache of them
+abbrev pub Cache : Type 0
+Cache = LruCache (String Global) (Kind × Option Row)
 
 -- rows by kind and key, or that there is none, and the moment before which no row is due
 pub record Memory : Type 0 where
-  pub entries : List (RowKey × Option Row)
+  pub entries : List Entry
   pub calm_until : ℕ
 
 -- nothing
 abbrev pub nothing : Memory
 nothing = record { entries = []; calm_until = 0 }
 
--- the entries of other keys
-abbrev pub others : RowKey → List (RowKey × Option Row) → List (RowKey × Option Row)
-others key list = filter (λ e. not (eq_by_cmp key_cmp e.0 key)) list
+-- the entries of a cache, if there is one
+abbrev pub entries_of : Option Cache → List Entry
+entries_of None = []
+entries_of (Some cache) = cache.entries
 
--- the entries say what the rows are
-abbrev pub AreFound : List (RowKey × Option Row) → Rows → Type 0
-AreFound list rows = All (λ e. get rows e.0 ≡ e.1) list
+-- it has a key and a row of that size at most
+abbrev pub IsSmall : Entry → Type 0
+IsSmall e = length (string_bytes e.0) + row_size e.1.1 ≤ greatest_size
+
+-- a cache for so many entries, each of which is small
+abbrev pub AreBounded : Option Cache → Type 0
+AreBounded None = ⊤
+AreBounded (Some cache) = (cache.cap ≡ greatest_count) × All IsSmall cache.entries
+
+-- each of the new entries is one of the old, and has another key
+abbrev pub AreOthers : Text → List Entry → List Entry → Type 0
+AreOthers key old new = All (λ e. Contains old e × (string_bytes e.0 ≢ key)) new
+
+-- the entry says what the row is
+abbrev pub IsFound : Rows → Entry → Type 0
+IsFound rows e = get rows (e.1.0, string_bytes e.0) ≡ e.1.1
+
+-- and so does each
+abbrev pub AreFound : List Entry → Rows → Type 0
+AreFound list rows = All (IsFound rows) list
 
 -- it is due at the moment or later, if at all
 abbrev pub IsDueFrom : ℕ → Row → Type 0

@@ -8,7 +8,8 @@ pub use Rattle.records_sql.specs.Bounds.{IsAbove, IsLater}
 pub use Rattle.records_sql.specs.Causes.{after, cause_of, cause_of_code, KeepsCause}
 pub use Rattle.records_sql.specs.KeptRecords.{kept_records}
 pub use Rattle.records_sql.specs.Made.{IsNewTable}
-pub use Rattle.records_sql.specs.Memory.{Agrees, AreFound, IsCalmUntil, IsDueFrom, Memory, others}
+pub use Rattle.records_sql.specs.Memory.{Agrees, AreBounded, AreFound, AreOthers, Entry, IsCalmUntil, IsDueFrom}
+pub use Rattle.records_sql.specs.Memory.{IsFound, IsSmall, Memory}
 pub use Rattle.records_sql.specs.Numbered.{AreNumbered, IsListed, IsOver, number_of}
 pub use Rattle.records_sql.specs.SqlTable.{AgreesAt, are_apart, Asked, broker_schema, Changed, due_in, due_index}
 pub use Rattle.records_sql.specs.SqlTable.{due_value, entries_of, entry_in, HasEnded, int_in, is_apart, IsActive}

@@ -1,12 +1,10 @@
 //! One row that is remembered.
 
-ghost use Rattle.std.specs.Prelude.{◌≡◌, ◌≤◌, ◌+◌, length, min, ◌^◌, ◌-◌, IfSome, option_map};
-ghost use Rattle.std.specs.Ordering.{eq_by_cmp};
+ghost use Rattle.std.specs.Prelude.{◌≡◌, ◌≤◌, ◌+◌, length, min, ◌^◌, ◌-◌, true, IfSome, option_map};
 ghost use Rattle.std.specs.Option.{option_copied};
-ghost use Rattle.records.specs.Kind.{key_cmp};
+ghost use Rattle.records.specs.Kind.{kind_number};
 ghost use Rattle.records_sql.specs.Memory.{is_kept, row_size, greatest_size};
 
-use broker_types::{TextBuf, is_same};
 use records::{Kind, Row};
 use std::alloc::Global;
 use std::marker::Model;
@@ -14,54 +12,52 @@ use std::marker::Model;
 /// How many bytes a key and its row have at most, to be remembered.
 const LARGEST: usize = 4096;
 
-/// The row at a kind and key, or that there is none.
+/// The row of a kind, or that there is none.
 #[derive(Drop)]
 pub(crate) struct Remembered {
     kind: Kind,
-    key: TextBuf,
     row: Option<Row>,
 }
 
 impl Model for Remembered {
-    ghost use Rattle.std.specs.Prelude.{◌≡◌, ◌≤◌, ◌+◌, true, length, Option};
-    ghost use Rattle.records.specs.Kind.{RowKey};
+    ghost use Rattle.std.specs.Prelude.{◌≡◌, true, Option};
+    ghost use Rattle.records.specs.declared.kind.Kind.{Kind};
     ghost use Rattle.records.specs.declared.row.Row.{Row};
-    ghost use Rattle.records_sql.specs.Memory.{is_kept, row_size, greatest_size};
+    ghost use Rattle.records_sql.specs.Memory.{is_kept};
 
-    ghost Value = { RowKey × Option Row };
+    ghost Value = { Kind × Option Row };
 
-    ghost view = { λ e. ((e.kind, e.key), e.row) };
+    ghost view = { λ e. (e.kind, e.row) };
 
-    ghost invariant = { λ e.
-        (is_kept e.kind e.row ≡ true) × (length e.key + row_size e.row ≤ greatest_size) };
+    ghost invariant = { λ e. is_kept e.kind e.row ≡ true };
 }
 
 impl Remembered {
-    /// An entry of its own, if such a row is remembered, it is small enough and memory suffices.
+    /// The row at a kind and key, if such a row is remembered, it is small enough and memory suffices.
     pub(crate) fn copied(
         alloc: Global,
         kind: Kind,
         key: &str,
         row: Option<&Row>,
     ) -> Option<Remembered>
-        ensures { IfSome result (λ e. e ≡ ((kind, key.now), option_map (λ r. r.now) row.entry)) }
+        ensures row { IfSome result (λ e. e ≡ (kind, option_map (λ r. r.now) row.entry)) }
+        ensures size { IfSome result (λ e. length key.now + row_size e.1 ≤ greatest_size) }
     {
         if !is_kept(kind, row) || key.len().saturating_add(size(row)) > LARGEST {
             return None;
         }
-        let key = TextBuf::copied(alloc, key).ok()?;
         let row = match row {
             None => None,
             Some(row) => Some(row.copied(alloc).ok()?),
         };
-        Some(Remembered { kind, key, row })
+        Some(Remembered { kind, row })
     }
 
-    /// Whether it is that of a kind and key.
-    pub(crate) fn is_at(&self, kind: Kind, key: &str) -> bool
-        ensures { result ≡ eq_by_cmp key_cmp self.now.0 (kind, key.now) }
+    /// Whether it is that of a kind.
+    pub(crate) fn is_of(&self, kind: Kind) -> bool
+        ensures { result ≡ true → kind_number self.now.0 ≡ kind_number kind }
     {
-        self.kind.number() == kind.number() && is_same(self.key.as_str(), key)
+        self.kind.number() == kind.number()
     }
 
     /// The row, if there is one.

@@ -1,40 +1,46 @@
 //! What is remembered of rows.
 
-ghost use Rattle.std.specs.Prelude.{◌≡◌, ◌≤◌, ℕ, length, IfSome, option_map};
+ghost use Rattle.std.specs.Prelude.{◌≡◌, ◌≤◌, ℕ, [], IfSome, option_map};
 ghost use Rattle.std.specs.FinMap as map;
 ghost use Rattle.records.specs.DueRows.{AreDue};
 ghost use Rattle.records.specs.Transaction.{Rows};
-ghost use Rattle.records_sql.specs.Memory.{AreFound, Agrees, nothing, others};
+ghost use Rattle.records_sql.specs.Memory.{Agrees, AreBounded, AreFound, AreOthers, entries_of, IsFound, IsSmall};
+ghost use Rattle.records_sql.specs.Memory.{nothing};
 
 use crate::remembered::Remembered;
 use broker_types::Moment;
+use lru::LruCache;
 use records::{Due, Entry, Kind, Row};
 use std::alloc::Global;
 use std::marker::Model;
+use std::num::NonZeroUsize;
 
 /// How many rows are remembered at most.
-const PLACES: usize = 64;
+const PLACES: usize = 1024;
 
-/// Rows that were read, or that there was none: at most 64, each with its key of at most 4,096 bytes; a further one
-/// takes the place of an earlier one. Also a moment before which no row is due. No row with a value that a client
-/// stored is remembered; those of tokens are, each under its token.
+/// Rows by their keys.
+type Cache = LruCache<String, Remembered>;
+
+/// Rows that were read, or that there was none, by their keys: at most 1,024, each with its key of at most 4,096 bytes;
+/// a further one takes the place of the one that was remembered first. Of two kinds with one key the later is
+/// remembered. Also a moment before which no row is due. No row with a value that a client stored is remembered; those
+/// of tokens are, each under its token.
 #[derive(Drop)]
 pub struct RowMemory {
     alloc: Global,
-    entries: Vec<Remembered>,
-    turn: usize,
+    /// None before the first.
+    rows: Option<Cache>,
     calm_until: u64,
 }
 
 impl Model for RowMemory {
-    ghost use Rattle.std.specs.Prelude.{◌≤◌, length};
-    ghost use Rattle.records_sql.specs.Memory.{Memory, greatest_count};
+    ghost use Rattle.records_sql.specs.Memory.{AreBounded, Memory, entries_of};
 
     ghost Value = { Memory };
 
-    ghost view = { λ m. record { entries = m.entries.items; calm_until = m.calm_until } };
+    ghost view = { λ m. record { entries = entries_of m.rows; calm_until = m.calm_until } };
 
-    ghost invariant = { λ m. length m.entries.items ≤ greatest_count };
+    ghost invariant = { λ m. AreBounded m.rows };
 }
 
 impl RowMemory {
@@ -45,8 +51,7 @@ impl RowMemory {
     {
         RowMemory {
             alloc,
-            entries: Vec::new(alloc),
-            turn: 0,
+            rows: None,
             calm_until: 0,
         }
     }
@@ -55,8 +60,7 @@ impl RowMemory {
     pub fn clear(&mut self)
         ensures { (rows : Rows) → Agrees self.new rows }
     {
-        self.entries.clear();
-        self.turn = 0;
+        self.rows = None;
         self.calm_until = 0;
     }
 
@@ -65,7 +69,11 @@ impl RowMemory {
         ensures { IfSome result (λ row. (rows : Rows) → Agrees self.now rows
             → row ≡ map.get rows (kind, key.now)) }
     {
-        match found(&self.entries, kind, key)?.row() {
+        let remembered = self.rows.as_ref()?.peek(key)?;
+        if !remembered.is_of(kind) {
+            return None;
+        }
+        match remembered.row() {
             None => Some(None),
             Some(row) => Some(Some(row.copied(self.alloc).ok()?)),
         }
@@ -77,19 +85,13 @@ impl RowMemory {
         ensures { (rows : Rows) → Agrees self.old rows
             → option_map (λ r. r.now) row.entry ≡ map.get rows (kind, key.now) → Agrees self.new rows }
     {
-        let Some(entry) = Remembered::copied(self.alloc, kind, key, row) else {
+        let Some(remembered) = Remembered::copied(self.alloc, kind, key, row) else {
             return;
         };
-        let len = self.entries.len();
-        if len < PLACES {
-            if self.entries.push(entry).is_err() {
-                self.turn = 0;
-            }
+        let Ok(key) = String::from_str(self.alloc, key) else {
             return;
-        }
-        let at = self.turn % len;
-        self.turn = at + 1;
-        let _replaced = std::mem::replace(&mut self.entries[at], entry);
+        };
+        self.rows = with_row(self.alloc, self.rows.take(), key, remembered);
     }
 
     /// Forgets the row at a kind and key, which is removed.
@@ -97,7 +99,7 @@ impl RowMemory {
         ensures { (rows : Rows) → Agrees self.old rows
             → Agrees self.new (map.remove rows (kind, key.now)) }
     {
-        forget(&mut self.entries, kind, key);
+        self.drop_key(key);
     }
 
     /// Remembers the row that is put at a kind and key, in place of the one that was there.
@@ -105,9 +107,17 @@ impl RowMemory {
         ensures { (rows : Rows) → Agrees self.old rows
             → Agrees self.new (map.insert rows (kind, key.now) row.now) }
     {
-        forget(&mut self.entries, kind, key);
+        self.drop_key(key);
         self.calm_until = sooner(self.calm_until, row.due);
         self.keep(kind, key, Some(row));
+    }
+
+    /// Forgets what is remembered at a key.
+    fn drop_key(&mut self, key: &str)
+        ensures others { AreOthers key.now self.old.entries self.new.entries }
+        ensures calm { self.new.calm_until ≡ self.old.calm_until }
+    {
+        self.rows = without_key(self.rows.take(), key);
     }
 
     /// The rows that are due at or before the moment, if it is known that there is none.
@@ -130,25 +140,47 @@ impl RowMemory {
     }
 }
 
-/// What is remembered of a kind and key.
-fn found<'e>(entries: &'e [Remembered], kind: Kind, key: &str) -> Option<&'e Remembered>
-    ensures { IfSome result (λ e. (rows : Rows) → AreFound entries.now rows
-        → map.get rows (kind, key.now) ≡ e.now.1) }
+/// Places for rows; none if memory is refused.
+fn places(alloc: Global) -> Option<Cache>
+    ensures empty { entries_of result ≡ [] }
+    ensures bounded { AreBounded result }
 {
-    for entry in entries {
-        if entry.is_at(kind, key) {
-            return Some(entry);
-        }
-    }
-    None
+    LruCache::sparse(alloc, NonZeroUsize::new(PLACES)?).ok()
 }
 
-/// Removes what is remembered of a kind and key.
-fn forget(entries: &mut Vec<Remembered>, kind: Kind, key: &str)
-    ensures others { entries.new.items ≡ others (kind, key.now) entries.old.items }
-    ensures bound { length entries.new.items ≤ length entries.old.items }
+/// The cache, which is made if there is none, with a row at a key in place of what it had there. It is as before if
+/// memory is refused.
+fn with_row(
+    alloc: Global,
+    cache: Option<Cache>,
+    key: String,
+    remembered: Remembered,
+) -> Option<Cache>
+    requires bounded { AreBounded cache }
+    requires small { IsSmall (key, remembered) }
+    ensures found { (rows : Rows) → AreFound (entries_of cache) rows → IsFound rows (key, remembered)
+        → AreFound (entries_of result) rows }
+    ensures bounded { AreBounded result }
 {
-    entries.retain(|entry| !entry.is_at(kind, key));
+    let mut cache = match cache {
+        Some(cache) => cache,
+        None => places(alloc)?,
+    };
+    drop(cache.put(key, remembered));
+    Some(cache)
+}
+
+/// The cache without what it had at a key.
+fn without_key(cache: Option<Cache>, key: &str) -> Option<Cache>
+    requires bounded { AreBounded cache }
+    ensures others { AreOthers key.now (entries_of cache) (entries_of result) }
+    ensures bounded { AreBounded result }
+{
+    let mut cache = cache?;
+    // A length says that no key is there twice.
+    let _ = cache.len();
+    drop(cache.pop(key));
+    Some(cache)
 }
 
 /// A moment that is no later than another, nor than when something is due.

@@ -92,3 +92,25 @@ fn what_is_due_is_found(rt: HostRuntime) -> Result<(), Fail> {
     assert!(rt; is_calm(&memory, 9) && !is_calm(&memory, 10));
     Ok(())
 }
+
+/// Remembers that there is no mount of this number.
+fn keep_number(memory: &mut RowMemory, alloc: Global, number: u32) -> Result<(), Fail> {
+    let key = format!(in alloc; "{number}")?;
+    memory.keep(Kind::Mount, key.as_str(), None);
+    Ok(())
+}
+
+#[test]
+fn a_row_beyond_the_last_place_takes_that_of_the_first(rt: HostRuntime) -> Result<(), Fail> {
+    let mut memory = RowMemory::new(rt.alloc());
+    for number in 0..1024 {
+        keep_number(&mut memory, rt.alloc(), number)?;
+    }
+    assert!(rt; memory.recalled(Kind::Mount, "0").is_some());
+    assert!(rt; memory.recalled(Kind::Policy, "0").is_none());
+    keep_number(&mut memory, rt.alloc(), 1024)?;
+    assert!(rt; memory.recalled(Kind::Mount, "0").is_none());
+    assert!(rt; memory.recalled(Kind::Mount, "1").is_some());
+    assert!(rt; memory.recalled(Kind::Mount, "1024").is_some());
+    Ok(())
+}

@@ -1,15 +1,16 @@
-use Rattle.std.proofs.Common.{◌≡◌, ◌%◌, Option, sym, subst, ◌∙◌}
-use Rattle.records.specs.Words.{All-set, get, RowKey}
-use Rattle.records_sql.specs.Words.{Row, Memory, Agrees}
+use Rattle.std.proofs.Common.{sym, subst, ap, ap₂, Option, ◌∙◌}
+use Rattle.records.specs.Words.{get, Text}
+use Rattle.records_sql.specs.Words.{Kind, Row, Memory, AreFound, IsCalmUntil}
+use Rattle.records_sql.specs.Memory.{entries_of}
 use Rattle.records_sql.proofs.row_memory.RowMemory.keep.Goals as goal
 
 pub returns : goal.returns
 returns c rows agrees is =
-    let inside = subst (λ (m : Memory). Agrees m rows) (sym c.self.view_is) agrees in
-    let IsFound = λ (e : RowKey × Option Row). get rows e.0 ≡ e.1 in
+    let entries = ap entries_of c.take.ensures.value ∙ ap (λ (m : Memory). m.entries) c.self.view_is in
+    let found =
+    ap₂ (λ (v : Kind × Option Row) (t : Text). get rows (v.0, t)) c.in-Some.ensures.row c.in-Ok.ensures.ok
+    ∙ sym is ∙ sym (ap (λ (v : Kind × Option Row). v.1) c.in-Some.ensures.row) in
     record {
-      entries = All-set IsFound c.self.inside.entries.items
-          (c.self.inside.turn % c.len-len.result) c.replace-replaced.new.dest
-          (subst IsFound (sym (c.replace-replaced.ensures.after ∙ c.in-Some.ensures)) (sym is)) inside.entries;
-      calm = inside.calm;
+      entries = c.with_row.ensures.found rows (subst (λ es. AreFound es rows) (sym entries) agrees.entries) found;
+      calm = subst (λ n. IsCalmUntil n rows) (sym (ap (λ (m : Memory). m.calm_until) c.self.view_is)) agrees.calm;
     }
