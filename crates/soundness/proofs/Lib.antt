@@ -7,6 +7,7 @@ mod ChainLemmas
 mod CheckLemmas
 mod Gather
 mod IdentifiersSound
+mod KnownLemmas
 mod NotingLemmas
 mod Numbers
 mod OthersSound

@@ -4,6 +4,7 @@
 mod chains;
 mod checking;
 mod credentials;
+mod known;
 mod laws;
 mod lookups;
 mod noting;
