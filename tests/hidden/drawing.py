@@ -18,7 +18,7 @@ PATHS = ("a", "a/b", "team", "team/x", "team/x/y", "own")
 FOLDERS = ("", "", "/team", "/team", "/a", "/a", "/team/x")
 POLICIES = ("p0", "p1", "p2", "p3", "p4", "default")
 BELOW = ("data", "data", "data", "metadata", "metadata", "delete", "undelete", "destroy")
-ENDS = ("*", "*", *PATHS, "team/*", "team/", "a/*")  # of patterns
+ENDS = (*"*****", *PATHS, "team/*", "team/", "a/*")  # of patterns
 FEW = (*(["read"], ["create"], ["update"], ["delete"]) * 2, ["list"], ["create", "update"], ["read", "list"], ["deny"],
        [], ["create", "read", "update", "delete", "list"], ["update", "delete", "list"], ["sudo", "patch"])
 ALL = ["create", "read", "update", "delete", "list", "sudo"]
@@ -43,9 +43,9 @@ class Drawer:
         return self.draw.randrange(one_in) == 0
 
     def words(self) -> list:
-        """The eight words of a request; seldom those of another one."""
+        """The eight words of a request; seldom those of an earlier one."""
         self.word += 0x10
-        first = self.word if not self.chance(10) else self.word - 0x10 * self.draw.randrange(1, 40)
+        first = self.word if not self.chance(20) else self.word - 0x10 * self.draw.randrange(1, 40)
         return [first + n for n in range(8)]
 
     def again(self) -> "Drawer":
@@ -62,17 +62,17 @@ class Drawer:
     # ---- what brokers begin with
 
     def policy(self) -> str:
-        """The text of a policy: much of all but the mounts of secrets, and of these only what rules say."""
+        """The text of a policy: much of all but the mounts of secrets, and of these what a few rules say."""
         rules = {"*": self.pick(MUCH)}
         for mount in KV:
             rules[f"{mount}/*"] = self.pick([[], [], [], [], ["list"], ["update"]])
             rules[f"{mount}/config"] = self.pick([["read", "update"], []])
             for _ in range(self.draw.randrange(1, 6)):
                 rules[f"{mount}/{self.pick(BELOW)}/{self.pick(ENDS)}"] = self.pick(FEW)
-            if self.chance(3):
-                rules[f"{mount}/metadata{self.pick(['', '/', '/team', '/a'])}"] = self.pick([["list"], ["list"], []])
-        if self.chance(6):
-            rules["cubbyhole/*"] = self.pick(FEW)
+            if self.chance(2):
+                rules[f"{mount}/metadata{self.pick(['', '/', '/team', '/a', '/team', '/a'])}"] = ["list"]
+        if self.chance(2):
+            rules["cubbyhole/*"] = self.pick([["create", "read", "list"], ["update", "list"], ["create"], []])
         return json.dumps({"path": {pattern: {"capabilities": words} for pattern, words in rules.items()}})
 
     def creation(self, policies: list) -> dict:
@@ -146,10 +146,12 @@ class Drawer:
         """What a caller asks: the texts are what it may name, by what they are."""
         kinds = [*self.of_tokens(texts), *self.of_responses(texts), *self.of_leases(texts), *self.of_settings(),
                  *self.of_secrets(texts), *self.of_roles(texts)]
+        if caller not in texts["caller"] and self.chance(2):
+            kinds = self.of_responses(texts)
         verb, path, body, *version = self.draw.choices([it for _, it in kinds], [n for n, _ in kinds])[0]()
         wrap = self.pick([5, 600, 3600]) if path == "sys/wrapping/wrap" and not self.chance(8) else self.pick(WRAP_TTLS)
         data = b"" if body is None else json.dumps(body).encode()
-        if body is not None and self.chance(12):
+        if body is not None and self.chance(8):
             data = self.pick([data[:-1], b"[]", b"null", b" "])
         return Ask(verb, path, version[0] if version else None, caller, wrap, data)
 
@@ -162,13 +164,13 @@ class Drawer:
                 **self.some(no_parent=[True, False])})),
             (4, lambda: ("GET", "auth/token/lookup-self", None)),
             (2, lambda: ("WRITE", "auth/token/lookup", {"token": token})),
-            (2, lambda: ("WRITE", "auth/token/lookup-accessor", {"accessor": accessor})),
+            (5, lambda: ("WRITE", "auth/token/lookup-accessor", {"accessor": accessor})),
             (2, lambda: ("LIST", "auth/token/accessors", None)),
             (2, lambda: ("WRITE", "auth/token/renew-self", self.some(increment=[60, "1h", 3000]))),
             (2, lambda: ("WRITE", "auth/token/renew", {"token": token, **self.some(increment=[60, 3000])})),
             (0.3, lambda: ("WRITE", "auth/token/revoke-self", None)),
             (0.5, lambda: ("WRITE", "auth/token/" + self.pick(["revoke", "revoke-orphan"]), {"token": token})),
-            (0.5, lambda: ("WRITE", "auth/token/revoke-accessor", {"accessor": accessor}))]
+            (1, lambda: ("WRITE", "auth/token/revoke-accessor", {"accessor": accessor}))]
 
     def of_responses(self, texts: dict) -> list:
         """Requests about responses that wait."""
@@ -185,11 +187,11 @@ class Drawer:
             (2, lambda: ("WRITE", "sys/leases/lookup", {"lease_id": lease})),
             (2, lambda: ("WRITE", "sys/leases/renew", {"lease_id": lease, **self.some(increment=[60, 3000])})),
             (0.5, lambda: ("WRITE", "sys/leases/revoke", {"lease_id": lease})),
-            (1, lambda: ("WRITE", "sys/leases/revoke-prefix/" + self.pick(["db", "db/creds/r", "db2", "d"]), None)),
+            (2, lambda: ("WRITE", "sys/leases/revoke-prefix/" + self.pick(["db", "db/creds/r", "db2", "d"]), None)),
             (2, lambda: ("GET", "sys/mounts", None)),
             (0.7, lambda: ("WRITE", "sys/mounts/" + self.pick(["kv", "db", "db2", "new", "sys"]),
                            self.pick([{"type": "kv-v2"}, {"type": "issued"}, {"type": "x"}]))),
-            (0.6, lambda: ("DELETE", "sys/mounts/" + self.pick(["kv", "kv", "db2", "new", "sys"]), None))]
+            (1, lambda: ("DELETE", "sys/mounts/" + self.pick(["kv", "kv", "kv", "db2", "new", "sys"]), None))]
 
     def of_settings(self) -> list:
         """Requests about policies and cubbyholes, and what no route is for."""
@@ -197,9 +199,9 @@ class Drawer:
         return [
             (1, lambda: ("LIST", "sys/policies/acl", None)),
             (1, lambda: ("GET", policy, None)),
-            (2, lambda: ("WRITE", policy, {"policy": self.policy() if not self.chance(4) else "x"})),
+            (3, lambda: ("WRITE", policy, {"policy": self.policy() if not self.chance(4) else "x"})),
             (0.3, lambda: ("DELETE", policy, None)),
-            (4, lambda: (*self.own(),)),
+            (6, lambda: (*self.own(),)),
             (3, lambda: ("GET", path, None)),
             (3, lambda: ("LIST", "cubbyhole" + self.pick(FOLDERS), None)),
             (1, lambda: (self.pick(["GET", "LIST", "WRITE", "DELETE"]), self.pick(
@@ -210,6 +212,7 @@ class Drawer:
         mount, path = self.pick(texts["place"])
         change, versions = self.pick(CHANGES), self.pick([[1], [1, 2], "1,2", [9], []])
         options = [{}, {"cas": 0}, {"cas": 0}, {"cas": 1}, {"cas": 2}]
+        folder = self.pick(["", "/" + path, "/" + path, ("/" + path).rpartition("/")[0]])
         return [
             (2, lambda: ("GET", f"{mount}/config", None)),
             (0.5, lambda: ("WRITE", f"{mount}/config", self.some(cas_required=[False], max_versions=[0, 2, 3]))),
@@ -217,10 +220,10 @@ class Drawer:
             (12, lambda: ("GET", f"{mount}/data/{path}", None, self.pick([None, None, None, "1", "2", "x"]))),
             (7, lambda: ("DELETE", f"{mount}/data/{path}", None)),
             (14, lambda: ("WRITE", f"{mount}/{change}/{path}", {"versions": versions})),
-            (9, lambda: ("GET", f"{mount}/metadata/{path}", None)),
+            (11, lambda: ("GET", f"{mount}/metadata/{path}", None)),
             (4, lambda: ("WRITE", f"{mount}/metadata/{path}", self.settings())),
-            (4, lambda: ("DELETE", f"{mount}/metadata/{path}", None)),
-            (11, lambda: ("LIST", f"{mount}/metadata{self.pick(FOLDERS)}", None))]
+            (6, lambda: ("DELETE", f"{mount}/metadata/{path}", None)),
+            (11, lambda: ("LIST", f"{mount}/metadata{folder}", None))]
 
     def of_roles(self, texts: dict) -> list:
         """Requests about roles and their credentials."""
@@ -228,11 +231,11 @@ class Drawer:
         return [
             (1, lambda: (self.pick(["GET", "GET", "DELETE"]), f"{mount}/roles/{role}", None)),
             (2, lambda: ("WRITE", f"{mount}/roles/{role}", self.some(ttl=[60, "1h"], max_ttl=[4000]))),
-            (4, lambda: ("GET", f"{mount}/creds/{role}", None)),
-            (2, lambda: ("WRITE", f"{mount}/verify", {"credential": credential}))]
+            (6, lambda: ("GET", f"{mount}/creds/{role}", None)),
+            (6, lambda: ("WRITE", f"{mount}/verify", {"credential": credential}))]
 
 
-@functools.lru_cache(maxsize=4096)
+@functools.lru_cache(maxsize=512)
 def drawn_broker(seed: str) -> tuple:
     """A broker, and the drawer that has made it."""
     drawer = Drawer(seed)

@@ -13,13 +13,15 @@ from broker.state import with_token
 
 from .drawing import KV
 
-LEAKS = {}
+LEAKS, RARE = {}, set()
 
 
-def leak(name: str):
-    """A leak with its name: a function that returns the change, to be made while it is asked."""
+def leak(name: str, is_rare: bool = False):
+    """A leak with its name: a function that returns the change, to be made while it is asked. One that is rare takes
+    some thousand requests."""
     def note(function):
         LEAKS[name] = function
+        RARE.update({name} if is_rare else ())
         return function
     return note
 
@@ -111,7 +113,7 @@ def not_found_if_not_there():
     return denied(lambda b, ask: not_found() if names_secret(ask, "data") and key(b, ask) is None else None)
 
 
-@leak("404 in place of 403 for the list of an empty folder")
+@leak("404 in place of 403 for the list of an empty folder", is_rare=True)
 def not_found_if_empty():
     def tell(b, ask):
         mount, path = place(ask.path)
@@ -143,7 +145,7 @@ def other_mounts():
     return route("LIST", "metadata", "metadata/PATH", does=does)
 
 
-@leak("a list names the secret of the folder's own name")
+@leak("a list names the secret of the folder's own name", is_rare=True)
 def own_name():
     def does(_run, call):
         paths = [path for mount, path in call.b.secrets if mount == call.mount and path.startswith(call.rest)]
@@ -151,7 +153,7 @@ def own_name():
     return route("LIST", "metadata/PATH", does=does)
 
 
-@leak("a list leaves out secrets without a version that can be read")
+@leak("a list leaves out secrets without a version that can be read", is_rare=True)
 def live_secrets():
     def does(_run, call):
         alive = {it: key for it, key in call.b.secrets.items()
@@ -160,7 +162,7 @@ def live_secrets():
     return route("LIST", "metadata", "metadata/PATH", does=does)
 
 
-@leak("a write below `destroy/` needs `create` where there is no secret")
+@leak("a write below `destroy/` needs `create` where there is no secret", is_rare=True)
 def create_to_destroy():
     def needed(b, caller, ask):
         if ask.verb == "WRITE" and names_secret(ask, "delete", "undelete", "destroy"):
@@ -170,7 +172,7 @@ def create_to_destroy():
     return patch.object(permissions, "needed_capability", needed)
 
 
-@leak("a change of versions is 404 where there is no secret")
+@leak("a change of versions is 404 where there is no secret", is_rare=True)
 def changed_if_there():
     def does(run, call):
         if key_of(call) is None:
@@ -179,7 +181,7 @@ def changed_if_there():
     return route("WRITE", "delete/PATH", "undelete/PATH", "destroy/PATH", does=does)
 
 
-@leak("a deletion of a secret that is not there is 404")
+@leak("a deletion of a secret that is not there is 404", is_rare=True)
 def deleted_if_there():
     def does(_run, call):
         if key_of(call) is None:
@@ -190,16 +192,15 @@ def deleted_if_there():
     return route("DELETE", "data/PATH", "metadata/PATH", does=does)
 
 
-@leak("a new secret has the custom metadata of the one above it")
-def custom_of_above():
+@leak("a new secret has the custom metadata of another one", is_rare=True)
+def custom_of_another():
     def does(_run, call):
-        above = call.b.secrets.get((call.mount, call.rest.rpartition("/")[0]))
-        done = write_secret(call)
-        made = done.b.secrets[call.mount, call.rest]
-        if above is None or key_of(call) is not None:
+        done, here = write_secret(call), (call.mount, call.rest)
+        others = sorted(it for it in call.b.secrets if it[0] == call.mount)
+        if key_of(call) is not None or not others:
             return done
-        made = replace(made, custom_metadata=above.custom_metadata)
-        return replace(done, b=replace(done.b, secrets={**done.b.secrets, (call.mount, call.rest): made}))
+        made = replace(done.b.secrets[here], custom_metadata=call.b.secrets[others[0]].custom_metadata)
+        return replace(done, b=replace(done.b, secrets={**done.b.secrets, here: made}))
     return route("WRITE", "data/PATH", does=does)
 
 
@@ -215,19 +216,19 @@ def counted_secrets():
     return route("GET", "mounts", does=adding(secrets=lambda call: len(call.b.secrets)))
 
 
-@leak("a mount that has secrets is not disabled")
+@leak("a mount that has secrets is not disabled", is_rare=True)
 def kept_mount():
     has_secrets = refusing(lambda call: any(m == call.rest for m, _ in call.b.secrets), "the mount is not empty")
     return route("DELETE", "mounts/NAME", does=has_secrets)
 
 
-@leak("a mount is full with four secrets")
+@leak("a mount is full with four secrets", is_rare=True)
 def full_mount():
     full = refusing(lambda call: sum(m == call.mount for m, _ in call.b.secrets) >= 4, "the mount is full")
     return route("WRITE", "data/PATH", "metadata/PATH", does=full)
 
 
-@leak("a read counts the secrets beside it")
+@leak("a read counts the secrets beside it", is_rare=True)
 def counted_beside():
     return route("GET", "metadata/PATH", does=adding(beside=lambda call: len(children(
         [path for mount, path in call.b.secrets if mount == call.mount],
@@ -254,7 +255,7 @@ def all_cubbyholes():
     return route("LIST", "", "PATH", does=does)
 
 
-@leak("a write of an object needs `update` if another token has it")
+@leak("a write of an object needs `update` if another token has it", is_rare=True)
 def other_object_updated():
     def needed(b, caller, ask):
         if ask.verb == "WRITE" and ask.path.startswith("cubbyhole/"):
@@ -282,7 +283,7 @@ def counted_by_verify():
     return route("WRITE", "verify", does=adding(leases=lambda call: len(all_leases(call.b))))
 
 
-@leak("a credential is refused if there are eight")
+@leak("a credential is refused if there are eight", is_rare=True)
 def full_role():
     full = refusing(lambda call: len(all_leases(call.b)) >= 8, "too many leases")
     return route("GET", "creds/NAME", does=full)
@@ -322,10 +323,10 @@ def shorter_ttl():
     return patch.object(requests, "wrapped", kept)
 
 
-@leak("the clock goes a second further while more than eight leases stand")
+@leak("the clock goes a second further while more than eight leases stand", is_rare=True)
 def further_clock():
     def later(b, moment):
-        return at(b, moment + (len(all_leases(b)) > 8))
+        return at(b, moment + (moment > b.clock and len(all_leases(b)) > 8))
     at = requests.at
     return patch.object(requests, "at", later)
 
@@ -348,7 +349,7 @@ def full_tokens():
                  does=refusing(lambda call: len(call.b.tokens) >= 8, "too many tokens"))
 
 
-@leak("a token with a child is not renewed")
+@leak("a token with a child is not renewed", is_rare=True)
 def kept_parent():
     has_child = refusing(lambda call: any(it.parent == call.caller for it in call.b.tokens.values()), "it has a child")
     return route("WRITE", "token/renew-self", does=has_child)

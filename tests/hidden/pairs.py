@@ -17,7 +17,7 @@ from .drawing import ISSUED, KV, PATHS, ROOT, drawn_broker
 
 PLACES = [(mount, path) for mount in KV for path in PATHS]
 KINDS = ("places", "contents", "cubbyholes", "tokens", "leases", "responses")
-MOST_CHANGES = 14  # of what is hidden, in each broker before the first request
+MOST_CHANGES = 18  # of what is hidden, in each broker before the first request
 LEAPS = (0, 0, 0, 0, 0, 1, 1, 30, 400)
 UNKNOWN = "hvs.unknown"
 
@@ -39,9 +39,8 @@ class Pair:
         if self.chance(12):
             self.callers.append(ROOT)
         self.hidden = self.hidden_of(base)
-        shown = [it for it in PLACES if it not in self.hidden.places | self.hidden.contents]
-        self.places = PLACES + shown * (1 + len(PLACES) // (len(shown) + 1))  # of requests: mostly these
         self.brokers = [base, base]
+        self.words_of_one = []  # of changes in one of the two that were served
         for which in (0, 1):
             for _ in range(self.drawer.draw.randrange(MOST_CHANGES)):
                 self.change(which)
@@ -55,7 +54,7 @@ class Pair:
     def again(self) -> "Pair":
         """The same pair once more, with the same to come."""
         pair = copy.copy(self)
-        pair.brokers = list(self.brokers)
+        pair.brokers, pair.words_of_one = list(self.brokers), list(self.words_of_one)
         pair.draw_by(self.drawer.again())
         return pair
 
@@ -97,7 +96,7 @@ class Pair:
         before = self.brokers[which]
         if ROOT not in before.tokens:
             return
-        request = self.pick([self.of_secrets, self.of_secrets, self.of_secrets, self.of_contents, self.of_cubbyholes,
+        request = self.pick([*[self.of_secrets, self.of_contents] * 3, self.of_cubbyholes, self.of_cubbyholes,
                              self.of_leases, self.of_responses, self.of_tokens, self.of_texts])(before)
         if request is None:
             return
@@ -108,6 +107,7 @@ class Pair:
         answer, after = step(before, before.clock, words, ask, TODAY)
         if answer.status == 200:
             self.hide_made(after, json.loads(answer.text), path)
+            self.words_of_one.append(words)
         if blind.seen(before, self.hidden) != blind.seen(after, self.hidden):
             raise AssertionError(f"{verb} {path} changes more than what is hidden")
         self.brokers[which] = after
@@ -166,6 +166,15 @@ class Pair:
 
     # ---- what is asked of both
 
+    def places(self) -> list:
+        """Of which secrets something is asked: all, and as often those in which the two differ, and those that are
+        seen."""
+        first, second = self.brokers
+        hidden = self.hidden.places | self.hidden.contents
+        differ = [it for it in PLACES if it in hidden and first.secrets.get(it) != second.secrets.get(it)]
+        seen = [it for it in PLACES if it not in hidden]
+        return [self.pick(some) for some in (PLACES, differ, seen) if some]
+
     def texts(self) -> dict:
         """What requests may name: what is there in the first broker. What is hidden is among it where it is left out
         of what a request must not bring."""
@@ -174,7 +183,8 @@ class Pair:
         leases = [(key, it) for token in b.tokens.values() for key, it in token.leases.items()
                   if key not in self.hidden.texts or self.names_hidden()]
         waiting = {text: it for text, it in b.waiting.items() if text not in self.hidden.texts or self.names_hidden()}
-        return {"token": [*tokens, *waiting] + rest, "response": [*waiting] + rest, "place": self.places,
+        return {"token": [*tokens, *waiting] + rest, "response": [*waiting] + rest, "place": self.places(),
+                "caller": self.callers,
                 "accessor": [it.accessor for it in (*tokens.values(), *waiting.values())] + rest,
                 "lease": [key for key, _ in leases] + rest, "credential": [it.credential for _, it in leases] + rest}
 
@@ -188,8 +198,11 @@ class Pair:
         if self.chance(8):
             self.change(drawer.draw.randrange(2))
         texts = self.texts()
-        caller = self.pick(self.callers) if not self.chance(12) else self.pick([None, UNKNOWN, *self.brokers[0].waiting])
+        others = [None, UNKNOWN, *self.brokers[0].waiting]
+        caller = self.pick(others if self.chance(12) else self.callers)
         ask, words = drawer.ask(caller, texts), drawer.words()
+        if self.words_of_one and self.chance(12):
+            words = self.pick(self.words_of_one)
         first, second = self.brokers
         if not blind.is_blind(first, ask, self.hidden):
             met["not blind"] += 1
@@ -215,9 +228,8 @@ class Pair:
             met["route", "none"] += 1
             met["outcome", answer.status, reason(answer)] += 1
             return
-        name = f"{route.verb} {'MOUNT' if route.mount_type in ('kv', 'issued') else route.mount_type}/{route.pattern}"
-        met["route", name.rstrip("/")] += 1
-        met["served", name.rstrip("/")] += answer.status in (200, 204)
+        met["route", route_name(route)] += 1
+        met["served", route_name(route)] += answer.status in (200, 204)
         met["outcome", answer.status, reason(answer)] += 1
         met["aimed at a hidden secret"] += (mount, rest) in self.hidden.places | self.hidden.contents
 
@@ -233,6 +245,12 @@ class Pair:
         differ = (of_secrets & self.hidden.places, of_secrets & self.hidden.contents, cubbyholes[0] != cubbyholes[1],
                   tokens[0] != tokens[1], leases[0] != leases[1], dict(first.waiting) != dict(second.waiting))
         return [kind for kind, does in zip(KINDS, differ) if does]
+
+
+def route_name(route) -> str:
+    """A route in one line."""
+    mount = "MOUNT" if route.mount_type in ("kv", "issued") else route.mount_type
+    return f"{route.verb} {mount}/{route.pattern}".rstrip("/")
 
 
 def reason(answer) -> str:
