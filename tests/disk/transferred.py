@@ -5,19 +5,22 @@ secrets in the older format, and of one with rows of every kind. What is exporte
 makes of the rows by docs/STORAGE.md, byte for byte. The database that is made of it has these rows, those of secrets in
 the newest format, as Python's `sqlite3` reads them; `brokerd check` accepts it, and what is exported of it is the same
 again. A file that is not whole, was changed, or has not the rows of a broker is refused, and leaves no database; so
-does an import whose calls fail, that has no room, or that is killed. Salvaged, the rows of a broker in which a row is
-lacking become those of a sound one, and what is left out is named, without a token.
+does an import whose calls fail, that has no room, that is refused memory, or that is killed; and an export that is
+refused memory writes no whole file. Salvaged, the rows of a broker in which a row is lacking become those of a sound
+one, and what is left out is named, without a token.
 """
 
 import hashlib
 import json
 import os
 import random
+import re
 import subprocess
 
 from asking import ACCESSOR, CLOCK, CREDENTIAL, LEASE, RESPONSE, TOKEN, USED, VERSION
 from broker.rows import rows_of
 from checked import MOUNT, OBJECT, POLICY, ROLE, SECONDS, SECRET, at_the_end, broker_with_all, check, counts_of
+from hostile import HEAP, Report
 from kept import in_a_format, rows_of_tests, write
 from program import Running, expect
 from rows import rows_in
@@ -49,9 +52,11 @@ FIELDS = {
 }
 FAILED = ("pwrite", "fsync", "fdatasync", "ftruncate")
 WAYS = ("EIO", "ENOSPC", "kill")
+PROGRESS = re.compile(rb"^(ex|im)porting: [0-9]+ MB\n", re.MULTILINE)  # every two seconds, beside much other work
+REFUSED = 30  # allocations of each kind of run that are refused, in the gate
 LEFT_OUT = {TOKEN: 1, ACCESSOR: 1, LEASE: 1, CREDENTIAL: 1, SECRET: 1}
 LEAST = {"the same again": 150, "rows in the older format": 5, "refused": 140, "failed": 20, "killed": 10,
-         "salvaged": 5}
+         "salvaged": 5, "refused memory": 150}
 
 
 # ---------------------------------------------------------------------------------------- lines
@@ -147,10 +152,16 @@ def version_of(trial):
     return ended.stdout.split()[-1]
 
 
-def export(trial, file, *rules):
+def run(variables, *words, given=b""):
+    """A run of the program until it ends; what it says of its progress is left out."""
+    ended = subprocess.run(words, input=given, capture_output=True, timeout=SECONDS, env=variables)
+    ended.stderr = PROGRESS.sub(b"", ended.stderr)
+    return ended
+
+
+def export(trial, file):
     """The export of a file that ends."""
-    return subprocess.run([trial.program, "export", "--db", file], stdin=subprocess.DEVNULL, capture_output=True,
-                          timeout=SECONDS, env=trial.at(MOMENT, *rules))
+    return run(trial.at(MOMENT), trial.program, "export", "--db", file)
 
 
 def exported(trial, file):
@@ -165,8 +176,7 @@ def exported(trial, file):
 
 def run_import(trial, file, text, *options, rules=()):
     """The import of a text that ends."""
-    return subprocess.run([trial.program, "import", "--db", file, *options], input=text, capture_output=True,
-                          timeout=SECONDS, env=trial.at(MOMENT, *rules))
+    return run(trial.at(MOMENT, *rules), trial.program, "import", "--db", file, *options, given=text)
 
 
 def left_in(place):
@@ -318,6 +328,43 @@ def try_failed(trial, call, way):
     return met
 
 
+def run_refused(trial, place, text, task, rule, **named):
+    """How an export of the database in a folder ends, or an import of a text into one there, where memory is
+    refused: its status, and what it writes to standard output and standard error."""
+    words = {"export": ("export", "--db", place / "old.db"), "import": ("import", "--db", place / "new.db"),
+             "salvage": ("import", "--salvage", "--db", place / "new.db")}[task]
+    ended = run(trial.at(MOMENT, rule, **named), trial.program, *words, given=text)
+    return ended.returncode, ended.stdout, ended.stderr
+
+
+def try_memory(trial, task, later, seed=1):
+    """Drawn allocations of a run are refused, each alone or with all later ones: it ends as usual, or it says why, and
+    there is no whole file, or no database; and then it is done. Raises Wrong."""
+    rows, draw, place, met = rows_of(broker_with_all()[0]), random.Random(seed), trial.place(), []
+    whole = file_of(lines_of(rows), version_of(trial))
+    text = file_of(lines_of({each: row for each, row in rows.items() if each[0] != LEASE}), version_of(trial))
+    text, report = (text if task == "salvage" else whole), place / "report"
+    write(place / "old.db", rows, draw)
+    usual = run_refused(trial, place, text, task, f"{HEAP}:0:ENOMEM", report=report)
+    expect(usual[0] == 0, f"with no refusal it ends with {usual}")
+    for number in draw.sample(range(1, Report(report).rules[1].made + 1), REFUSED):
+        rule = f"{HEAP}:{number}{'+' * later}:ENOMEM"
+        (place / "new.db").unlink(missing_ok=True)
+        ended = run_refused(trial, place, text, task, rule)
+        if ended[0] == 0:
+            expect(ended == usual, f"{rule}: {ended} in place of {usual}")
+            met.append("as usual in spite of it")
+            continue
+        expect(ended[0] == 1 and (later or ended[2]), f"{rule}: {ended}")
+        expect(task != "export" or (whole.startswith(ended[1]) and ended[1] != whole), f"{rule}: {ended}")
+        expect(later or {*left_in(place)} <= {"old.db", "old.db-wal", "report"}, f"{rule}: {left_in(place)} are left")
+        expect(not (place / "new.db").exists() and rows_in(place / "old.db") == rows, f"{rule}: a row has changed")
+        met.append("refused memory")
+    (place / "new.db").unlink(missing_ok=True)
+    expect(run_refused(trial, place, text, task, f"{HEAP}:0:ENOMEM") == usual, "it is not done after that")
+    return met
+
+
 def try_transferred(trial, jobs):
     """All of it."""
     tally, tasks = Tally("transferred"), []
@@ -334,6 +381,7 @@ def try_transferred(trial, jobs):
     tasks += [(try_changed, ()), (try_taken, ())]
     tasks += [(try_unsound, (kind,)) for kind in LEFT_OUT]
     tasks += [(try_failed, (call, way)) for call in FAILED for way in WAYS]
+    tasks += [(try_memory, (task, later)) for task in ("export", "import", "salvage") for later in (False, True)]
     for (task, arguments), found, wrong in side_by_side(attempt, tasks, jobs):
         if wrong is None:
             tally.passes(*found)
