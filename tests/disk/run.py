@@ -3,12 +3,12 @@
 
     python3 tests/disk/run.py PROGRAM [--hours H] [--seed S] [PART...]
 
-The parts are `kept`, `checked`, `maintained`, `transferred`, `calls`, `images`, `full`, `changed` and `kills`;
-README.md beside this says what each does. Without `--hours` each is tried once, by a fixed seed, in 120 seconds of
-processor time together, and in a third of that on four processors. With it all are tried again and again with seeds
-that follow from the first one: each tear and more mixes of the images, images of the recovery of images, limits of all
-lengths, small disks, further requests, changes and kills. Each part tells what it met. The last line is `N passed, M
-failed`; the status is 0 if nothing failed.
+The parts are `kept`, `checked`, `maintained`, `transferred`, `salvaged`, `calls`, `images`, `full`, `changed` and
+`kills`; README.md beside this says what each does. Without `--hours` each is tried once, by a fixed seed, in 120
+seconds of processor time together, and in a third of that on four processors. With it all are tried again and again
+with seeds that follow from the first one: each tear and more mixes of the images, images of the recovery of images,
+limits of all lengths, small disks, further requests, changes and kills. Each part tells what it met. The last line is
+`N passed, M failed`; the status is 0 if nothing failed.
 """
 
 import argparse
@@ -30,6 +30,7 @@ from images import try_images, try_recoveries  # noqa: E402
 from kept import try_kept  # noqa: E402
 from kills import try_kills  # noqa: E402
 from maintained import try_maintained  # noqa: E402
+from salvaged import try_salvaged  # noqa: E402
 from transferred import try_transferred  # noqa: E402
 from trial import Trial, temporary_folder  # noqa: E402
 
@@ -38,6 +39,7 @@ GATE = {
     "checked": try_checked,
     "maintained": try_maintained,
     "transferred": try_transferred,
+    "salvaged": try_salvaged,
     "calls": try_calls,
     "images": try_images,
     "full": try_full,
@@ -51,6 +53,7 @@ def hour_parts(trial, jobs, draw):
     seed = draw.getrandbits(32)
     yield "kept", lambda: try_kept(trial, jobs, seed, 5000, is_gate=False)
     yield "changed", lambda: try_changes(trial, jobs, seed, 2000, is_gate=False)
+    yield "salvaged", lambda: try_salvaged(trial, jobs, seed, 500, is_gate=False)
     yield "images", lambda: try_images(trial, jobs, seed, is_all=True)
     yield "recoveries", lambda: try_recoveries(trial, jobs, seed, 100)
     yield "full", lambda: try_full(trial, jobs, seed, draw.randrange(512, 4096))
