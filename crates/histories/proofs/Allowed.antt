@@ -1,45 +1,32 @@
 -- What is allowed is done: some commands always, some where what they ask for is there.
-use Rattle.std.proofs.Common.{◌≡◌, ◌≢◌, ◌⊎◌, ◌<◌, ◌==◌, ◌||◌, if◌then◌else◌, ◌-◌, ◌++◌, ◌∷◌, ℕ, [], Bool, true, false}
-use Rattle.broker_model.specs.Words.{nat_lt, is_some, Option, Some, None, Result, Ok, option_and_then, option_map, ⊤}
-use Rattle.broker_model.specs.Words.{List, nat_eq, not, starts_with, option_map_or, refl, sym, ◌∙◌, ap, subst, inl, inr}
-use Rattle.broker_model.specs.Words.{eq-eqb, eqb-true, false_from_ne_true, false≢true, lt-ltb, none-some, Text, same}
-use Rattle.broker_model.specs.Words.{same_self, greatest_version, Map, entries, get, keys, put, without, get-change}
-use Rattle.broker_model.specs.Words.{Response, Broker, Mount, Role, Names, names_of, missing, nothing, plainly, reply}
-use Rattle.broker_model.specs.Words.{Done, OnePlaceEach, found_or_not, mapped_none, ◌>>=◌, some_or, unless, Key}
-use Rattle.broker_model.specs.Words.{Version, Sound, is_spent, one_less, Lease, Token, are_new, Refusal, Reply}
-use Rattle.broker_model.specs.Words.{children, folder, slash, token_entry, AccessorsNameTheirTokens, metadata_of}
-use Rattle.broker_model.specs.Words.{Written, secret_name, write_over, written, Found, asked_number, check_and_set}
-use Rattle.broker_model.specs.Words.{checked, key_or_new, numbered, Renewed, renewed_end, times_of, with_renewed}
-use Rattle.broker_model.specs.Words.{Issued, IssuedLease, is_last_use, lease_id, new_lease, role_name, AllThatIsGranted}
-use Rattle.broker_model.specs.Words.{RootMayDoAll, is_root, text_of, lease_object, policy_object, role_object}
-use Rattle.broker_model.specs.Words.{lease_reply, plain_reply, LeaseRenewal, SecretWrite, TokenCreation, TokenRenewal}
-use Rattle.broker_model.specs.Words.{act, Command, command_of, on_cubbyhole, on_issued, on_lease, on_mount, on_policy}
-use Rattle.broker_model.specs.Words.{on_secret, on_token, on_wrapping, chained, forms, response_to, no_content, step}
-use Rattle.broker_model.specs.Words.{traits, issued_reply, issue, are_none, list_reply, listed, without_kept, Place}
-use Rattle.broker_model.specs.Words.{metadata_reply, object_left, settings_reply, version_answered, version_reply}
-use Rattle.broker_model.specs.Words.{written_reply, auth_reply, token_reply, new_end}
-use Rattle.std.specs.FinMap as fin
-use Rattle.broker_types.specs.declared.refusal.Denial.TheVariants as denial
-use Rattle.broker_types.specs.declared.refusal.Field.TheVariants as field
-use Rattle.broker_types.specs.declared.refusal.Reason.TheVariants as reason
-use Rattle.broker_types.specs.declared.refusal.Refusal.TheVariants as refusal
-use Rattle.broker_types.specs.declared.status.Status.TheVariants as status
+use Rattle.broker_model.specs.Words.{Renewed, renewed_end, times_of, with_renewed, Issued, IssuedLease, lease_id}
+use Rattle.broker_model.specs.Words.{issued_reply, issue, list_reply, listed, settings_reply}
 use Rattle.token_tree.specs.Tokens as tree
 use Rattle.kv2.specs.Secrets as secrets
 use Rattle.leases.specs.Leases as leases
+use Rattle.broker_model.specs.parts.Leases as of_leases
+use Rattle.broker_model.specs.parts.Tokens as tokens
+use Rattle.histories.specs.Words.{◌≡◌, ◌≢◌, ◌⊎◌, ◌<◌, ◌==◌, ◌||◌, if◌then◌else◌, ◌-◌, ◌++◌, ◌∷◌, ℕ, [], Bool, true}
+use Rattle.histories.specs.Words.{false, nat_lt, is_some, Option, Some, None, Result, Ok, option_and_then, option_map}
+use Rattle.histories.specs.Words.{⊤, List, nat_eq, not, starts_with, option_map_or, refl, sym, ◌∙◌, ap, subst, inl, inr}
+use Rattle.histories.specs.Words.{eq-eqb, eqb-true, false_from_ne_true, false≢true, lt-ltb, none-some, Text, same}
+use Rattle.histories.specs.Words.{same_self, greatest_version, Map, entries, get, keys, put, without, get-change}
+use Rattle.histories.specs.Words.{Response, Broker, Mount, Role, Names, names_of, missing, nothing, plainly, reply}
+use Rattle.histories.specs.Words.{Done, OnePlaceEach, found_or_not, mapped_none, ◌>>=◌, some_or, unless, Key, Version}
+use Rattle.histories.specs.Words.{Sound, is_spent, one_less, Lease, Token, are_new, Refusal, Reply, children, folder}
+use Rattle.histories.specs.Words.{slash, token_entry, AccessorsNameTheirTokens, metadata_of, Written, secret_name}
+use Rattle.histories.specs.Words.{write_over, written, Found, asked_number, check_and_set, checked, key_or_new}
+use Rattle.histories.specs.Words.{numbered, is_last_use, new_lease, role_name, AllThatIsGranted, RootMayDoAll, is_root}
+use Rattle.histories.specs.Words.{text_of, lease_object, policy_object, role_object, lease_reply, plain_reply}
+use Rattle.histories.specs.Words.{LeaseRenewal, SecretWrite, TokenCreation, TokenRenewal, act, Command, command_of}
+use Rattle.histories.specs.Words.{on_cubbyhole, on_issued, on_lease, on_mount, on_policy, on_secret, on_token}
+use Rattle.histories.specs.Words.{on_wrapping, chained, forms, response_to, no_content, step, traits, are_none}
+use Rattle.histories.specs.Words.{without_kept, Place, metadata_reply, object_left, version_answered, version_reply}
+use Rattle.histories.specs.Words.{written_reply, auth_reply, token_reply, new_end, Denial, Field, Reason, Status}
 use Rattle.histories.specs.Words.{CubbyholeCommand, IssuedCommand, LeaseCommand, SecretCommand, TokenCommand, Making}
 use Rattle.histories.specs.Words.{AllDoAllowed, AreNew, HasAccessor, HasLease, HasVersion, MayChange, MayCreate}
 use Rattle.histories.specs.Words.{MayWrite, ShowsThere, is_done, IsAllowed, Asking, clocked, spent_by, PoliciesDecide}
-use Rattle.histories.specs.Words.{IsAccessorOf, named}
-use Rattle.broker_model.specs.declared.commands.CubbyholeCommand.TheVariants as of_cubbyhole
-use Rattle.broker_model.specs.declared.commands.IssuedCommand.TheVariants as of_issued
-use Rattle.broker_model.specs.declared.commands.LeaseCommand.TheVariants as of_lease
-use Rattle.broker_model.specs.declared.commands.MountCommand.TheVariants as of_mount
-use Rattle.broker_model.specs.declared.commands.PolicyCommand.TheVariants as of_policy
-use Rattle.broker_model.specs.declared.commands.SecretCommand.TheVariants as of_secret
-use Rattle.broker_model.specs.declared.commands.TokenCommand.TheVariants as of_token
-use Rattle.broker_model.specs.parts.Leases as of_leases
-use Rattle.broker_model.specs.parts.Tokens as tokens
+use Rattle.histories.specs.Words.{IsAccessorOf, named, MountCommand, PolicyCommand}
 use Rattle.histories.proofs.Carried.{answers, carried_for, without_ttl}
 use Rattle.histories.proofs.Found.{both_new, comes, goes, held_by_token, held_by_waiting, lease_found, removes, sets}
 use Rattle.histories.proofs.FolderChildren.{has_children, no_cons}
@@ -61,34 +48,34 @@ IsDoneBy b c names command =
 module _ (b : Broker) (c : Text) (names : Names) where
   cubbyhole_done : (path : Text) (k : CubbyholeCommand) → is_done (on_cubbyhole path k) ≡ true
       → IsDoneBy b c names (on_cubbyhole path k)
-  cubbyhole_done path (of_cubbyhole.Write (Some text)) h = (_, refl, refl, refl, refl)
-  cubbyhole_done path of_cubbyhole.Delete h = (_, refl, refl, refl, refl)
+  cubbyhole_done path (CubbyholeCommand.Write (Some text)) h = (_, refl, refl, refl, refl)
+  cubbyhole_done path CubbyholeCommand.Delete h = (_, refl, refl, refl, refl)
   cubbyhole_done path _ h = absurd (false≢true h)
 
   token_done : (k : TokenCommand) → is_done (on_token k) ≡ true → IsDoneBy b c names (on_token k)
-  token_done (of_token.Revoke t) h = (_, refl, refl, refl, refl)
-  token_done (of_token.RevokeOrphan t) h = (_, refl, refl, refl, refl)
-  token_done of_token.RevokeSelf h = (_, refl, refl, refl, refl)
+  token_done (TokenCommand.Revoke t) h = (_, refl, refl, refl, refl)
+  token_done (TokenCommand.RevokeOrphan t) h = (_, refl, refl, refl, refl)
+  token_done TokenCommand.RevokeSelf h = (_, refl, refl, refl, refl)
   token_done _ h = absurd (false≢true h)
 
   secret_done : (p : Place) (k : SecretCommand) → is_done (on_secret p k) ≡ true → IsDoneBy b c names (on_secret p k)
-  secret_done p (of_secret.SetSettings asked) h = (_, refl, refl, refl, refl)
-  secret_done p of_secret.DeleteCurrent h = (_, refl, refl, refl, refl)
-  secret_done p (of_secret.Delete ns) h = (_, refl, refl, refl, refl)
-  secret_done p (of_secret.Undelete ns) h = (_, refl, refl, refl, refl)
-  secret_done p (of_secret.Destroy ns) h = (_, refl, refl, refl, refl)
-  secret_done p (of_secret.SetMetadata asked) h = (_, refl, refl, refl, refl)
-  secret_done p of_secret.Remove h = (_, refl, refl, refl, refl)
+  secret_done p (SecretCommand.SetSettings asked) h = (_, refl, refl, refl, refl)
+  secret_done p SecretCommand.DeleteCurrent h = (_, refl, refl, refl, refl)
+  secret_done p (SecretCommand.Delete ns) h = (_, refl, refl, refl, refl)
+  secret_done p (SecretCommand.Undelete ns) h = (_, refl, refl, refl, refl)
+  secret_done p (SecretCommand.Destroy ns) h = (_, refl, refl, refl, refl)
+  secret_done p (SecretCommand.SetMetadata asked) h = (_, refl, refl, refl, refl)
+  secret_done p SecretCommand.Remove h = (_, refl, refl, refl, refl)
   secret_done p _ h = absurd (false≢true h)
 
   lease_done : (prefix : Text) (k : LeaseCommand) → is_done (on_lease prefix k) ≡ true
       → IsDoneBy b c names (on_lease prefix k)
-  lease_done prefix (of_lease.Revoke id) h = (_, refl, refl, refl, refl)
-  lease_done prefix of_lease.RevokeUnder h = (_, refl, refl, refl, refl)
+  lease_done prefix (LeaseCommand.Revoke id) h = (_, refl, refl, refl, refl)
+  lease_done prefix LeaseCommand.RevokeUnder h = (_, refl, refl, refl, refl)
   lease_done prefix _ h = absurd (false≢true h)
 
   issued_done : (p : Place) (k : IssuedCommand) → is_done (on_issued p k) ≡ true → IsDoneBy b c names (on_issued p k)
-  issued_done p of_issued.RemoveRole h = (_, refl, refl, refl, refl)
+  issued_done p IssuedCommand.RemoveRole h = (_, refl, refl, refl, refl)
   issued_done p _ h = absurd (false≢true h)
 
   all_done : (k : Command) → is_done k ≡ true → IsDoneBy b c names k
@@ -105,7 +92,7 @@ module _ (b : Broker) (c : Text) (names : Names) where
 
 module _ (b : Broker) (c : Text) (names : Names) (p : Place) (n : ℕ) (key : Key)
     (there : get b.secrets (secret_name p.mount p.path) ≡ Some key) (v : Version)
-    (kept : fin.get key.versions (asked_number key.current n) ≡ Some v)
+    (kept : get key.versions (asked_number key.current n) ≡ Some v)
     (not_deleted : v.deleted ≡ None) (not_destroyed : v.secret ≢ None) where
   abbrev found : Found
   found = numbered (entries key.custom_metadata) (asked_number key.current n) v
@@ -113,7 +100,7 @@ module _ (b : Broker) (c : Text) (names : Names) (p : Place) (n : ℕ) (key : Ke
   finds : secrets.read b p.mount p.path n ≡ Some found
   finds =
       ap (option_and_then (λ (k : Key). option_map (numbered (entries k.custom_metadata) (asked_number k.current n))
-      (fin.get k.versions (asked_number k.current n)))) there
+      (get k.versions (asked_number k.current n)))) there
       ∙ ap (option_map (numbered (entries key.custom_metadata) (asked_number key.current n))) kept
 
   something : (o : Option Text) → o ≢ None → is_some o ≡ true
@@ -124,11 +111,11 @@ module _ (b : Broker) (c : Text) (names : Names) (p : Place) (n : ℕ) (key : Ke
   left = ap (λ (o : Option ℕ). is_some (if is_some o then None else v.secret)) not_deleted
       ∙ something v.secret not_destroyed
 
-  pub read_done : (d : Done) × (act b (Some c) names (on_secret p (of_secret.Read n)) ≡ Ok d)
+  pub read_done : (d : Done) × (act b (Some c) names (on_secret p (SecretCommand.Read n)) ≡ Ok d)
       × (d.answered ≡ reply (version_reply names.request found) None)
   read_done = (
     _,
-    ap (λ o. some_or refusal.NotFound o >>= (λ x. Ok (record {
+    ap (λ o. some_or Refusal.NotFound o >>= (λ x. Ok (record {
       answered = version_answered names.request x;
       next = b;
       taken = [];
@@ -151,9 +138,9 @@ module _ (own of_mount : Bool) (current : ℕ) (cas : Option ℕ)
         ∙ ap (λ v. check_and_set v current None) none.1
   ]
     where
-      same_number : unless (current == current) (refusal.BadRequest reason.CheckAndSetFailed) ≡ Ok tt
+      same_number : unless (current == current) (Refusal.BadRequest Reason.CheckAndSetFailed) ≡ Ok tt
       same_number =
-          ap (λ v. unless v (refusal.BadRequest reason.CheckAndSetFailed)) (eq-eqb current current refl)
+          ap (λ v. unless v (Refusal.BadRequest Reason.CheckAndSetFailed)) (eq-eqb current current refl)
 
       by : (v : Bool) → check_and_set v current (Some current) ≡ Ok tt
       by true = same_number
@@ -161,7 +148,7 @@ module _ (own of_mount : Bool) (current : ℕ) (cas : Option ℕ)
 
   pub all_pass : checked (own || of_mount) current cas ≡ Ok tt
   all_pass =
-      let below : Bool → Result ⊤ Refusal = λ v. unless v (refusal.BadRequest (reason.InvalidField field.Version)) in
+      let below : Bool → Result ⊤ Refusal = λ v. unless v (Refusal.BadRequest (Reason.InvalidField Field.Version)) in
       ap (λ (r : Result ⊤ Refusal). r >>= (λ passed. below (nat_lt current greatest_version))) set_passes
       ∙ ap below (lt-ltb current greatest_version low)
 
@@ -198,7 +185,7 @@ module _ (a : Asking) (b : Broker) (same_mounts : b.mounts ≡ (clocked a).mount
   pub writes_it : secrets.write b p.mount p.path asked.cas asked.object
       ≡ Ok (written b m.of_mount name asked.object over)
   writes_it =
-      ap (λ (o : Option Mount). some_or refusal.NotFound o
+      ap (λ (o : Option Mount). some_or Refusal.NotFound o
       >>= (λ n. write_over b n name asked.cas asked.object over))
       (ap (λ (s : Map Mount). get s p.mount) same_mounts ∙ m.in_mount)
       ∙ ap (λ (r : Result ⊤ Refusal). r >>= (λ passed. Ok (written b m.of_mount name asked.object over))) passes
@@ -213,7 +200,7 @@ module _ (b : Broker) (names : Names) (t : Text) (x : Token) (there : get b.toke
       let answer : Token → Done = λ y. plainly (reply (tells y) None) b in (
         answer x,
         tells x,
-        ap (λ (o : Option Token). some_or (refusal.Forbidden denial.BadToken) o >>= (λ y. Ok (answer y))) there,
+        ap (λ (o : Option Token). some_or (Refusal.Forbidden Denial.BadToken) o >>= (λ y. Ok (answer y))) there,
         refl,
       )
 
@@ -225,10 +212,10 @@ module _ (b : Broker) (names : Names) (t : Text) (x : Token) (there : get b.toke
       auth_reply names.request b.clock t (token_entry (tree.with_end (next y) y)) in
       let answer : Token → Done = λ y. plainly (reply (tells y) None) (tree.renew b t (next y)) in
       let ending : Token → Bool → Result Done Refusal = λ y v.
-      unless v (refusal.BadRequest reason.TokenNotRenewable) >>= (λ u. Ok (answer y)) in (
+      unless v (Refusal.BadRequest Reason.TokenNotRenewable) >>= (λ u. Ok (answer y)) in (
         answer x,
         tells x,
-        ap (λ (o : Option Token). some_or (refusal.Forbidden denial.BadToken) o
+        ap (λ (o : Option Token). some_or (Refusal.Forbidden Denial.BadToken) o
             >>= (λ y. ending y (is_some y.ends))) there
             ∙ ap (ending x) (has_some x.ends ends),
         refl,
@@ -248,7 +235,7 @@ module _ (b : Broker) (names : Names) (lease_id : Text) (l : Lease) (there : lea
       plain_reply names.request (lease_object (of_leases.shown_lease b.clock lease_id (times_of m))) in (
         plainly (reply (tells l) None) b,
         tells l,
-        ap (λ (o : Option Lease). some_or (refusal.BadRequest reason.InvalidLease) o
+        ap (λ (o : Option Lease). some_or (Refusal.BadRequest Reason.InvalidLease) o
             >>= (λ m. Ok (plainly (reply (tells m) None) b))) there,
         refl,
       )
@@ -262,7 +249,7 @@ module _ (b : Broker) (names : Names) (lease_id : Text) (l : Lease) (there : lea
       let answer : Renewed → Done = λ r. plainly (reply (tells r) None) r.next in (
         answer (next l),
         tells (next l),
-        ap (λ (o : Option Lease). some_or (refusal.BadRequest reason.InvalidLease) o >>= (λ m. Ok (next m))
+        ap (λ (o : Option Lease). some_or (Refusal.BadRequest Reason.InvalidLease) o >>= (λ m. Ok (next m))
             >>= (λ r. Ok (answer r))) there,
         refl,
       )
@@ -291,10 +278,10 @@ module _ (b : Broker) (c : Text) (names : Names) (p : Place) (r : Role)
       z >>= (λ i. Ok (left i)) >>= (λ i. Ok (issued_reply names i)) in (
         issued_reply names (left (lease r)),
         _,
-        ap (λ (o : Option Role). go (some_or refusal.NotFound o
-            >>= (λ q. unless (not (is_last_use b c)) (refusal.BadRequest reason.LastUseTakesLease)
+        ap (λ (o : Option Role). go (some_or Refusal.NotFound o
+            >>= (λ q. unless (not (is_last_use b c)) (Refusal.BadRequest Reason.LastUseTakesLease)
             >>= (λ u. Ok (lease q))))) there
-            ∙ ap (λ v. go (unless (not v) (refusal.BadRequest reason.LastUseTakesLease) >>= (λ u. Ok (lease r))))
+            ∙ ap (λ v. go (unless (not v) (Refusal.BadRequest Reason.LastUseTakesLease) >>= (λ u. Ok (lease r))))
             not_last,
         refl,
       )
@@ -303,8 +290,8 @@ module _ (b : Broker) (c : Text) (names : Names) (p : Place) (r : Role)
 
 -- a version that is there, by the number that is asked for
 has_version : (a : Asking) (p : Place) (n : ℕ) (h : HasVersion a p n)
-    → fin.get h.key.versions (asked_number h.key.current n) ≡ Some h.version
-has_version a p n h = ap (fin.get h.key.versions) (by (n == 0) refl) ∙ h.is_kept
+    → get h.key.versions (asked_number h.key.current n) ≡ Some h.version
+has_version a p n h = ap (get h.key.versions) (by (n == 0) refl) ∙ h.is_kept
   where
     by : (v : Bool) → (n == 0) ≡ v → asked_number h.key.current n ≡ h.number
     by true zero_ =
@@ -344,27 +331,27 @@ module _ (decide : PoliciesDecide) (a : Asking) (is : a.outcome ≡ step a.broke
   replied : (command : Command) → command_of (clocked a).mounts a.ask ≡ Ok command
       → are_new here.used ((traits command).own (names_of a.words)) ≡ true → (traits command).must_wrap ≡ false
       → (d : Done) (r : Reply) (made : Option Text) → act here (Some k.caller) (names_of a.words) command ≡ Ok d
-      → d.answered ≡ reply r made → a.outcome.response.status ≡ status.Success
+      → d.answered ≡ reply r made → a.outcome.response.status ≡ Status.Success
   replied command means new free d r made acted answered =
       ap (λ (x : Response). x.status) (answer command means new free d acted ∙ ap response_to answered)
 
-  read : (p : Place) (n : ℕ) → command_of (clocked a).mounts a.ask ≡ Ok (on_secret p (of_secret.Read n))
-      → HasVersion a p n → a.outcome.response.status ≡ status.Success
+  read : (p : Place) (n : ℕ) → command_of (clocked a).mounts a.ask ≡ Ok (on_secret p (SecretCommand.Read n))
+      → HasVersion a p n → a.outcome.response.status ≡ Status.Success
   read p n means h =
       let d = read_done here k.caller (names_of a.words) p n h.key h.there h.version (has_version a p n h)
       h.not_deleted h.not_destroyed in
-      replied (on_secret p (of_secret.Read n)) means refl refl d.0 _ None d.1 d.2
+      replied (on_secret p (SecretCommand.Read n)) means refl refl d.0 _ None d.1 d.2
 
   write : (p : Place) (asked : SecretWrite)
-      → command_of (clocked a).mounts a.ask ≡ Ok (on_secret p (of_secret.Write asked)) → MayWrite a p asked
-      → a.outcome.response.status ≡ status.Success
+      → command_of (clocked a).mounts a.ask ≡ Ok (on_secret p (SecretCommand.Write asked)) → MayWrite a p asked
+      → a.outcome.response.status ≡ Status.Success
   write p asked means m =
       let names = names_of a.words in
       let left = written here m.of_mount (secret_name p.mount p.path) asked.object
       (key_or_new here.clock (get here.secrets (secret_name p.mount p.path))) in
       let answer : Written → Done = λ w.
       plainly (reply (written_reply names.request here.clock w.custom_metadata w.number) None) w.next in
-      replied (on_secret p (of_secret.Write asked)) means refl refl (answer left) _ None
+      replied (on_secret p (SecretCommand.Write asked)) means refl refl (answer left) _ None
       (ap (λ (r : Result Written Refusal). r >>= (λ w. Ok (answer w))) (writes_it a here refl refl p asked m)) refl
 
   -- a token of the clock is there after the use, with its end, its accessor and its leases
@@ -381,36 +368,36 @@ module _ (decide : PoliciesDecide) (a : Asking) (is : a.outcome ≡ step a.broke
       by true = record { ends = refl; accessor = refl; leases = refl }
       by false = record { ends = refl; accessor = refl; leases = refl }
 
-  look_up_token : (t : Text) → command_of (clocked a).mounts a.ask ≡ Ok (on_token (of_token.LookUp t))
-      → get (clocked a).tokens t ≢ None → a.outcome.response.status ≡ status.Success
+  look_up_token : (t : Text) → command_of (clocked a).mounts a.ask ≡ Ok (on_token (TokenCommand.LookUp t))
+      → get (clocked a).tokens t ≢ None → a.outcome.response.status ≡ Status.Success
   look_up_token t means some = elim (found_or_not (get (clocked a).tokens t)) [
     | inl none ↦ absurd (some none)
     | inr x ↦
         let y = after_use t x.0 x.1 in
         let d = looked_up_done here (names_of a.words) t y.0 y.1 t in
-        replied (on_token (of_token.LookUp t)) means refl refl d.0 d.1 None d.2 d.3
+        replied (on_token (TokenCommand.LookUp t)) means refl refl d.0 d.1 None d.2 d.3
   ]
 
-  look_up_self : command_of (clocked a).mounts a.ask ≡ Ok (on_token of_token.LookUpSelf)
-      → a.outcome.response.status ≡ status.Success
+  look_up_self : command_of (clocked a).mounts a.ask ≡ Ok (on_token TokenCommand.LookUpSelf)
+      → a.outcome.response.status ≡ Status.Success
   look_up_self means =
       let d = looked_up_done here (names_of a.words) k.caller k.own k.calls.there k.caller in
-      replied (on_token of_token.LookUpSelf) means refl refl d.0 d.1 None d.2 d.3
+      replied (on_token TokenCommand.LookUpSelf) means refl refl d.0 d.1 None d.2 d.3
 
   renew : (asked : TokenRenewal) (x : Token)
-      → command_of (clocked a).mounts a.ask ≡ Ok (on_token (of_token.Renew asked))
-      → get (clocked a).tokens asked.token ≡ Some x → x.ends ≢ None → a.outcome.response.status ≡ status.Success
+      → command_of (clocked a).mounts a.ask ≡ Ok (on_token (TokenCommand.Renew asked))
+      → get (clocked a).tokens asked.token ≡ Some x → x.ends ≢ None → a.outcome.response.status ≡ Status.Success
   renew asked x means there some =
       let y = after_use asked.token x there in
       let d = renewed_done here (names_of a.words) asked.token y.0 y.1 asked.increment
       (λ none. some (sym y.2.ends ∙ none)) in
-      replied (on_token (of_token.Renew asked)) means refl refl d.0 d.1 None d.2 d.3
+      replied (on_token (TokenCommand.Renew asked)) means refl refl d.0 d.1 None d.2 d.3
 
-  renew_self : (increment : ℕ) → command_of (clocked a).mounts a.ask ≡ Ok (on_token (of_token.RenewSelf increment))
-      → k.own.ends ≢ None → a.outcome.response.status ≡ status.Success
+  renew_self : (increment : ℕ) → command_of (clocked a).mounts a.ask ≡ Ok (on_token (TokenCommand.RenewSelf increment))
+      → k.own.ends ≢ None → a.outcome.response.status ≡ Status.Success
   renew_self increment means some =
       let d = renewed_done here (names_of a.words) k.caller k.own k.calls.there increment some in
-      replied (on_token (of_token.RenewSelf increment)) means refl refl d.0 d.1 None d.2 d.3
+      replied (on_token (TokenCommand.RenewSelf increment)) means refl refl d.0 d.1 None d.2 d.3
 
   -- a lease of the clock is found after the use
   lease_after_use : (lease_id : Text) → HasLease a lease_id → (m : Lease) × (leases.find here lease_id ≡ Some m)
@@ -420,47 +407,49 @@ module _ (decide : PoliciesDecide) (a : Asking) (is : a.outcome ≡ step a.broke
       lease_found here lease_id t y.0 l y.1 (ap (λ (m : Map Lease). get m lease_id) y.2.leases ∙ x.2)
 
   look_up_lease : (prefix lease_id : Text)
-      → command_of (clocked a).mounts a.ask ≡ Ok (on_lease prefix (of_lease.LookUp lease_id)) → HasLease a lease_id
-      → a.outcome.response.status ≡ status.Success
+      → command_of (clocked a).mounts a.ask ≡ Ok (on_lease prefix (LeaseCommand.LookUp lease_id)) → HasLease a lease_id
+      → a.outcome.response.status ≡ Status.Success
   look_up_lease prefix lease_id means there =
       let m = lease_after_use lease_id there in
       let d = lease_looked_up here (names_of a.words) lease_id m.0 m.1 in
-      replied (on_lease prefix (of_lease.LookUp lease_id)) means refl refl d.0 d.1 None d.2 d.3
+      replied (on_lease prefix (LeaseCommand.LookUp lease_id)) means refl refl d.0 d.1 None d.2 d.3
 
   renew_lease : (prefix : Text) (asked : LeaseRenewal)
-      → command_of (clocked a).mounts a.ask ≡ Ok (on_lease prefix (of_lease.Renew asked)) → HasLease a asked.lease_id
-      → a.outcome.response.status ≡ status.Success
+      → command_of (clocked a).mounts a.ask ≡ Ok (on_lease prefix (LeaseCommand.Renew asked))
+      → HasLease a asked.lease_id
+      → a.outcome.response.status ≡ Status.Success
   renew_lease prefix asked means there =
       let m = lease_after_use asked.lease_id there in
       let d = lease_renewed here (names_of a.words) asked.lease_id m.0 m.1 asked.increment in
-      replied (on_lease prefix (of_lease.Renew asked)) means refl refl d.0 d.1 None d.2 d.3
+      replied (on_lease prefix (LeaseCommand.Renew asked)) means refl refl d.0 d.1 None d.2 d.3
 
   create_it : AllThatIsGranted → RootMayDoAll → Sound forms None a.broker → (making : Making) (asked : TokenCreation)
-      → command_of (clocked a).mounts a.ask ≡ Ok (on_token (of_token.Create making asked)) → MayCreate a k making asked
-      → AreNew a (names_of a.words).token (names_of a.words).accessor → a.outcome.response.status ≡ status.Success
+      → command_of (clocked a).mounts a.ask ≡ Ok (on_token (TokenCommand.Create making asked))
+      → MayCreate a k making asked
+      → AreNew a (names_of a.words).token (names_of a.words).accessor → a.outcome.response.status ≡ Status.Success
   create_it granted root sound making asked means may new =
       let names = names_of a.words in
       let d = created granted root a sound k making asked may names in
-      replied (on_token (of_token.Create making asked)) means
+      replied (on_token (TokenCommand.Create making asked)) means
       (both_new here.used names.token names.accessor new.one_is_new new.other_is_new new.differ) refl d.0 d.1
       (Some names.accessor) d.2 d.3
 
-  issue_it : (p : Place) (r : Role) → command_of (clocked a).mounts a.ask ≡ Ok (on_issued p of_issued.Issue)
+  issue_it : (p : Place) (r : Role) → command_of (clocked a).mounts a.ask ≡ Ok (on_issued p IssuedCommand.Issue)
       → get (clocked a).roles (named p) ≡ Some r → k.own.uses_left ≢ Some 0
-      → AreNew a (names_of a.words).lease (names_of a.words).credential → a.outcome.response.status ≡ status.Success
+      → AreNew a (names_of a.words).lease (names_of a.words).credential → a.outcome.response.status ≡ Status.Success
   issue_it p r means there lasts new =
       let names = names_of a.words in
       let d = credential_done here k.caller names p r there k.own k.calls.there lasts in
-      replied (on_issued p of_issued.Issue) means
+      replied (on_issued p IssuedCommand.Issue) means
       (both_new here.used names.lease names.credential new.one_is_new new.other_is_new new.differ) refl d.0 d.1 None d.2
       d.3
 
   -- a revocation of what is found
   revoke_found : (accessor : Text)
-      → command_of (clocked a).mounts a.ask ≡ Ok (on_token (of_token.RevokeAccessor accessor))
+      → command_of (clocked a).mounts a.ask ≡ Ok (on_token (TokenCommand.RevokeAccessor accessor))
       → (t : Text) → tokens.holder here accessor ≡ Ok t → a.outcome.response ≡ no_content
   revoke_found accessor means t held =
-      answer (on_token (of_token.RevokeAccessor accessor)) means refl refl (tokens.revoke_token here t)
+      answer (on_token (TokenCommand.RevokeAccessor accessor)) means refl refl (tokens.revoke_token here t)
       (ap (λ (r : Result Text Refusal). r >>= (λ t. Ok (tokens.revoke_token here t))) held)
 
   -- the token that has an accessor is found after the use
@@ -473,13 +462,13 @@ module _ (decide : PoliciesDecide) (a : Asking) (is : a.outcome ≡ step a.broke
       ∙ accessors here t y.0 (one_place_still a.broker a.moment k.caller one) y.1
 
   look_up_accessor : AccessorsNameTheirTokens → OnePlaceEach a.broker → (accessor : Text)
-      → command_of (clocked a).mounts a.ask ≡ Ok (on_token (of_token.LookUpAccessor accessor))
-      → IsAccessorOf a accessor → a.outcome.response.status ≡ status.Success
+      → command_of (clocked a).mounts a.ask ≡ Ok (on_token (TokenCommand.LookUpAccessor accessor))
+      → IsAccessorOf a accessor → a.outcome.response.status ≡ Status.Success
   look_up_accessor accessors one accessor means has =
       let y = after_use has.0 has.1 has.2 in
       let d = looked_up_done here (names_of a.words) has.0 y.0 y.1 [] in
-      replied (on_token (of_token.LookUpAccessor accessor)) means refl refl d.0 d.1 None
-      (ap (λ (o : Option Text). some_or (refusal.BadRequest reason.InvalidAccessor) o
+      replied (on_token (TokenCommand.LookUpAccessor accessor)) means refl refl d.0 d.1 None
+      (ap (λ (o : Option Text). some_or (Refusal.BadRequest Reason.InvalidAccessor) o
       >>= (λ t. tokens.look_up here (names_of a.words) t [])) (named_after_use accessors one accessor has) ∙ d.2) d.3
 
   -- what is there is shown
@@ -487,8 +476,8 @@ module _ (decide : PoliciesDecide) (a : Asking) (is : a.outcome ≡ step a.broke
       → (traits command).own (names_of a.words) ≡ [] → (traits command).must_wrap ≡ false → (o : Option X) → o ≢ None
       → (go : X → Reply)
       → act here (Some k.caller) (names_of a.words) command
-      ≡ (some_or refusal.NotFound o >>= (λ x. Ok (plainly (reply (go x) None) here)))
-      → a.outcome.response.status ≡ status.Success
+      ≡ (some_or Refusal.NotFound o >>= (λ x. Ok (plainly (reply (go x) None) here)))
+      → a.outcome.response.status ≡ Status.Success
   shown_there command means own free None there go acts = absurd (there refl)
   shown_there command means own free (Some x) there go acts =
       replied command means (ap (are_new here.used) own) free (plainly (reply (go x) None) here) (go x) None acts refl
@@ -497,17 +486,17 @@ module _ (decide : PoliciesDecide) (a : Asking) (is : a.outcome ≡ step a.broke
       → (traits command).own (names_of a.words) ≡ [] → (traits command).must_wrap ≡ false → (ts : List Text)
       → are_none ts ≡ false
       → act here (Some k.caller) (names_of a.words) command ≡ listed here (names_of a.words) ts
-      → a.outcome.response.status ≡ status.Success
+      → a.outcome.response.status ≡ Status.Success
   list_there command means own free ts some acts =
       let d = plainly (reply (list_reply (names_of a.words).request ts) None) here in
       replied command means (ap (are_new here.used) own) free d _ None
-      (acts ∙ ap (λ v. unless (not v) refusal.NotFound >>= (λ u. Ok d)) some) refl
+      (acts ∙ ap (λ v. unless (not v) Refusal.NotFound >>= (λ u. Ok d)) some) refl
 
-  list_own : (path q : Text) → command_of (clocked a).mounts a.ask ≡ Ok (on_cubbyhole path of_cubbyhole.List)
+  list_own : (path q : Text) → command_of (clocked a).mounts a.ask ≡ Ok (on_cubbyhole path CubbyholeCommand.List)
       → get k.own.cubbyhole q ≢ None → (path ≡ []) ⊎ (starts_with nat_eq q (path ++ slash ∷ []) ≡ true)
-      → a.outcome.response.status ≡ status.Success
+      → a.outcome.response.status ≡ Status.Success
   list_own path q means some is =
-      list_there (on_cubbyhole path of_cubbyhole.List) means refl refl
+      list_there (on_cubbyhole path CubbyholeCommand.List) means refl refl
       (children (folder path) (keys k.own.cubbyhole))
       (has_children k.own.cubbyhole (folder path) q some (begins path is))
       (ap (λ (o : Option Token). listed here (names_of a.words) (children (folder path)
@@ -521,40 +510,40 @@ module _ (decide : PoliciesDecide) (a : Asking) (is : a.outcome ≡ step a.broke
 
   show : AccessorsNameTheirTokens → OnePlaceEach a.broker → (command : Command)
       → command_of (clocked a).mounts a.ask ≡ Ok command → ShowsThere a command
-      → a.outcome.response.status ≡ status.Success
-  show accessors one (on_token of_token.LookUpSelf) means there = look_up_self means
-  show accessors one (on_token (of_token.LookUpAccessor accessor)) means there =
+      → a.outcome.response.status ≡ Status.Success
+  show accessors one (on_token TokenCommand.LookUpSelf) means there = look_up_self means
+  show accessors one (on_token (TokenCommand.LookUpAccessor accessor)) means there =
       look_up_accessor accessors one accessor means there
-  show accessors one (on_lease prefix (of_lease.LookUp lease_id)) means there =
+  show accessors one (on_lease prefix (LeaseCommand.LookUp lease_id)) means there =
       look_up_lease prefix lease_id means there
-  show accessors one (on_token of_token.ListAccessors) means there =
-      replied (on_token of_token.ListAccessors) means refl refl _ _ None refl refl
-  show accessors one (on_policy name of_policy.List) means there =
-      replied (on_policy name of_policy.List) means refl refl _ _ None refl refl
-  show accessors one (on_policy name of_policy.Show) means (inl root) =
-      shown_there (on_policy name of_policy.Show) means refl refl (text_of here.policies name)
+  show accessors one (on_token TokenCommand.ListAccessors) means there =
+      replied (on_token TokenCommand.ListAccessors) means refl refl _ _ None refl refl
+  show accessors one (on_policy name PolicyCommand.List) means there =
+      replied (on_policy name PolicyCommand.List) means refl refl _ _ None refl refl
+  show accessors one (on_policy name PolicyCommand.Show) means (inl root) =
+      shown_there (on_policy name PolicyCommand.Show) means refl refl (text_of here.policies name)
       (λ none. none-some _ (sym none ∙ ap (λ v. if v then Some [] else get here.policies name)
       (ap (same name) (sym root) ∙ same_self name)))
       (λ text. plain_reply (names_of a.words).request (policy_object name text)) refl
-  show accessors one (on_policy name of_policy.Show) means (inr some) =
-      shown_there (on_policy name of_policy.Show) means refl refl (text_of here.policies name)
+  show accessors one (on_policy name PolicyCommand.Show) means (inr some) =
+      shown_there (on_policy name PolicyCommand.Show) means refl refl (text_of here.policies name)
       (there_too (is_root name)) (λ text. plain_reply (names_of a.words).request (policy_object name text)) refl
     where
       there_too : (v : Bool) → (if v then Some [] else get here.policies name) ≢ None
       there_too true none = none-some _ (sym none)
       there_too false none = some none
-  show accessors one (on_mount name of_mount.List) means there =
-      replied (on_mount name of_mount.List) means refl refl _ _ None refl refl
-  show accessors one (on_issued p (of_issued.Verify credential)) means there =
-      replied (on_issued p (of_issued.Verify credential)) means refl refl _ _ None refl refl
-  show accessors one (on_issued p of_issued.ShowRole) means there =
-      shown_there (on_issued p of_issued.ShowRole) means refl refl (get here.roles (named p)) there
+  show accessors one (on_mount name MountCommand.List) means there =
+      replied (on_mount name MountCommand.List) means refl refl _ _ None refl refl
+  show accessors one (on_issued p (IssuedCommand.Verify credential)) means there =
+      replied (on_issued p (IssuedCommand.Verify credential)) means refl refl _ _ None refl refl
+  show accessors one (on_issued p IssuedCommand.ShowRole) means there =
+      shown_there (on_issued p IssuedCommand.ShowRole) means refl refl (get here.roles (named p)) there
       (λ r. plain_reply (names_of a.words).request (role_object r.max_ttl r.ttl)) refl
-  show accessors one (on_secret p of_secret.ShowSettings) means there =
-      shown_there (on_secret p of_secret.ShowSettings) means refl refl (get here.mounts p.mount) there
+  show accessors one (on_secret p SecretCommand.ShowSettings) means there =
+      shown_there (on_secret p SecretCommand.ShowSettings) means refl refl (get here.mounts p.mount) there
       (settings_reply (names_of a.words).request) refl
-  show accessors one (on_secret p of_secret.List) means (q, some, is) =
-      list_there (on_secret p of_secret.List) means refl refl
+  show accessors one (on_secret p SecretCommand.List) means (q, some, is) =
+      list_there (on_secret p SecretCommand.List) means refl refl
       (children (secret_name p.mount (folder p.path)) (keys here.secrets))
       (has_children here.secrets (secret_name p.mount (folder p.path)) q some (begins p.path refl))
       refl
@@ -564,14 +553,15 @@ module _ (decide : PoliciesDecide) (a : Asking) (is : a.outcome ≡ step a.broke
       begins (c ∷ path) at =
           ap (λ u. starts_with nat_eq q (p.mount ++ slash ∷ (u ++ slash ∷ []))) (sym at)
           ∙ is.below (λ none. no_cons c path (sym at ∙ none))
-  show accessors one (on_secret p of_secret.ShowMetadata) means there =
-      shown_there (on_secret p of_secret.ShowMetadata) means refl refl (secrets.metadata here p.mount p.path)
+  show accessors one (on_secret p SecretCommand.ShowMetadata) means there =
+      shown_there (on_secret p SecretCommand.ShowMetadata) means refl refl (secrets.metadata here p.mount p.path)
       (λ none. there (mapped_none metadata_of (get here.secrets (named p)) none))
       (metadata_reply (names_of a.words).request) refl
   show accessors one _ means there = absurd there
 
   revoke_accessor : AccessorsNameTheirTokens → OnePlaceEach a.broker → (accessor : Text)
-      → command_of (clocked a).mounts a.ask ≡ Ok (on_token (of_token.RevokeAccessor accessor)) → HasAccessor a accessor
+      → command_of (clocked a).mounts a.ask ≡ Ok (on_token (TokenCommand.RevokeAccessor accessor))
+      → HasAccessor a accessor
       → a.outcome.response ≡ no_content
   revoke_accessor accessors one accessor means (inl has) =
       revoke_found accessor means has.0
@@ -582,41 +572,41 @@ module _ (decide : PoliciesDecide) (a : Asking) (is : a.outcome ≡ step a.broke
 
   change_it : (command : Command) → command_of (clocked a).mounts a.ask ≡ Ok command → MayChange a command
       → a.outcome.response ≡ no_content
-  change_it (on_policy name (of_policy.Set text)) means (named, root, is) =
-      answer (on_policy name (of_policy.Set text)) means refl refl _
+  change_it (on_policy name (PolicyCommand.Set text)) means (named, root, is) =
+      answer (on_policy name (PolicyCommand.Set text)) means refl refl _
       (ap (λ (r : Result (Map Text) Refusal). r >>= (λ next. Ok (plainly nothing (record here { policies = next }))))
       (sets here.policies name text named root is))
-  change_it (on_policy name of_policy.Remove) means (root, default) =
-      answer (on_policy name of_policy.Remove) means refl refl _
+  change_it (on_policy name PolicyCommand.Remove) means (root, default) =
+      answer (on_policy name PolicyCommand.Remove) means refl refl _
       (ap (λ (r : Result (Map Text) Refusal). r >>= (λ next. Ok (plainly nothing (record here { policies = next }))))
       (removes here.policies name root default))
-  change_it (on_issued p (of_issued.SetRole asked)) means named =
-      answer (on_issued p (of_issued.SetRole asked)) means refl refl _
-      (ap (λ v. unless v (refusal.BadRequest reason.InvalidName)
+  change_it (on_issued p (IssuedCommand.SetRole asked)) means named =
+      answer (on_issued p (IssuedCommand.SetRole asked)) means refl refl _
+      (ap (λ v. unless v (Refusal.BadRequest Reason.InvalidName)
       >>= (λ u. Ok (record here {
         roles = put here.roles (role_name p.mount p.path) (record { ttl = asked.ttl; max_ttl = asked.max_ttl });
       })) >>= (λ next. Ok (plainly nothing next))) named)
-  change_it (on_mount name (of_mount.Enable asked)) means may =
-      answer (on_mount name (of_mount.Enable asked)) means refl refl _
+  change_it (on_mount name (MountCommand.Enable asked)) means may =
+      answer (on_mount name (MountCommand.Enable asked)) means refl refl _
       (ap (λ (r : Result (Map Mount) Refusal). r >>= (λ next. Ok (plainly nothing (record here { mounts = next }))))
       (comes a name asked may))
-  change_it (on_mount name of_mount.Disable) means (sys, auth, own) =
-      answer (on_mount name of_mount.Disable) means refl refl _
+  change_it (on_mount name MountCommand.Disable) means (sys, auth, own) =
+      answer (on_mount name MountCommand.Disable) means refl refl _
       (ap (λ (r : Result ⊤ Refusal). r >>= (λ free. Ok (without here.mounts name))
       >>= (λ next. Ok (plainly nothing
       (if is_some (get here.mounts name) then without_kept (record here { mounts = next }) name else here))))
       (goes name sys auth own))
   change_it _ means may = absurd may
 
-  read_own : (path : Text) → command_of (clocked a).mounts a.ask ≡ Ok (on_cubbyhole path of_cubbyhole.Read)
-      → get k.own.cubbyhole path ≢ None → a.outcome.response.status ≡ status.Success
+  read_own : (path : Text) → command_of (clocked a).mounts a.ask ≡ Ok (on_cubbyhole path CubbyholeCommand.Read)
+      → get k.own.cubbyhole path ≢ None → a.outcome.response.status ≡ Status.Success
   read_own path means some = elim (found_or_not (get k.own.cubbyhole path)) [
     | inl away ↦ absurd (some away)
     | inr text ↦
         let names = names_of a.words in
         let answer : Text → Done = λ kept. plainly (reply (plain_reply names.request kept) None) here in
-        replied (on_cubbyhole path of_cubbyhole.Read) means refl refl (answer text.0) _ None
-        (ap (λ (o : Option Text). some_or refusal.NotFound o >>= (λ kept. Ok (answer kept)))
+        replied (on_cubbyhole path CubbyholeCommand.Read) means refl refl (answer text.0) _ None
+        (ap (λ (o : Option Text). some_or Refusal.NotFound o >>= (λ kept. Ok (answer kept)))
         (ap (option_and_then (λ (x : Token). get x.cubbyhole path)) k.calls.there ∙ text.1)) refl
   ]
 

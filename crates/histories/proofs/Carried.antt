@@ -1,12 +1,10 @@
 -- What a command leads to that is not refused before its operation: what the operation answers is the answer.
-use Rattle.std.proofs.Common.{◌≡◌, ◌||◌, ◌&&◌, ◌∷◌, if◌then◌else◌, List, Bool, true, false, not, nat_lt, Option, Some}
-use Rattle.broker_model.specs.Words.{None, Result, Ok, refl, ◌∙◌, ap, inl, Text, Broker, Names, names_of, Done, ◌>>=◌}
-use Rattle.broker_model.specs.Words.{unless, are_new, Refusal, act, Command, command_of, Outcome, Wrapped, finish}
-use Rattle.broker_model.specs.Words.{needed, permission_denied, response_to, unwrapped, wrap_200, wrapped, permits}
-use Rattle.broker_model.specs.Words.{Request, is_open, is_wrapped, operated, request_of, step, traits}
-use Rattle.broker_types.specs.declared.refusal.Reason.TheVariants as reason
-use Rattle.broker_types.specs.declared.refusal.Refusal.TheVariants as refusal
-use Rattle.histories.specs.Words.{IsAllowed, Asking, clocked, spent_by, PoliciesDecide}
+use Rattle.histories.specs.Words.{◌≡◌, ◌||◌, ◌&&◌, ◌∷◌, if◌then◌else◌, List, Bool, true, false, not, nat_lt, Option}
+use Rattle.histories.specs.Words.{Some, None, Result, Ok, refl, ◌∙◌, ap, inl, Text, Broker, Names, names_of, Done}
+use Rattle.histories.specs.Words.{◌>>=◌, unless, are_new, Refusal, act, Command, command_of, Outcome, Wrapped, finish}
+use Rattle.histories.specs.Words.{needed, permission_denied, response_to, unwrapped, wrap_200, wrapped, permits}
+use Rattle.histories.specs.Words.{Request, is_open, is_wrapped, operated, request_of, step, traits, Reason, IsAllowed}
+use Rattle.histories.specs.Words.{Asking, clocked, spent_by, PoliciesDecide}
 use Rattle.histories.proofs.OrderCases.{with_caller}
 
 module _ (a : Asking) (is : a.outcome ≡ step a.broker a.moment a.words a.ask) (command : Command)
@@ -56,9 +54,9 @@ module _ (a : Asking) (start : Broker) (who : Option Text) (command : Command)
       let tried : Result Done Refusal → Result Wrapped Refusal =
       λ r. r >>= (λ d. Ok (wrapped permits traits act start q names command d)) in
       let asked : Bool → Result Wrapped Refusal =
-      λ v. unless v (refusal.BadRequest reason.WrappingRequired) >>= (λ w. tried (act start who names command)) in
+      λ v. unless v (Refusal.BadRequest Reason.WrappingRequired) >>= (λ w. tried (act start who names command)) in
       carried
-      ∙ ap (λ v. finish start who (unless v refusal.IdentifierUsed
+      ∙ ap (λ v. finish start who (unless v Refusal.IdentifierUsed
       >>= (λ u. asked (not (traits command).must_wrap || nat_lt 0 q.wrap_ttl)))) new
       ∙ ap (λ v. finish start who (asked v)) may
       ∙ ap (λ r. finish start who (tried r)) acted

@@ -1,26 +1,21 @@
 -- How a request goes for tokens: it leaves them, or its client token spends a use, and it is refused or carried out.
-use Rattle.std.proofs.Common.{◌≡◌, ◌≢◌, ◌⊎◌, ◌&&◌, ◌||◌, ◌-◌, ◌==◌, if◌then◌else◌, not, nat_lt, ℕ, max, Bool, true, Ok}
-use Rattle.broker_model.specs.Words.{false, is_some, Option, Some, None, Result, Err, option_map, option_map_or, refl}
-use Rattle.broker_model.specs.Words.{sym, ◌∙◌, ap, subst, inl, inr, false≢true, none-some, same_Some, Text, same}
-use Rattle.broker_model.specs.Words.{same_self, same_true, get, valued_is, Broker, Waiting, is_under, names_of, nothing}
-use Rattle.broker_model.specs.Words.{reply, Done, found_or_not, identifier_at, token_identifier, unless, ok_step, Sound}
-use Rattle.broker_model.specs.Words.{end_spent, is_spent, one_less, Token, Tokens, alive_is, under_self, are_new}
-use Rattle.broker_model.specs.Words.{Refusal, Reply, ok_inj, act, Command, command_of, Does, forms, OperationsDoAsTold}
-use Rattle.broker_model.specs.Words.{Outcome, Wrapped, counted, finish, needed, permission_denied, response_to, serve}
-use Rattle.broker_model.specs.Words.{unwrapped, wrap, wrapped, permits, Request, no_content, is_open, request_of, step}
-use Rattle.broker_model.specs.Words.{traits}
 use Rattle.broker_types.specs.IdentifierPlaces as place
-use Rattle.broker_types.specs.declared.refusal.Refusal.TheVariants as refusal
-use Rattle.broker_types.specs.declared.refusal.Reason.TheVariants as reason
-use Rattle.broker_types.specs.declared.status.Status.TheVariants as status
-use Rattle.histories.specs.Words.{Asking, clocked, spent_by, DiffersInWaiting, IsClient, has_no_use, left_by_caller}
+use Rattle.histories.specs.Words.{◌≡◌, ◌≢◌, ◌⊎◌, ◌&&◌, ◌||◌, ◌-◌, ◌==◌, if◌then◌else◌, not, nat_lt, ℕ, max, Bool, true}
+use Rattle.histories.specs.Words.{Ok, false, is_some, Option, Some, None, Result, Err, option_map, option_map_or, refl}
+use Rattle.histories.specs.Words.{sym, ◌∙◌, ap, subst, inl, inr, false≢true, none-some, same_Some, Text, same}
+use Rattle.histories.specs.Words.{same_self, same_true, get, valued_is, Broker, Waiting, is_under, names_of, nothing}
+use Rattle.histories.specs.Words.{reply, Done, found_or_not, identifier_at, token_identifier, unless, ok_step, Sound}
+use Rattle.histories.specs.Words.{end_spent, is_spent, one_less, Token, Tokens, alive_is, under_self, are_new, Refusal}
+use Rattle.histories.specs.Words.{Reply, ok_inj, act, Command, command_of, Does, forms, OperationsDoAsTold, Outcome}
+use Rattle.histories.specs.Words.{Wrapped, counted, finish, needed, permission_denied, response_to, serve, unwrapped}
+use Rattle.histories.specs.Words.{wrap, wrapped, permits, Request, no_content, is_open, request_of, step, traits}
+use Rattle.histories.specs.Words.{Reason, Status, Asking, clocked, spent_by, DiffersInWaiting, IsClient, has_no_use}
+use Rattle.histories.specs.Words.{left_by_caller}
 use Rattle.histories.proofs.InOrder.{in_order}
 use Rattle.histories.proofs.Lasting.{waited_before}
-use Rattle.histories.proofs.OpenRequests.{changes_no_token}
-use Rattle.histories.proofs.OrderCases.{IsCaller, spent}
-use Rattle.histories.proofs.OrderKeeps.{end_spent_same, wrapped_cases}
+use Rattle.histories.proofs.Routes.{changes_no_token}
+use Rattle.histories.proofs.Order.{IsCaller, spent, end_spent_same, wrapped_cases, nothing_is_no_reply}
 use Rattle.histories.proofs.Revoking.{end_spent_leaves}
-use Rattle.histories.proofs.Served.{nothing_is_no_reply}
 
 -- ---- the end of a client token that has spent its last use
 
@@ -97,7 +92,7 @@ module _ (a : Asking) where
     pub acted : act (spent_by a c) (Some c) (names_of a.words) command ≡ Ok d
     pub does : Does (spent_by a c) (Some c) (names_of a.words) command d
     pub is_200 : (r : Reply) (made : Option Text) → d.answered ≡ reply r made
-        → a.outcome.response.status ≡ status.Success
+        → a.outcome.response.status ≡ Status.Success
     pub is_204 : d.answered ≡ nothing → a.outcome.response ≡ no_content
     pub left : (q : Text) → get a.outcome.next.tokens q ≡ left_by_caller d.next.tokens c q
 
@@ -164,7 +159,7 @@ module _ (told : OperationsDoAsTold) (a : Asking) (sound : Sound forms None a.br
       -- wrapping leaves all but what waits, and a reply is a 200, wrapped or not
       went : (w : Wrapped) → v ≡ w → w.done.next.tokens ≡ d.next.tokens → w.done.next.clock ≡ d.next.clock
           → ((r : Reply) (made : Option Text) → d.answered ≡ reply r made
-          → (response_to w.done.answered).status ≡ status.Success)
+          → (response_to w.done.answered).status ≡ Status.Success)
           → (d.answered ≡ nothing → response_to w.done.answered ≡ no_content) → Course a
       went w is_w tokens clock is_200 is_204 =
           let ended : a.outcome ≡ finish start (Some c) (Ok w) = outcome
@@ -215,9 +210,9 @@ module _ (told : OperationsDoAsTold) (a : Asking) (sound : Sound forms None a.br
         let p = ok_step (unless (q_.is_open || permits start (Some c) q_.verb q_.path) permission_denied) _ v e in
         let r = ok_step (q_.command start) _ v p.2 in
         let n = ok_step (unless (are_new start.used (needed permits traits act q_
-        (names_of a.words) r.0)) refusal.IdentifierUsed) _ v r.2 in
+        (names_of a.words) r.0)) Refusal.IdentifierUsed) _ v r.2 in
         let m = ok_step (unless (not (traits r.0).must_wrap || nat_lt 0 q_.wrap_ttl)
-        (refusal.BadRequest reason.WrappingRequired)) _ v n.2 in
+        (Refusal.BadRequest Reason.WrappingRequired)) _ v n.2 in
         let f = ok_step (act start (Some c) (names_of a.words) r.0) _ v m.2 in
         carried_out v r.0 f.0 r.1 f.1 (ok_inj f.2) outcome
 

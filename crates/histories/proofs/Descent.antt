@@ -1,33 +1,23 @@
 -- What becomes of each token by a request, with its cubbyhole and its leases, and which token it makes.
-use Rattle.std.proofs.Common.{◌≡◌, ◌⊎◌, if◌then◌else◌, ◌≢◌, ℕ, Bool, true, false, not, cond, is_some, Option, Some, Ok}
-use Rattle.broker_model.specs.Words.{None, option_map, option_and_then, ⊤, refl, sym, ◌∙◌, ap, subst, inl, inr}
-use Rattle.broker_model.specs.Words.{false≢true, none-some, same_Some, Text, same, same_self, same_true, Map, get, put}
-use Rattle.broker_model.specs.Words.{without, get-change, get-map_values, get-put, get-without, Broker, names_of, Names}
-use Rattle.broker_model.specs.Words.{Response, nothing, Done, some_or, unless, ok_step, unless_ok, Token, Tokens, Lease}
-use Rattle.broker_model.specs.Words.{is_under, orphaned_by, get-revoke, token_text, Sound, is_there, ok_inj}
-use Rattle.broker_model.specs.Words.{token_entry, TokenCreation, Command, on_cubbyhole, on_issued, on_lease, on_mount}
-use Rattle.broker_model.specs.Words.{on_policy, on_secret, on_token, on_wrapping, traits, step, may_change, stay, Fate}
-use Rattle.broker_model.specs.Words.{Named, make, orphan, renew, text_named, cubbyhole_changes, issued_changes}
-use Rattle.broker_model.specs.Words.{lease_changes, mount_changes, token_fate, Both, IsFated, Stay, StaysAt}
-use Rattle.broker_model.specs.Words.{is_privileged, making_path, may_make, new_parent, new_policies, new_token, known}
-use Rattle.broker_model.specs.Words.{new_end, forms, OperationsDoAsTold}
-use Rattle.broker_types.specs.declared.refusal.Refusal.TheVariants as refusal
-use Rattle.broker_types.specs.declared.refusal.Reason.TheVariants as reason
-use Rattle.records.specs.declared.kind.Kind.TheVariants as kind
-use Rattle.cubbyhole.specs.Cubbyhole as cubbyhole
-use Rattle.token_tree.specs.Tokens as tree
 use Rattle.broker_model.specs.Traits.{revoke}
-use Rattle.histories.specs.Words.{CubbyholeCommand, IssuedCommand, LeaseCommand, MountCommand, TokenCommand, Making}
-use Rattle.histories.specs.Words.{OfCaller, WithoutParent, Asking, clocked, spent_by, EditsCubbyhole, Edits, IsRevoked}
-use Rattle.histories.specs.Words.{LeaseBecomes, RenewalOf, RenewsToken, TokenStands, IsRenewedTo, increment_of}
-use Rattle.histories.specs.Words.{with_changed, IsClient, IsMade, IsOrphaned, orphaning_by, parent_asked, WasToken}
-use Rattle.histories.specs.Words.{IsGranted, RevokesAlone, left_by_caller, revoked_by}
-use Rattle.broker_model.specs.declared.commands.CubbyholeCommand.TheVariants as of_cubbyhole
-use Rattle.broker_model.specs.declared.commands.IssuedCommand.TheVariants as of_issued
-use Rattle.broker_model.specs.declared.commands.LeaseCommand.TheVariants as of_lease
-use Rattle.broker_model.specs.declared.commands.MountCommand.TheVariants as of_mount
-use Rattle.broker_model.specs.declared.commands.TokenCommand.TheVariants as of_token
-use Rattle.broker_model.specs.parts.Tokens as tokens
+use Rattle.histories.specs.Words.{edited, with_cubbyhole, with_end, create, renew_token, revoke_alone, revoke_token}
+use Rattle.histories.specs.Words.{◌≡◌, ◌⊎◌, if◌then◌else◌, ◌≢◌, ℕ, Bool, true, false, not, cond, is_some, Option, Some}
+use Rattle.histories.specs.Words.{Ok, None, option_map, option_and_then, ⊤, refl, sym, ◌∙◌, ap, subst, inl, inr}
+use Rattle.histories.specs.Words.{false≢true, none-some, same_Some, Text, same, same_self, same_true, Map, get, put}
+use Rattle.histories.specs.Words.{without, get-change, get-map_values, get-put, get-without, Broker, names_of, Names}
+use Rattle.histories.specs.Words.{Response, nothing, Done, some_or, unless, ok_step, unless_ok, Token, Tokens, Lease}
+use Rattle.histories.specs.Words.{is_under, orphaned_by, get-revoke, token_text, Sound, is_there, ok_inj, token_entry}
+use Rattle.histories.specs.Words.{TokenCreation, Command, on_cubbyhole, on_issued, on_lease, on_mount, on_policy}
+use Rattle.histories.specs.Words.{on_secret, on_token, on_wrapping, traits, step, may_change, stay, Fate, Named, make}
+use Rattle.histories.specs.Words.{orphan, renew, text_named, cubbyhole_changes, issued_changes, lease_changes}
+use Rattle.histories.specs.Words.{mount_changes, token_fate, Both, IsFated, Stay, StaysAt, is_privileged, making_path}
+use Rattle.histories.specs.Words.{may_make, new_parent, new_policies, new_token, known, new_end, forms}
+use Rattle.histories.specs.Words.{OperationsDoAsTold, Refusal, Reason, Kind, CubbyholeCommand, IssuedCommand}
+use Rattle.histories.specs.Words.{LeaseCommand, MountCommand, TokenCommand, Making, OfCaller, WithoutParent, Asking}
+use Rattle.histories.specs.Words.{clocked, spent_by, EditsCubbyhole, Edits, IsRevoked, LeaseBecomes, RenewalOf}
+use Rattle.histories.specs.Words.{RenewsToken, TokenStands, IsRenewedTo, increment_of, with_changed, IsClient, IsMade}
+use Rattle.histories.specs.Words.{IsOrphaned, orphaning_by, parent_asked, WasToken, IsGranted, RevokesAlone}
+use Rattle.histories.specs.Words.{left_by_caller, revoked_by}
 use Rattle.histories.proofs.Clients.{CarriesOut, from_clock, Course, FromClock, course, from_itself, left_is}
 use Rattle.histories.proofs.Clients.{left_unspent}
 use Rattle.histories.proofs.LeaseChanges.{edited_is, leases_left, policies_neither, responses_neither, secrets_neither}
@@ -36,16 +26,16 @@ use Rattle.histories.proofs.OrderCases.{some_ok}
 use Rattle.histories.proofs.RenewedEnds.{is_new_end}
 
 -- those that change no cubbyhole
-leases_no_cubbyhole : (k : LeaseCommand) → may_change (lease_changes k) kind.Cubby ≡ false
-leases_no_cubbyhole (of_lease.LookUp id) = refl
+leases_no_cubbyhole : (k : LeaseCommand) → may_change (lease_changes k) Kind.Cubby ≡ false
+leases_no_cubbyhole (LeaseCommand.LookUp id) = refl
 leases_no_cubbyhole _ = refl
 
-mounts_no_cubbyhole : (k : MountCommand) → may_change (mount_changes k) kind.Cubby ≡ false
-mounts_no_cubbyhole of_mount.List = refl
+mounts_no_cubbyhole : (k : MountCommand) → may_change (mount_changes k) Kind.Cubby ≡ false
+mounts_no_cubbyhole MountCommand.List = refl
 mounts_no_cubbyhole _ = refl
 
-issued_no_cubbyhole : (k : IssuedCommand) → may_change (issued_changes k) kind.Cubby ≡ false
-issued_no_cubbyhole of_issued.ShowRole = refl
+issued_no_cubbyhole : (k : IssuedCommand) → may_change (issued_changes k) Kind.Cubby ≡ false
+issued_no_cubbyhole IssuedCommand.ShowRole = refl
 issued_no_cubbyhole _ = refl
 
 -- ---- its cubbyhole
@@ -59,15 +49,15 @@ module _ (a : Asking) (c : Text) (q : Text) (x y : Token) (was : get (spent_by a
     -- an edit at a path changes no other
     edited_at : (p : Text) (k : CubbyholeCommand) → CarriesOut a c (on_cubbyhole p k) d
         → IsClient a q → d.answered ≡ nothing → (edit : Map Text → Map Text) (new : Option Text) → Edits new k
-        → d.next.tokens ≡ (cubbyhole.edited (spent_by a c) c edit).tokens
+        → d.next.tokens ≡ (edited (spent_by a c) c edit).tokens
         → ((m : Map Text) → get (edit m) path ≡ cond (same path p) new (get m path)) → AtPath
     edited_at p k s client answered edit new edits next at_each =
         at_path (same path p) refl
         (ap (λ (z : Token). get z.cubbyhole path)
-        (edited_is a c q x y was d is (λ u z. if same u c then cubbyhole.with_cubbyhole edit z else z) next
-        ∙ ap (λ u. if same u c then cubbyhole.with_cubbyhole edit x else x)
+        (edited_is a c q x y was d is (λ u z. if same u c then with_cubbyhole edit z else z) next
+        ∙ ap (λ u. if same u c then with_cubbyhole edit x else x)
         (same_Some _ _ (sym client.token ∙ s.client.token))
-        ∙ ap (λ v. if v then cubbyhole.with_cubbyhole edit x else x) (same_self c))
+        ∙ ap (λ v. if v then with_cubbyhole edit x else x) (same_self c))
         ∙ at_each x.cubbyhole)
       where
         at_path : (v : Bool) → same path p ≡ v → get y.cubbyhole path ≡ cond (same path p) new (get x.cubbyhole path)
@@ -83,22 +73,22 @@ module _ (a : Asking) (c : Text) (q : Text) (x y : Token) (was : get (spent_by a
         at_path false apart e = inl (e ∙ ap (λ v. cond v new (get x.cubbyhole path)) apart)
 
     at_cubbyhole : (p : Text) (k : CubbyholeCommand) → CarriesOut a c (on_cubbyhole p k) d
-        → IsClient a q → may_change (cubbyhole_changes k) kind.Cubby ≡ true → AtPath
-    at_cubbyhole p (of_cubbyhole.Write full) s client may =
-        let text = ok_step (some_or (refusal.BadRequest reason.MissingData) full) _ d s.acted in
-        edited_at p (of_cubbyhole.Write full) s client (ap (λ (z : Done). z.answered) (sym (ok_inj text.2)))
+        → IsClient a q → may_change (cubbyhole_changes k) Kind.Cubby ≡ true → AtPath
+    at_cubbyhole p (CubbyholeCommand.Write full) s client may =
+        let text = ok_step (some_or (Refusal.BadRequest Reason.MissingData) full) _ d s.acted in
+        edited_at p (CubbyholeCommand.Write full) s client (ap (λ (z : Done). z.answered) (sym (ok_inj text.2)))
         (λ m. put m p text.0) (Some text.0) (sym (some_ok _ full text.1))
         (ap (λ (z : Done). z.next.tokens) (sym (ok_inj text.2)))
         (λ m. get-put m p text.0 path)
-    at_cubbyhole p of_cubbyhole.Delete s client may =
-        edited_at p of_cubbyhole.Delete s client (ap (λ (z : Done). z.answered) (sym (ok_inj s.acted)))
+    at_cubbyhole p CubbyholeCommand.Delete s client may =
+        edited_at p CubbyholeCommand.Delete s client (ap (λ (z : Done). z.answered) (sym (ok_inj s.acted)))
         (λ m. without m p) None refl (ap (λ (z : Done). z.next.tokens) (sym (ok_inj s.acted)))
         (λ m. get-without m p path)
     at_cubbyhole p _ s client may = absurd (false≢true may)
 
     -- what may change a cubbyhole, changes it at its own path alone
     pub cubbyhole_left : (command : Command) → CarriesOut a c command d → IsClient a q
-        → (traits command).fate ≡ stay → may_change (traits command).changes kind.Cubby ≡ true → AtPath
+        → (traits command).fate ≡ stay → may_change (traits command).changes Kind.Cubby ≡ true → AtPath
     cubbyhole_left (on_cubbyhole p k) s client fate may = at_cubbyhole p k s client may
     cubbyhole_left (on_token k) s client fate may = absurd (false≢true (sym (tokens_neither k fate).0 ∙ may))
     cubbyhole_left (on_secret p k) s client fate may = absurd (false≢true (sym (secrets_neither k).0 ∙ may))
@@ -117,12 +107,12 @@ parent_is c OfCaller asked = refl
 parent_is c WithoutParent asked = refl
 
 creation_of : (k : TokenCommand) (making : Making) (asked : TokenCreation) → token_fate k ≡ make making asked
-    → k ≡ of_token.Create making asked
-creation_of (of_token.Create m x) making asked e = cc
+    → k ≡ TokenCommand.Create making asked
+creation_of (TokenCommand.Create m x) making asked e = cc
 creation_of _ making asked e = absurd (cc)
 
 creation_is : (command : Command) (making : Making) (asked : TokenCreation) → (traits command).fate ≡ make making asked
-    → command ≡ on_token (of_token.Create making asked)
+    → command ≡ on_token (TokenCommand.Create making asked)
 creation_is (on_token k) making asked e = ap on_token (creation_of k making asked e)
 creation_is _ making asked e = absurd (cc)
 
@@ -135,8 +125,8 @@ same_increment e = cc
 -- and for how long
 increment_is : (k : TokenCommand) (named : Named) (increment : ℕ) → token_fate k ≡ renew named increment
     → increment ≡ increment_of k
-increment_is (of_token.Renew asked) named increment e = same_increment e
-increment_is (of_token.RenewSelf n) named increment e = same_increment e
+increment_is (TokenCommand.Renew asked) named increment e = same_increment e
+increment_is (TokenCommand.RenewSelf n) named increment e = same_increment e
 increment_is _ named increment e = absurd (cc)
 
 same_revoked : {x y : Named} → revoke x ≡ revoke y → x ≡ y
@@ -145,8 +135,8 @@ same_revoked e = cc
 -- where the caller names t
 module _ (b : Broker) (c t : Text) (named : Named) (is : text_named b c named ≡ Some t) where
   renewal_of : (k : TokenCommand) (increment : ℕ) → token_fate k ≡ renew named increment → RenewalOf c t k
-  renewal_of (of_token.Renew asked) increment e = same_Some _ _ (ap (text_named b c) (same_renewed e) ∙ is)
-  renewal_of (of_token.RenewSelf n) increment e = same_Some _ _ (ap (text_named b c) (same_renewed e) ∙ is)
+  renewal_of (TokenCommand.Renew asked) increment e = same_Some _ _ (ap (text_named b c) (same_renewed e) ∙ is)
+  renewal_of (TokenCommand.RenewSelf n) increment e = same_Some _ _ (ap (text_named b c) (same_renewed e) ∙ is)
   renewal_of _ increment e = absurd (cc)
 
   renewal_is : (command : Command) (increment : ℕ) → (traits command).fate ≡ renew named increment
@@ -155,9 +145,9 @@ module _ (b : Broker) (c t : Text) (named : Named) (is : text_named b c named �
   renewal_is _ increment e = absurd (cc)
 
   revocation_of : (k : TokenCommand) → token_fate k ≡ revoke named → revoked_by b c (on_token k) ≡ Some t
-  revocation_of (of_token.Revoke u) e = ap (text_named b c) (same_revoked e) ∙ is
-  revocation_of (of_token.RevokeAccessor accessor) e = ap (text_named b c) (same_revoked e) ∙ is
-  revocation_of of_token.RevokeSelf e = ap (text_named b c) (same_revoked e) ∙ is
+  revocation_of (TokenCommand.Revoke u) e = ap (text_named b c) (same_revoked e) ∙ is
+  revocation_of (TokenCommand.RevokeAccessor accessor) e = ap (text_named b c) (same_revoked e) ∙ is
+  revocation_of TokenCommand.RevokeSelf e = ap (text_named b c) (same_revoked e) ∙ is
   revocation_of _ e = absurd (cc)
 
   revocation_is : (command : Command) → (traits command).fate ≡ revoke named → revoked_by b c command ≡ Some t
@@ -165,7 +155,7 @@ module _ (b : Broker) (c t : Text) (named : Named) (is : text_named b c named �
   revocation_is _ e = absurd (cc)
 
 orphaning_of : (k : TokenCommand) (t : Text) → token_fate k ≡ orphan t → orphaning_by (on_token k) ≡ Some t
-orphaning_of (of_token.RevokeOrphan u) t e = cc
+orphaning_of (TokenCommand.RevokeOrphan u) t e = cc
 orphaning_of _ t e = absurd (cc)
 
 orphaning_is : (command : Command) (t : Text) → (traits command).fate ≡ orphan t → orphaning_by command ≡ Some t
@@ -306,8 +296,8 @@ module _ (a : Asking) where
           rest = subst (λ (z : Token). z ≡ with_changed z x) (sym both.rest) refl;
         })
 
-    created : (making : Making) (asked : TokenCreation) → command ≡ on_token (of_token.Create making asked)
-        → tokens.create start c names making asked ≡ Ok d → Here
+    created : (making : Making) (asked : TokenCreation) → command ≡ on_token (TokenCommand.Create making asked)
+        → create start c names making asked ≡ Ok d → Here
     created making asked is_creation e =
         let x = ok_step (known start c) _ d e in
         let privileged = is_privileged start (making_path making) x.0 in
@@ -341,11 +331,11 @@ module _ (a : Asking) where
 
     renewed : (t : Text) (increment : ℕ)
         → ((k : TokenCommand) × (command ≡ on_token k) × RenewalOf c t k × (increment ≡ increment_of k))
-        → tokens.renew_token start names t increment ≡ Ok d → Here
+        → renew_token start names t increment ≡ Ok d → Here
     renewed t increment k e =
         let x = ok_step (known start t) _ d e in
-        let ending = ok_step (unless (is_some x.0.ends) (refusal.BadRequest reason.TokenNotRenewable)) _ d x.2 in
-        let f = tree.with_end (new_end start.clock (token_entry x.0) increment) in
+        let ending = ok_step (unless (is_some x.0.ends) (Refusal.BadRequest Reason.TokenNotRenewable)) _ d x.2 in
+        let f = with_end (new_end start.clock (token_entry x.0) increment) in
         let answered = s.is_200 _ _ (ap (λ (z : Done). z.answered) (sym (ok_inj ending.2))) in
         let had = is_there x.0.ends (unless_ok _ _ ending.0 ending.1) in
         subst (Fated q (get start.tokens q))
@@ -376,7 +366,7 @@ module _ (a : Asking) where
               ] refl
         ] refl)
 
-    revoked : (t : Text) → revoked_by start c command ≡ Some t → d ≡ tokens.revoke_token start t → Here
+    revoked : (t : Text) → revoked_by start c command ≡ Some t → d ≡ revoke_token start t → Here
     revoked t text is =
         subst (Fated q (get start.tokens q)) (sym (get-revoke start.tokens t q)
         ∙ ap (λ (z : Done). get z.next.tokens q) (sym is))
@@ -398,7 +388,7 @@ module _ (a : Asking) where
           | false ↦ λ _. fated_itself q (get start.tokens q)
         ] refl)
 
-    orphaned : (t : Text) → orphaning_by command ≡ Some t → d ≡ tokens.revoke_alone start t → Here
+    orphaned : (t : Text) → orphaning_by command ≡ Some t → d ≡ revoke_alone start t → Here
     orphaned t text is =
         let alone : RevokesAlone a c t =
         record { command = command; granted = granted (ap (λ (z : Done). z.answered) is); text = text } in
@@ -426,7 +416,7 @@ module _ (a : Asking) where
     by_fate stay is stays = stays_so is stays
     by_fate (make making asked) is (u, is_u, e) =
         created making asked (creation_is command making asked is)
-        (subst (λ v. tokens.create start v names making asked ≡ Ok d) (sym (same_Some _ _ is_u)) e)
+        (subst (λ v. create start v names making asked ≡ Ok d) (sym (same_Some _ _ is_u)) e)
     by_fate (renew named increment) is (u, t, is_u, named_, e) =
         renewed t increment (renewal_is start c t named
         (ap (λ v. text_named start v named) (same_Some _ _ is_u) ∙ named_) command increment is) e

@@ -1,26 +1,22 @@
 -- Permission and look-ups are as they are documented.
-use Rattle.std.proofs.Common.{◌≡◌, ◌⊎◌, ◌||◌, ◌++◌, if◌then◌else◌, ◌∷◌, ℕ, drop, length, nat_eq, not, List, [], Bool}
-use Rattle.broker_model.specs.Words.{Contains, true, false, is_some, codes, Option, Some, None, Result, Ok, Err}
-use Rattle.broker_model.specs.Words.{option_and_then, unwrap_or, get-empty, find, flat_map, list_any, starts_with}
-use Rattle.broker_model.specs.Words.{option_map_or, refl, sym, ◌∙◌, ap, subst, inl, inr, and_parts, eqb-true}
-use Rattle.broker_model.specs.Words.{false≢true, or_cases, same_Some, any_contained, passing, Map, empty, get, Broker}
-use Rattle.broker_model.specs.Words.{Names, reply, Done, ok_step, Key, Text, same, text_cmp, same_self, same_true}
-use Rattle.broker_model.specs.Words.{Token, Verb, Refusal, lacking_split, slash, split_once, token_entry, ok_inj}
-use Rattle.broker_model.specs.Words.{object_at, key_at, form_of, has_form, is_ending, segments, Route, asks_sudo, cut}
-use Rattle.broker_model.specs.Words.{route_of, row_asks_sudo, facts, route_rows, Operation, Cubbyholes, Leases, Mounts}
-use Rattle.broker_model.specs.Words.{Policies, Secrets, Wrappings, allows, is_granted, is_named, grants, rules_named}
-use Rattle.broker_model.specs.Words.{rules_of, tried, Pattern, is_root, policy_of, Rule, Capability, Create, Sudo}
-use Rattle.broker_model.specs.Words.{Update, find_accessor, asked, asked_by, capability, has_stored, stands_there}
-use Rattle.broker_model.specs.Words.{stored, stored_at, may_ask, token_reply, act_on_tokens, known, named}
-use Rattle.broker_types.specs.declared.ask.Verb.TheVariants as verb
-use Rattle.mounts.specs.Forms.{nothing}
-use Rattle.mounts.specs.declared.mount_type.MountType.TheVariants as mount
-use Rattle.mounts.specs.declared.operation.CubbyholeOperation.TheVariants as cubbyhole
-use Rattle.mounts.specs.declared.operation.Operation.TheVariants.{Issued, Tokens}
-use Rattle.mounts.specs.declared.operation.SecretOperation.TheVariants as secret
-use Rattle.broker_model.specs.declared.commands.TokenCommand.TheVariants as token
+use Rattle.broker_model.specs.Words.{ℕ, drop, length, nat_eq, not, List, [], Bool, Contains, true, false, is_some}
+use Rattle.broker_model.specs.Words.{codes, Option, Some, None, Result, Ok, Err, option_and_then, unwrap_or, get-empty}
+use Rattle.broker_model.specs.Words.{find, flat_map, list_any, starts_with, option_map_or, refl, sym, ◌∙◌, ap, subst}
+use Rattle.broker_model.specs.Words.{inl, inr, and_parts, eqb-true, false≢true, or_cases, same_Some, any_contained}
+use Rattle.broker_model.specs.Words.{passing, Map, empty, get, Broker, Names, reply, Done, ok_step, Key, Text, same}
+use Rattle.broker_model.specs.Words.{text_cmp, same_self, same_true, Token, Verb, Refusal, lacking_split, slash}
+use Rattle.broker_model.specs.Words.{split_once, token_entry, ok_inj, object_at, key_at, form_of, has_form, is_ending}
+use Rattle.broker_model.specs.Words.{segments, Route, asks_sudo, cut, route_of, row_asks_sudo, facts, route_rows}
+use Rattle.broker_model.specs.Words.{Operation, Cubbyholes, Leases, Mounts, Policies, Secrets, Wrappings, allows}
+use Rattle.broker_model.specs.Words.{is_granted, is_named, grants, rules_named, rules_of, tried, Pattern, is_root}
+use Rattle.broker_model.specs.Words.{policy_of, Rule, Capability, Create, Sudo, Update, find_accessor, asked, asked_by}
+use Rattle.broker_model.specs.Words.{capability, has_stored, stands_there, stored, stored_at, may_ask, token_reply}
+use Rattle.broker_model.specs.Words.{act_on_tokens, known, named, MountType, CubbyholeOperation}
+use Rattle.mounts.specs.Words.{nothing}
+use Rattle.mounts.specs.declared.operation.Operation.TheVariants.{Tokens}
+use Rattle.histories.specs.Words.{◌≡◌, ◌⊎◌, ◌||◌, ◌++◌, if◌then◌else◌, ◌∷◌, Issued, SecretOperation, TokenCommand}
 use Rattle.histories.specs.Words.{AccessorsHideTokens, AreAsDocumented, AsksByVerb, MakesAnew, SudoIsNeeded}
-use Rattle.histories.proofs.CreationRoutes.{whole}
+use Rattle.histories.proofs.Routes.{whole}
 use Rattle.histories.proofs.Folders.{folders_listed}
 use Rattle.histories.proofs.OrderCases.{some_ok}
 use Rattle.histories.proofs.Words.{policies_are_read}
@@ -73,13 +69,13 @@ root_everything policies names v path c has_root =
 
 module _ (b : Broker) (c path : Text) where
   abbrev found : Result Route Refusal
-  found = route_of b.mounts verb.Write path
+  found = route_of b.mounts Verb.Write path
 
-  by_there : (v : Bool) → (capability verb.Write v ≡ Update) ⊎ (capability verb.Write v ≡ Create)
+  by_there : (v : Bool) → (capability Verb.Write v ≡ Update) ⊎ (capability Verb.Write v ≡ Create)
   by_there true = inl refl
   by_there false = inr refl
 
-  not_there : (v : Bool) → capability verb.Write v ≡ Create → v ≡ false
+  not_there : (v : Bool) → capability Verb.Write v ≡ Create → v ≡ false
   not_there true e = absurd (cc)
   not_there false e = refl
 
@@ -92,9 +88,11 @@ module _ (b : Broker) (c path : Text) where
       → stands_there (has_stored b c) (stored (Ok (record { operation = o; mount = mount; parameter = parameter })))
       ≡ false
       → MakesAnew b c path
-  by_route (Cubbyholes cubbyhole.Write) mount parameter is e = inl (_, is, refl, none_if (object_at b c parameter) e)
+  by_route (Cubbyholes CubbyholeOperation.Write) mount parameter is e = inl
+      (_, is, refl, none_if (object_at b c parameter) e)
   by_route (Cubbyholes _) mount parameter is e = absurd (false≢true (sym e))
-  by_route (Secrets secret.Write) mount parameter is e = inr (_, is, refl, none_if (key_at b mount parameter) e)
+  by_route (Secrets SecretOperation.Write) mount parameter is e = inr
+      (_, is, refl, none_if (key_at b mount parameter) e)
   by_route (Secrets _) mount parameter is e = absurd (false≢true (sym e))
   by_route (Tokens o) mount parameter is e = absurd (false≢true (sym e))
   by_route (Policies o) mount parameter is e = absurd (false≢true (sym e))
@@ -108,17 +106,17 @@ module _ (b : Broker) (c path : Text) where
   by_found (Err why) is e = absurd (false≢true (sym e))
   by_found (Ok r) is e = by_route r.operation r.mount r.parameter is e
 
-  makes : MakesAnew b c path → asked b c verb.Write path ≡ Create
+  makes : MakesAnew b c path → asked b c Verb.Write path ≡ Create
   makes (inl (r, is, write, none)) =
-      ap (λ (x : Result Route Refusal). asked_by (has_stored b c) verb.Write x) is
-      ∙ ap (λ o. capability verb.Write (stands_there (has_stored b c)
+      ap (λ (x : Result Route Refusal). asked_by (has_stored b c) Verb.Write x) is
+      ∙ ap (λ o. capability Verb.Write (stands_there (has_stored b c)
       (stored_at (facts o).stores r.mount r.parameter))) write
-      ∙ ap (λ (o : Option Text). capability verb.Write (is_some o)) none
+      ∙ ap (λ (o : Option Text). capability Verb.Write (is_some o)) none
   makes (inr (r, is, write, none)) =
-      ap (λ (x : Result Route Refusal). asked_by (has_stored b c) verb.Write x) is
-      ∙ ap (λ o. capability verb.Write (stands_there (has_stored b c)
+      ap (λ (x : Result Route Refusal). asked_by (has_stored b c) Verb.Write x) is
+      ∙ ap (λ o. capability Verb.Write (stands_there (has_stored b c)
       (stored_at (facts o).stores r.mount r.parameter))) write
-      ∙ ap (λ (o : Option Key). capability verb.Write (is_some o)) none
+      ∙ ap (λ (o : Option Key). capability Verb.Write (is_some o)) none
 
   asks : AsksByVerb b c path
   asks = record {
@@ -172,7 +170,7 @@ module _ (rest : Text) where
       ((name ≡ codes "auth") × ((rest ≡ codes "token/accessors") ⊎ (rest ≡ codes "token/revoke-orphan")))
       ⊎ ((name ≡ codes "sys") × ((b : ℕ) × (more : Text) × (rest ≡ codes "leases/revoke-prefix/" ++ b ∷ more)))
 
-  of_tokens : list_any (row_asks_sudo rest) (route_rows mount.Token) ≡ true
+  of_tokens : list_any (row_asks_sudo rest) (route_rows MountType.Token) ≡ true
       → (rest ≡ codes "token/accessors") ⊎ (rest ≡ codes "token/revoke-orphan")
   of_tokens h = elim (or_cases (has_form (form_of (codes "token/revoke-orphan")) rest)
       (has_form (form_of (codes "token/accessors")) rest || false) h) [
@@ -183,7 +181,7 @@ module _ (rest : Text) where
         ]
       ]
 
-  of_system : list_any (row_asks_sudo rest) (route_rows mount.System) ≡ true
+  of_system : list_any (row_asks_sudo rest) (route_rows MountType.System) ≡ true
       → (b : ℕ) × (more : Text) × (rest ≡ codes "leases/revoke-prefix/" ++ b ∷ more)
   of_system h = elim (or_cases (has_form (form_of (codes "leases/revoke-prefix/{*path}")) rest) false h) [
     | inl form ↦ let p = and_parts _ _ form in begun_by (codes "leases/revoke-prefix/") rest p.0 p.1
@@ -193,7 +191,8 @@ module _ (rest : Text) where
   within : (name : Text) (x : Bool) → same name (codes "auth") ≡ x → (y : Bool) → same name (codes "sys") ≡ y
       → (z : Bool)
       → list_any (row_asks_sudo rest) (option_map_or route_rows
-      (if x then Some mount.Token else (if y then Some mount.System else (if z then Some mount.Cubbyhole else None)))
+      (if x then Some MountType.Token else (if y then Some MountType.System else
+      (if z then Some MountType.Cubbyhole else None)))
       []) ≡ true
       → Within name
   within name true at y _ z h = inl (same_true name (codes "auth") at, of_tokens h)
@@ -267,7 +266,7 @@ sudo_needed b c v path h asks = by (get b.tokens c) refl h
 
 module _ (b : Broker) (caller : Text) (names : Names) (accessor t : Text) (x : Token) (d : Done) where
   answers : find_accessor b accessor ≡ Some t → get b.tokens t ≡ Some x
-      → act_on_tokens b caller names (token.LookUpAccessor accessor) ≡ Ok d
+      → act_on_tokens b caller names (TokenCommand.LookUpAccessor accessor) ≡ Ok d
       → d.answered ≡ reply (token_reply names.request b.clock [] (token_entry x)) None
   answers is there e =
       let u = ok_step (named b accessor) _ d e in

@@ -1,13 +1,10 @@
 -- What a request leaves of the secrets, and its status.
-use Rattle.std.proofs.Common.{◌≡◌, ◌⊎◌, if◌then◌else◌, true, false, Option, Some, None, refl, sym, ◌∙◌, ap, subst, inl}
-use Rattle.broker_model.specs.Words.{option_map_or, inr, Text, get, Broker, revoke, Names, names_of, Answered, nothing}
-use Rattle.broker_model.specs.Words.{missing, reply, Done, end_spent, is_spent, Reply, act, Command, Outcome, Wrapped}
-use Rattle.broker_model.specs.Words.{counted, response_to, wrapped, permits, Request, request_of, step, traits}
-use Rattle.broker_types.specs.declared.status.Status.TheVariants as status
-use Rattle.histories.specs.Words.{Asking, clocked}
-use Rattle.histories.proofs.OrderCases.{IsServed, IsTurnedAway, IsTurnedDown, order_cases, spent}
-use Rattle.histories.proofs.OrderKeeps.{wrapped_cases}
-use Rattle.histories.proofs.Served.{Served}
+use Rattle.histories.specs.Words.{◌≡◌, ◌⊎◌, if◌then◌else◌, true, false, Option, Some, None, refl, sym, ◌∙◌, ap, subst}
+use Rattle.histories.specs.Words.{inl, option_map_or, inr, Text, get, Broker, revoke, Names, names_of, Answered}
+use Rattle.histories.specs.Words.{nothing, missing, reply, Done, end_spent, is_spent, Reply, act, Command, Outcome}
+use Rattle.histories.specs.Words.{Wrapped, counted, response_to, wrapped, permits, Request, request_of, step, traits}
+use Rattle.histories.specs.Words.{Status, Asking, clocked}
+use Rattle.histories.proofs.Order.{IsServed, IsTurnedAway, IsTurnedDown, order_cases, spent, wrapped_cases, Served}
 
 -- ---- the secrets
 
@@ -70,7 +67,7 @@ module _ (a : Asking) where
   module _ (s : Served a) where
     -- a reply is a 200, wrapped or not
     pub is_200 : (r : Reply) (made : Option Text) → s.done.answered ≡ reply r made
-        → a.outcome.response.status ≡ status.Success
+        → a.outcome.response.status ≡ Status.Success
     is_200 r made answered =
         ap (λ (z : Outcome). z.response.status) s.outcome
         ∙ elim (wrapped_cases permits traits act (spent now s.caller) (request_of a.ask) (names_of a.words) s.command
@@ -81,7 +78,7 @@ module _ (a : Asking) where
         ]
 
     -- a 404 with a reply is one
-    pub is_404 : (r : Reply) → s.done.answered ≡ missing r → a.outcome.response.status ≡ status.NotFound
+    pub is_404 : (r : Reply) → s.done.answered ≡ missing r → a.outcome.response.status ≡ Status.NotFound
     is_404 r answered =
         ap (λ (z : Outcome). z.response.status) s.outcome
         ∙ elim (wrapped_cases permits traits act (spent now s.caller) (request_of a.ask) (names_of a.words) s.command
@@ -98,7 +95,7 @@ module _ (a : Asking) where
             apart e = cc
 
     -- and nothing a 204
-    pub is_204 : s.done.answered ≡ nothing → a.outcome.response.status ≡ status.NoContent
+    pub is_204 : s.done.answered ≡ nothing → a.outcome.response.status ≡ Status.NoContent
     is_204 answered =
         ap (λ (z : Outcome). z.response.status) s.outcome
         ∙ elim (wrapped_cases permits traits act (spent now s.caller) (request_of a.ask) (names_of a.words) s.command

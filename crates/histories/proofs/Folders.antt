@@ -1,10 +1,9 @@
 -- Which names the list of a folder has.
-use Rattle.std.proofs.Common.{◌≡◌, ◌==◌, ◌&&◌, ◌++◌, ◌∷◌, List, [], Bool, true, false, cond, drop, filter, length, map}
-use Rattle.broker_model.specs.Words.{nat_eq, not, starts_with, is_sorted, refl, sym, ◌∙◌, ap, subst, inl, inr}
-use Rattle.broker_model.specs.Words.{and_parts, eqb-true, false≢true, or_cases, or_left, or_right, not-true, Text, same}
-use Rattle.broker_model.specs.Words.{text_cmp, same_self, same_true, entries, is_ascending, T_true, below, child}
-use Rattle.broker_model.specs.Words.{children, has, set_of, eqb_self, lacks, slash, has_set}
-use Rattle.std.specs.FinMap as fin
+use Rattle.broker_model.specs.Words.{is_sorted, is_ascending, T_true, eqb_self, lacks, entries_sorted}
+use Rattle.histories.specs.Words.{◌≡◌, ◌==◌, ◌&&◌, ◌++◌, ◌∷◌, List, [], Bool, true, false, cond, drop, filter, length}
+use Rattle.histories.specs.Words.{map, nat_eq, not, starts_with, refl, sym, ◌∙◌, ap, subst, inl, inr, and_parts}
+use Rattle.histories.specs.Words.{eqb-true, false≢true, or_cases, or_left, or_right, not-true, Text, same, text_cmp}
+use Rattle.histories.specs.Words.{same_self, same_true, entries, below, child, children, has, set_of, slash, has_set}
 use Rattle.histories.specs.Words.{IsFirstPart, ListsFolder}
 
 -- ---- the first part of a path
@@ -140,7 +139,7 @@ pub folders_listed : (prefix : Text) (paths : List Text) → ListsFolder prefix 
 folders_listed prefix paths =
     let names = map child (below prefix paths) in
     record {
-      once = sorted_ascend (entries (set_of names)) (T_true _ (fin.entries_sorted (set_of names)));
+      once = sorted_ascend (entries (set_of names)) (T_true _ (entries_sorted (set_of names)));
       only = λ name h. only_first prefix paths name (sym (has_set names name) ∙ h);
       all = λ path name h first. has_set names name ∙ all_firsts prefix paths path name h first;
     }

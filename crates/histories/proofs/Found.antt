@@ -1,17 +1,14 @@
 -- Steps of operations that are not refused: what a request names is found, and what it may change is changed.
-use Rattle.std.proofs.Common.{◌≡◌, ◌≢◌, ◌||◌, ◌&&◌, ◌∷◌, [], Bool, true, false, not, Option, Some, None, Result, Ok, ap}
-use Rattle.broker_model.specs.Words.{⊤, List, is_some, is_none, option_and_then, option_map, codes, list_any}
-use Rattle.broker_model.specs.Words.{option_map_or, sym, ◌∙◌, inl, inr, false≢true, Text, same, same_self, same_false}
-use Rattle.broker_model.specs.Words.{Map, first_where, get, put, without, is_name, reserved_names, first_where_is}
-use Rattle.broker_model.specs.Words.{first_where_none, Lease, Token, Broker, Engine, Mount, Waiting, issued, kv}
-use Rattle.broker_model.specs.Words.{are_new, found_or_not, ◌>>=◌, some_or, unless, Refusal, has_lease, has_accessor}
-use Rattle.broker_model.specs.Words.{enabled, engine_asked, may_go, plain_mount, deleted, fixed, is_root, set}
-use Rattle.broker_model.specs.Words.{is_policy, policy_of, unsupported, Rule, MountCreation, holder}
-use Rattle.broker_types.specs.declared.refusal.Reason.TheVariants as reason
-use Rattle.broker_types.specs.declared.refusal.Refusal.TheVariants as refusal
+use Rattle.broker_model.specs.Words.{same_false, has_accessor, deleted, fixed, set, is_policy, unsupported}
 use Rattle.token_tree.specs.Tokens as tree
 use Rattle.wrapping.specs.Wrapping as wrapping
-use Rattle.leases.specs.Leases.{find}
+use Rattle.histories.specs.Words.{◌≡◌, ◌≢◌, ◌||◌, ◌&&◌, ◌∷◌, [], Bool, true, false, not, Option, Some, None, Result, Ok}
+use Rattle.histories.specs.Words.{ap, ⊤, List, is_some, is_none, option_and_then, option_map, codes, list_any}
+use Rattle.histories.specs.Words.{option_map_or, sym, ◌∙◌, inl, inr, false≢true, Text, same, same_self, Map}
+use Rattle.histories.specs.Words.{first_where, get, put, without, is_name, reserved_names, first_where_is}
+use Rattle.histories.specs.Words.{first_where_none, Lease, Token, Broker, Engine, Mount, Waiting, issued, kv, are_new}
+use Rattle.histories.specs.Words.{found_or_not, ◌>>=◌, some_or, unless, Refusal, has_lease, enabled, engine_asked}
+use Rattle.histories.specs.Words.{may_go, plain_mount, is_root, policy_of, Rule, MountCreation, holder, Reason, find}
 use Rattle.histories.specs.Words.{MayEnable, Asking, clocked, MeansEngine}
 
 -- ---- an accessor
@@ -30,7 +27,7 @@ module _ (b : Broker) (accessor : Text) where
   ]
 
   abbrev held_by : Option Text → Result Text Refusal
-  held_by o = some_or (refusal.BadRequest reason.InvalidAccessor) (option_map_or Some o of_waiting)
+  held_by o = some_or (Refusal.BadRequest Reason.InvalidAccessor) (option_map_or Some o of_waiting)
 
   pub held_by_token : (t : Text) → tree.find_accessor b accessor ≡ Some t → holder b accessor ≡ Ok t
   held_by_token t is = ap held_by is
@@ -41,7 +38,7 @@ module _ (b : Broker) (accessor : Text) where
   held_by_waiting t w there has = elim (found_or_not (tree.find_accessor b accessor)) [
     | inl none ↦
         let u = waiting_found t w there has in
-        (u.0, ap held_by none ∙ ap (some_or (refusal.BadRequest reason.InvalidAccessor)) u.1)
+        (u.0, ap held_by none ∙ ap (some_or (Refusal.BadRequest Reason.InvalidAccessor)) u.1)
     | inr u ↦ (u.0, held_by_token u.0 u.1)
   ]
 
@@ -78,7 +75,7 @@ both_new used one other first second differ =
 -- a mount of another name than these may go
 pub goes : (name : Text) → name ≢ codes "sys" → name ≢ codes "auth" → name ≢ codes "cubbyhole" → may_go name ≡ Ok tt
 goes name sys auth own =
-    ap (λ v. unless (not v) (refusal.BadRequest reason.MountFixed))
+    ap (λ v. unless (not v) (Refusal.BadRequest Reason.MountFixed))
     (ap (λ v. v || list_any (same name) (codes "auth" ∷ codes "cubbyhole" ∷ [])) (same_false name (codes "sys") sys)
     ∙ ap (λ v. v || list_any (same name) (codes "cubbyhole" ∷ [])) (same_false name (codes "auth") auth)
     ∙ ap (λ v. v || false) (same_false name (codes "cubbyhole") own))
@@ -110,11 +107,11 @@ comes a name asked m =
     let here = (clocked a).mounts in
     let put_it : Result Mount Refusal → Result (Map Mount) Refusal = λ r. r >>= (λ x. Ok (put here name x)) in
     let of_engine : Option Engine → Result Mount Refusal = λ o.
-    some_or (refusal.BadRequest reason.UnsupportedMount) o >>= (λ e. Ok (plain_mount e)) in
+    some_or (Refusal.BadRequest Reason.UnsupportedMount) o >>= (λ e. Ok (plain_mount e)) in
     let free : Bool → Result Mount Refusal = λ v.
-    unless (not v) (refusal.BadRequest reason.PathInUse)
+    unless (not v) (Refusal.BadRequest Reason.PathInUse)
     >>= (λ u. of_engine (engine_asked asked.type_name asked.version)) in
-    ap (λ v. put_it (unless v (refusal.BadRequest reason.InvalidName)
+    ap (λ v. put_it (unless v (Refusal.BadRequest Reason.InvalidName)
     >>= (λ u. free (is_some (get here name) || list_any (same name) reserved_names)))) m.is_name
     ∙ ap (λ (o : Option Mount). put_it (free (is_some o || list_any (same name) reserved_names))) m.free
     ∙ ap (λ v. put_it (free (false || v)))
@@ -131,7 +128,7 @@ sets policies name text named root is = elim (found_or_not (policy_of text)) [
   | inr rules ↦
       let put_it : Result ⊤ Refusal → Result (Map Text) Refusal = λ r. r >>= (λ u. Ok (put policies name text)) in
       let read : Option (List Rule) → Result ⊤ Refusal = λ o. some_or unsupported o >>= (λ rs. Ok tt) in
-      ap (λ v. put_it (unless v (refusal.BadRequest reason.InvalidName)
+      ap (λ v. put_it (unless v (Refusal.BadRequest Reason.InvalidName)
       >>= (λ u. unless (not (is_root name)) fixed >>= (λ w. read (policy_of text))))) named
       ∙ ap (λ v. put_it (unless (not v) fixed >>= (λ w. read (policy_of text)))) (same_false name (codes "root") root)
       ∙ ap (λ o. put_it (read o)) rules.1

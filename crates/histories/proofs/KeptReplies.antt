@@ -1,43 +1,108 @@
 -- Responses that were kept are handed out once, as they were.
-use Rattle.std.proofs.Common.{◌≡◌, ◌≢◌, ◌<◌, ◌≤◌, ◌⊎◌, ◌&&◌, ◌∷◌, if◌then◌else◌, nat_lt, ℕ, max, [], Bool, true, false}
-use Rattle.broker_model.specs.Words.{cond, is_some, Option, Some, None, Ok, option_map, option_map_or, refl, sym, ◌∙◌}
-use Rattle.broker_model.specs.Words.{ap, subst, inl, inr, arith, false≢true, false_from_ne_true, none-some, same_Some}
-use Rattle.broker_model.specs.Words.{Text, same, IsRefused, Response, same_true, Map, get, without, get-put}
-use Rattle.broker_model.specs.Words.{get-without_self, no_entry, Broker, Waiting, waiting_ends, Evolves, IsTakenOut}
-use Rattle.broker_model.specs.Words.{names_of, reply, plainly, Done, found_or_not, mapped, token_identifier}
-use Rattle.broker_model.specs.Words.{wrapping_token, ◌>>=◌, some_or, ok_step, Sound, spend, drop_waiting, status_code}
-use Rattle.broker_model.specs.Words.{token_text, are_new, use_up, Refusal, ok_inj, moved, with_waiting, reply_text}
-use Rattle.broker_model.specs.Words.{wrap_reply, act, Command, on_wrapping, command_of, forms, OperationsDoAsTold}
-use Rattle.broker_model.specs.Words.{Outcome, Wrapped, denied, finish, for_caller, response_to, serve, wrap_info}
-use Rattle.broker_model.specs.Words.{wrapped, wraps, permits, ok, request_of, step, traits, wrapping_names}
-use Rattle.broker_model.specs.Words.{wrapping_traits, FoundResponse, found, found_at, found_under, handed_out}
-use Rattle.broker_model.specs.Words.{rewrapped, shown_response, act_on_wrappings}
-use Rattle.broker_types.specs.Broker as broker
-use Rattle.broker_types.specs.declared.refusal.Refusal.TheVariants as refusal
-use Rattle.broker_types.specs.declared.refusal.Reason.TheVariants as reason
-use Rattle.broker_types.specs.declared.status.Status.TheVariants as status
-use Rattle.histories.specs.Words.{WrappingCommand, AreAsked, Asking, AskedAt, Beginning, History, begun, clocked}
-use Rattle.histories.specs.Words.{spent_by, EndsWrappingToken, HandedOutOnce, HandsOutKept, HasAsClient, IsKeptReply}
-use Rattle.histories.specs.Words.{KeepsReply, Rewraps, SameReply, looked_up_text, rewrapped_text, TakesTokenOut, Tells}
-use Rattle.histories.specs.Words.{Unwraps, WaitedFirst, unwrapped_answer, unwrapped_body, Revokes, RevokesAlone}
-use Rattle.broker_model.specs.declared.commands.WrappingCommand.TheVariants as response
+use Rattle.broker_types.specs.Broker.{revoke, revoke_orphan}
+use Rattle.histories.specs.Words.{◌≡◌, ◌≢◌, ◌<◌, ◌≤◌, ◌⊎◌, ◌&&◌, ◌∷◌, if◌then◌else◌, nat_lt, ℕ, max, [], Bool, true}
+use Rattle.histories.specs.Words.{false, cond, is_some, Option, Some, None, Ok, option_map, option_map_or, refl, sym}
+use Rattle.histories.specs.Words.{◌∙◌, ap, subst, inl, inr, arith, false≢true, false_from_ne_true, none-some, same_Some}
+use Rattle.histories.specs.Words.{Text, same, IsRefused, Response, same_true, Map, get, without, get-put}
+use Rattle.histories.specs.Words.{get-without_self, no_entry, Broker, Waiting, waiting_ends, Evolves, IsTakenOut}
+use Rattle.histories.specs.Words.{names_of, reply, plainly, Done, found_or_not, mapped, token_identifier}
+use Rattle.histories.specs.Words.{wrapping_token, ◌>>=◌, some_or, ok_step, Sound, spend, drop_waiting, status_code}
+use Rattle.histories.specs.Words.{token_text, are_new, use_up, Refusal, ok_inj, moved, with_waiting, reply_text}
+use Rattle.histories.specs.Words.{wrap_reply, act, Command, on_wrapping, command_of, forms, OperationsDoAsTold, Outcome}
+use Rattle.histories.specs.Words.{Wrapped, denied, finish, for_caller, response_to, serve, wrap_info, wrapped, wraps}
+use Rattle.histories.specs.Words.{permits, ok, request_of, step, traits, wrapping_names, wrapping_traits, FoundResponse}
+use Rattle.histories.specs.Words.{found, found_at, found_under, handed_out, rewrapped, shown_response, act_on_wrappings}
+use Rattle.histories.specs.Words.{Reason, Status, WrappingCommand, AreAsked, Asking, AskedAt, Beginning, History, begun}
+use Rattle.histories.specs.Words.{clocked, spent_by, EndsWrappingToken, HandedOutOnce, HandsOutKept, HasAsClient}
+use Rattle.histories.specs.Words.{IsKeptReply, KeepsReply, Rewraps, SameReply, looked_up_text, rewrapped_text}
+use Rattle.histories.specs.Words.{TakesTokenOut, Tells, Unwraps, WaitedFirst, unwrapped_answer, unwrapped_body, Revokes}
+use Rattle.histories.specs.Words.{RevokesAlone, lt-ltb, and_from, Names, Answered, nothing, kept_text, missing, is_kept}
+use Rattle.histories.specs.Words.{kept_entry, unwrapped, wrap_200, are_proper, Request, stays_plain}
 use Rattle.histories.proofs.Cover.{one_birth}
 use Rattle.histories.proofs.Ending.{out_lasts}
 use Rattle.histories.proofs.Keeping.{EachKeeps, Keeps}
 use Rattle.histories.proofs.Lasting.{asked_keeps, evolved_since, handed_once, kept_evolves, left_since, waited_before}
 use Rattle.histories.proofs.Lasting.{waits_since}
-use Rattle.histories.proofs.OrderCases.{some_ok, spent}
-use Rattle.histories.proofs.OrderKeeps.{end_spent_waiting, first_new, own_new, spent_clock, spent_used, spent_waiting}
-use Rattle.histories.proofs.OrderKeeps.{wrapped_cases}
-use Rattle.histories.proofs.Requests.{acts_same, answers_plainly, asked_at, history_keeps, means_at_clock}
+use Rattle.histories.proofs.Order.{some_ok, spent, end_spent_waiting, first_new, own_new, spent_clock, spent_used}
+use Rattle.histories.proofs.Order.{spent_waiting, wrapped_cases, acts_same, answers_plainly, asked_at, history_keeps}
+use Rattle.histories.proofs.Order.{means_at_clock, Served, refused_or_served, served, was_kept, tells_body}
 use Rattle.histories.proofs.RevocationLasts.{orphaning_left, revocation_left}
-use Rattle.histories.proofs.Served.{Served, refused_or_served, served}
-use Rattle.histories.proofs.Wraps.{keeps_reply}
+
+-- ---- a 200 to an ask with a wrap TTL is wrapped
+
+-- the reply to any other command may be wrapped
+may_wrap : (command : Command) → stays_plain command ≡ false → (traits command).may_wrap ≡ true
+may_wrap (on_wrapping (WrappingCommand.LookUp meant)) e = absurd (false≢true (sym e))
+may_wrap (on_wrapping (WrappingCommand.Rewrap meant)) e = absurd (false≢true (sym e))
+may_wrap (on_wrapping (WrappingCommand.Unwrap meant)) e = absurd (false≢true (sym e))
+may_wrap _ e = refl
+
+module _ (told : OperationsDoAsTold) (a : Asking) (sound : Sound forms None a.broker)
+    (is : a.outcome ≡ step a.broker a.moment a.words a.ask) (ttl : 0 < a.ask.wrap_ttl) (command : Command)
+    (means : command_of (clocked a).mounts a.ask ≡ Ok command) (is_wrapped : stays_plain command ≡ false)
+    (success : a.outcome.response.status ≡ Status.Success) where
+  abbrev names : Names
+  names = names_of a.words
+
+  abbrev q : Request Command
+  q = request_of a.ask
+
+  it_was_served : Served a
+  it_was_served = served a is (omega (arith, ap status_code success))
+
+  module _ (s : Served a) where
+    abbrev start : Broker
+    start = spent (clocked a) s.caller
+
+    is_command : s.command ≡ command
+    is_command = ok_inj (sym (means_at_clock a s.caller s.command s.means) ∙ means)
+
+    wraps_it : wraps permits traits act q s.command ≡ true
+    wraps_it =
+        and_from (nat_lt 0 a.ask.wrap_ttl) (traits s.command).may_wrap (lt-ltb 0 a.ask.wrap_ttl ttl)
+        (may_wrap s.command (ap stays_plain is_command ∙ is_wrapped))
+
+    -- what was answered, wrapped
+    wrapped_is : wrapped permits traits act start q names s.command s.done
+        ≡ wrap_200 start a.ask.path a.ask.wrap_ttl names s.done s.done.answered
+    wrapped_is =
+        ap (λ v. if v then wrap_200 start a.ask.path a.ask.wrap_ttl names s.done s.done.answered
+        else unwrapped s.done) wraps_it
+
+    wrapped_as : (x : Answered) → s.done.answered ≡ x
+        → wrapped permits traits act start q names s.command s.done
+        ≡ wrap_200 start a.ask.path a.ask.wrap_ttl names s.done x
+    wrapped_as x answered = wrapped_is ∙ ap (wrap_200 start a.ask.path a.ask.wrap_ttl names s.done) answered
+
+    -- the code of an answer that was not wrapped
+    code_is : (x : Answered) → s.done.answered ≡ x → wrapped permits traits act start q names s.command s.done
+        ≡ unwrapped s.done
+        → 200 ≡ status_code (response_to x).status
+    code_is x answered plain =
+        sym (ap status_code success) ∙ ap (λ (o : Outcome). status_code o.response.status) s.outcome
+        ∙ ap (λ (v : Wrapped). status_code (response_to v.done.answered).status) plain
+        ∙ ap (λ y. status_code (response_to y).status) answered
+
+    by_answer : (x : Answered) → s.done.answered ≡ x → KeepsReply a (unwrapped_body a) names.wrapping_token
+    by_answer nothing answered = absurd (omega (arith, code_is nothing answered (wrapped_as nothing answered)))
+    by_answer (missing r) answered = absurd (omega
+        (arith, code_is (missing r) answered (wrapped_as (missing r) answered)))
+    by_answer (kept_text t) answered =
+        absurd (false≢true (sym ((told start s.caller a.words s.command s.done s.acted).not_kept
+        (may_wrap s.command (ap stays_plain is_command ∙ is_wrapped))) ∙ ap is_kept answered))
+    by_answer (reply r made) answered =
+        was_kept permits traits act unwrapped_body a q refl refl
+        (λ c caller k d new done. are_proper told c caller a.words k d new done)
+        sound.identifiers sound.waiting (tells_body told a) s (kept_entry start a.ask.path a.ask.wrap_ttl names r)
+        (r, made, wraps_it, answered, wrapped_as (reply r made) answered) refl
+
+  pub keeps_reply : KeepsReply a (unwrapped_body a) names.wrapping_token
+  keeps_reply = by_answer it_was_served it_was_served.done.answered refl
 
 -- ---- a 200
 
 module _ (a : Asking) (is : a.outcome ≡ step a.broker a.moment a.words a.ask)
-    (success : a.outcome.response.status ≡ status.Success)
+    (success : a.outcome.response.status ≡ Status.Success)
     (command : WrappingCommand) (means : command_of (clocked a).mounts a.ask ≡ Ok (on_wrapping command)) where
   pub served_200 : Served a
   served_200 = served a is (omega (arith, ap status_code success))
@@ -65,19 +130,19 @@ handed_same a s =
     ]
 
 abbrev pub bad : Refusal
-bad = refusal.BadRequest reason.InvalidWrappingToken
+bad = Refusal.BadRequest Reason.InvalidWrappingToken
 
 -- a 200 to an unwrap handed out
 pub unwrap_hands_out : (a : Asking) (t o : Text) → a.outcome ≡ step a.broker a.moment a.words a.ask → Unwraps a t o
     → a.outcome.handed ≡ Some o
 unwrap_hands_out a t o is u =
-    let s = served_200 a is u.success (response.Unwrap (Some t)) u.means in
+    let s = served_200 a is u.success (WrappingCommand.Unwrap (Some t)) u.means in
     let start = spent (clocked a) s.caller in
     let there : get start.waiting t ≡ Some u.entry =
     ap (λ (m : Map Waiting). get m t) (spent_waiting (clocked a) s.caller) ∙ u.waited in
     let done : handed_out start (found_under t u.entry) ≡ s.done =
     ok_inj (ap (λ x. some_or bad (option_map (found_under t) x) >>= (λ f. Ok (handed_out start f))) (sym there)
-    ∙ acted a is u.success (response.Unwrap (Some t)) u.means) in
+    ∙ acted a is u.success (WrappingCommand.Unwrap (Some t)) u.means) in
     handed_same a s ∙ ap (λ (d : Done). d.handed) (sym done) ∙ ap Some u.origin
 
 -- and there was something to hand out
@@ -87,20 +152,20 @@ found_is b None f e = absurd (none-some _ e)
 found_is b (Some t) f e = let w = mapped (found_under t) (get b.waiting t) f e in (t, w.0, refl, w.1)
 
 pub unwrap_found : (a : Asking) (meant : Option Text) → a.outcome ≡ step a.broker a.moment a.words a.ask
-    → command_of (clocked a).mounts a.ask ≡ Ok (on_wrapping (response.Unwrap meant))
-    → a.outcome.response.status ≡ status.Success
+    → command_of (clocked a).mounts a.ask ≡ Ok (on_wrapping (WrappingCommand.Unwrap meant))
+    → a.outcome.response.status ≡ Status.Success
     → (t : Text) × (o : Text) × (meant ≡ Some t) × Unwraps a t o
 unwrap_found a meant is means success =
-    let s = served_200 a is success (response.Unwrap meant) means in
+    let s = served_200 a is success (WrappingCommand.Unwrap meant) means in
     let start = spent (clocked a) s.caller in
     let f = ok_step (found start meant) (λ f. Ok (handed_out start f)) s.done
-    (acted a is success (response.Unwrap meant) means) in
+    (acted a is success (WrappingCommand.Unwrap meant) means) in
     let w = found_is start meant f.0 (some_ok bad (found_at start meant) f.1) in (
       w.0,
       (w.1).origin,
       w.2,
       record {
-        means = means ∙ ap (λ m. Ok (on_wrapping (response.Unwrap m))) w.2;
+        means = means ∙ ap (λ m. Ok (on_wrapping (WrappingCommand.Unwrap m))) w.2;
         success = success;
         entry = w.1;
         waited = ap (λ (m : Map Waiting). get m w.0) (sym (spent_waiting (clocked a) s.caller)) ∙ w.3;
@@ -163,7 +228,7 @@ module _ (a : Asking) (is : a.outcome ≡ step a.broker a.moment a.words a.ask) 
 
 -- a rewrap is not wrapped itself
 pub next_waiting : (a : Asking) {meant : Option Text} (s : Served a)
-    → s.command ≡ on_wrapping (response.Rewrap meant) → a.outcome.next.waiting ≡ s.done.next.waiting
+    → s.command ≡ on_wrapping (WrappingCommand.Rewrap meant) → a.outcome.next.waiting ≡ s.done.next.waiting
 next_waiting a s is =
     let start = spent (clocked a) s.caller in
     let v = wrapped permits traits act start (request_of a.ask) (names_of a.words) s.command s.done in
@@ -208,13 +273,13 @@ module _ (a : Asking) (sound : Sound forms None a.broker) (keeps : Keeps unwrapp
   by_revocation : (c : Text) → Revokes a c t → get a.outcome.next.waiting t ≡ None
   by_revocation c r =
       ap (λ (z : Broker). get z.waiting t) (revocation_left a is c t r)
-      ∙ ap (λ (m : Map Waiting). get m t) (end_spent_waiting (drop_waiting (broker.revoke (spent_by a c) t) t) (Some c))
+      ∙ ap (λ (m : Map Waiting). get m t) (end_spent_waiting (drop_waiting (revoke (spent_by a c) t) t) (Some c))
       ∙ get-without_self (spent_by a c).waiting t
 
   by_orphaning : (c : Text) → RevokesAlone a c t → get a.outcome.next.waiting t ≡ None
   by_orphaning c r =
       ap (λ (z : Broker). get z.waiting t) (orphaning_left a is c t r)
-      ∙ ap (λ (m : Map Waiting). get m t) (end_spent_waiting (drop_waiting (broker.revoke_orphan (spent_by a c) t) t)
+      ∙ ap (λ (m : Map Waiting). get m t) (end_spent_waiting (drop_waiting (revoke_orphan (spent_by a c) t) t)
       (Some c))
       ∙ get-without_self (spent_by a c).waiting t
 
@@ -222,7 +287,7 @@ module _ (a : Asking) (sound : Sound forms None a.broker) (keeps : Keeps unwrapp
   by_rewrap r = elim (found_or_not (get (clocked a).waiting t)) [
     | inl none ↦ absurd (waited none)
     | inr w ↦
-        let rewrap = response.Rewrap (Some t) in
+        let rewrap = WrappingCommand.Rewrap (Some t) in
         let s = served_200 a is r.success rewrap r.means in
         let start = spent (clocked a) s.caller in
         let names = names_of a.words in
@@ -387,15 +452,16 @@ module _ (told : OperationsDoAsTold) (b : Broker) (history : History) (h : AreAs
         ends x.outcome.next
         (left_since unwrapped_body b history i j a x keep_all one other le);
     unwraps = λ i a meant at means.
-        tells_or_refuses a (asked_at b history i a h at).outcome (response.Unwrap meant) means refl meant handed_out
+        tells_or_refuses a (asked_at b history i a h at).outcome (WrappingCommand.Unwrap meant) means refl meant
+        handed_out
         (λ w. w.reply) (λ start. refl) (λ caller t w. refl);
     looks_up = λ i a meant at means.
-        tells_or_refuses a (asked_at b history i a h at).outcome (response.LookUp meant) means refl meant
+        tells_or_refuses a (asked_at b history i a h at).outcome (WrappingCommand.LookUp meant) means refl meant
         (λ start f. plainly (reply (shown_response (names_of a.words) f) None) start) (looked_up_text a) (λ start. refl)
         (λ caller t w. refl);
     rewraps = λ i a meant at means.
         let names = names_of a.words in
-        tells_or_refuses a (asked_at b history i a h at).outcome (response.Rewrap meant) means refl meant
+        tells_or_refuses a (asked_at b history i a h at).outcome (WrappingCommand.Rewrap meant) means refl meant
         (λ start f. rewrapped start names f) (rewrapped_text a) (λ start. refl)
         (λ caller t w. ap (λ n. ok (reply_text (wrap_reply names.request
         (wrap_info (token_text names.wrapping_token) (moved names.wrapping_accessor n w) None))))

@@ -1,37 +1,24 @@
 -- A kept response stays where it waits, until it is taken away.
-use Rattle.std.proofs.Common.{◌≡◌, ◌≢◌, ◌⊎◌, ◌∷◌, if◌then◌else◌, [], nat_lt, max, cond, Bool, true, false, Option, Some}
-use Rattle.broker_model.specs.Words.{None, Ok, option_map, ⊤, option_map_or, refl, sym, ◌∙◌, ap, subst, inl, inr}
-use Rattle.broker_model.specs.Words.{false≢true, false_from_ne_true, ltb-false, none-some, same_Some, Text, same}
-use Rattle.broker_model.specs.Words.{same_self, same_true, Map, get, get-keep, get-put, get-without, Broker, Waiting}
-use Rattle.broker_model.specs.Words.{waiting_ends, names_of, Answered, Done, nothing, token_identifier, wrapping_token}
-use Rattle.broker_model.specs.Words.{◌>>=◌, some_or, ok_step, Sound, drop_waiting, token_text, are_new, Status, Words}
-use Rattle.broker_model.specs.Words.{ok_inj, moved_waits, others_wait, act, Command, command_of, on_cubbyhole}
-use Rattle.broker_model.specs.Words.{on_issued, on_lease, on_mount, on_policy, on_secret, on_token, on_wrapping, Does}
-use Rattle.broker_model.specs.Words.{SameUnless, is_kept, forms, OperationsDoAsTold, Outcome, Wrapped, counted}
-use Rattle.broker_model.specs.Words.{kept_entry, response_to, wrapped, permits, request_of, step, traits, may_change}
-use Rattle.broker_model.specs.Words.{FoundResponse, act_on_wrappings, found, found_at, found_under, handed_out}
-use Rattle.broker_model.specs.Words.{rewrapped}
-use Rattle.broker_types.specs.Broker as broker
-use Rattle.broker_types.specs.declared.status.Status.TheVariants as status
-use Rattle.records.specs.declared.kind.Kind.TheVariants as kind
-use Rattle.broker_model.specs.declared.commands.CubbyholeCommand.TheVariants as cubbyhole
-use Rattle.broker_model.specs.declared.commands.IssuedCommand.TheVariants as issued
-use Rattle.broker_model.specs.declared.commands.LeaseCommand.TheVariants as lease
-use Rattle.broker_model.specs.declared.commands.MountCommand.TheVariants as mount
-use Rattle.broker_model.specs.declared.commands.PolicyCommand.TheVariants as policy
-use Rattle.broker_model.specs.declared.commands.SecretCommand.TheVariants as secret
-use Rattle.histories.specs.Words.{TokenCommand, WrappingCommand, Asking, clocked, Rewraps, TakesTokenOut, Unwraps}
-use Rattle.histories.specs.Words.{AllKeptResponsesStay, IsOver, moved_by, IsGranted, orphaning_by, revoked_by}
-use Rattle.broker_model.specs.declared.commands.TokenCommand.TheVariants as token
-use Rattle.broker_model.specs.declared.commands.WrappingCommand.TheVariants as response
-use Rattle.broker_model.specs.parts.Tokens as tokens
+use Rattle.histories.specs.Words.{revoke, revoke_orphan, revoke_token, ◌≡◌, ◌≢◌, ◌⊎◌, ◌∷◌, if◌then◌else◌, [], nat_lt}
+use Rattle.histories.specs.Words.{max, cond, Bool, true, false, Option, Some, None, Ok, option_map, ⊤, option_map_or}
+use Rattle.histories.specs.Words.{refl, sym, ◌∙◌, ap, subst, inl, inr, false≢true, false_from_ne_true, ltb-false}
+use Rattle.histories.specs.Words.{none-some, same_Some, Text, same, same_self, same_true, Map, get, get-keep, get-put}
+use Rattle.histories.specs.Words.{get-without, Broker, Waiting, waiting_ends, names_of, Answered, Done, nothing}
+use Rattle.histories.specs.Words.{token_identifier, wrapping_token, ◌>>=◌, some_or, ok_step, Sound, drop_waiting}
+use Rattle.histories.specs.Words.{token_text, are_new, Status, Words, ok_inj, moved_waits, others_wait, act, Command}
+use Rattle.histories.specs.Words.{command_of, on_cubbyhole, on_issued, on_lease, on_mount, on_policy, on_secret}
+use Rattle.histories.specs.Words.{on_token, on_wrapping, Does, SameUnless, is_kept, forms, OperationsDoAsTold, Outcome}
+use Rattle.histories.specs.Words.{Wrapped, counted, kept_entry, response_to, wrapped, permits, request_of, step, traits}
+use Rattle.histories.specs.Words.{may_change, FoundResponse, act_on_wrappings, found, found_at, found_under, handed_out}
+use Rattle.histories.specs.Words.{rewrapped, Kind, CubbyholeCommand, IssuedCommand, LeaseCommand, MountCommand}
+use Rattle.histories.specs.Words.{PolicyCommand, SecretCommand, TokenCommand, WrappingCommand, Asking, clocked, Rewraps}
+use Rattle.histories.specs.Words.{TakesTokenOut, Unwraps, AllKeptResponsesStay, IsOver, moved_by, IsGranted}
+use Rattle.histories.specs.Words.{orphaning_by, revoked_by}
 use Rattle.histories.proofs.KeptReplies.{acted, bad, command_is, found_under_meant, handed_same, next_waiting}
 use Rattle.histories.proofs.KeptReplies.{served_200, unwrap_found, unwrap_hands_out}
-use Rattle.histories.proofs.OrderCases.{IsTurnedAway, IsTurnedDown, spent, some_ok}
-use Rattle.histories.proofs.OrderKeeps.{end_spent_waiting, first_new, own_new, spent_clock, spent_used, spent_waiting}
-use Rattle.histories.proofs.OrderKeeps.{wrapped_cases}
-use Rattle.histories.proofs.Requests.{acts_same, asked_at, means_at_clock}
-use Rattle.histories.proofs.Served.{Served, cases, nothing_is_no_reply}
+use Rattle.histories.proofs.Order.{IsTurnedAway, IsTurnedDown, spent, some_ok, end_spent_waiting, first_new, own_new}
+use Rattle.histories.proofs.Order.{spent_clock, spent_used, spent_waiting, wrapped_cases, acts_same, asked_at}
+use Rattle.histories.proofs.Order.{means_at_clock, Served, cases, nothing_is_no_reply}
 
 -- ---- which commands take a response away
 
@@ -42,13 +29,13 @@ may_take (on_wrapping command) = true
 may_take _ = false
 
 -- no other changes which responses wait; one of each part is named, and the rest are tried one by one
-never : (command : Command) → may_take command ≡ false → may_change (traits command).changes kind.Waiting ≡ false
-never (on_cubbyhole path cubbyhole.Delete) other = refl
-never (on_secret place secret.List) other = refl
-never (on_policy name policy.List) other = refl
-never (on_mount name mount.List) other = refl
-never (on_lease prefix (lease.LookUp id)) other = refl
-never (on_issued place issued.Issue) other = refl
+never : (command : Command) → may_take command ≡ false → may_change (traits command).changes Kind.Waiting ≡ false
+never (on_cubbyhole path CubbyholeCommand.Delete) other = refl
+never (on_secret place SecretCommand.List) other = refl
+never (on_policy name PolicyCommand.List) other = refl
+never (on_mount name MountCommand.List) other = refl
+never (on_lease prefix (LeaseCommand.LookUp id)) other = refl
+never (on_issued place IssuedCommand.Issue) other = refl
 never (on_token command) other = absurd (false≢true (sym other))
 never (on_wrapping command) other = absurd (false≢true (sym other))
 never _ other = refl
@@ -66,8 +53,9 @@ abbrev Takes : Broker → Option Text → Command → Done → Text → Type 0
 Takes b who command d t =
     ((c : Text) × (who ≡ Some c) × (d.answered ≡ nothing)
     × ((revoked_by b c command ≡ Some t) ⊎ (orphaning_by command ≡ Some t)))
-    ⊎ ((status_of d.answered ≡ status.Success)
-    × ((command ≡ on_wrapping (response.Rewrap (Some t))) ⊎ (command ≡ on_wrapping (response.Unwrap (Some t)))))
+    ⊎ ((status_of d.answered ≡ Status.Success)
+    × ((command ≡ on_wrapping (WrappingCommand.Rewrap (Some t)))
+    ⊎ (command ≡ on_wrapping (WrappingCommand.Unwrap (Some t)))))
 
 module _ (b : Broker) (who : Option Text) (words : Words) (t : Text) (w : Waiting) (waits : get b.waiting t ≡ Some w)
     (used : get b.used (token_identifier t) ≢ None) where
@@ -84,22 +72,24 @@ module _ (b : Broker) (who : Option Text) (words : Words) (t : Text) (w : Waitin
             ∙ ap (λ (m : Map Waiting). get m t) is ∙ waits)
       ] refl
 
-  revoked : (c u : Text) (command : Command) (d : Done) → who ≡ Some c → d ≡ tokens.revoke_token b u
+  revoked : (c u : Text) (command : Command) (d : Done) → who ≡ Some c → d ≡ revoke_token b u
       → revoked_by b c command ≡ Some u → Stays command d
-  revoked c u command d is_c is names = elim (dropped (broker.revoke b u) u refl) [
+  revoked c u command d is_c is names = elim (dropped (revoke b u) u refl) [
     | inl left ↦ inl (ap (λ (z : Done). get z.next.waiting t) is ∙ left)
     | inr at ↦ inr (inl (c, is_c, ap (λ (z : Done). z.answered) is, inl (names ∙ ap Some at)))
   ]
 
   token_stays : (command : TokenCommand) (d : Done) → Does b who (names_of words) (on_token command) d
       → Stays (on_token command) d
-  token_stays (token.Revoke u) d does = let f = does.fated in revoked f.0 f.1 (on_token (token.Revoke u)) d f.2 f.4 f.3
-  token_stays (token.RevokeAccessor u) d does =
-      let f = does.fated in revoked f.0 f.1 (on_token (token.RevokeAccessor u)) d f.2 f.4 f.3
-  token_stays token.RevokeSelf d does = let f = does.fated in revoked f.0 f.1 (on_token token.RevokeSelf) d f.2 f.4 f.3
-  token_stays (token.RevokeOrphan u) d does =
+  token_stays (TokenCommand.Revoke u) d does = let f = does.fated in revoked f.0 f.1 (on_token (TokenCommand.Revoke u))
+      d f.2 f.4 f.3
+  token_stays (TokenCommand.RevokeAccessor u) d does =
+      let f = does.fated in revoked f.0 f.1 (on_token (TokenCommand.RevokeAccessor u)) d f.2 f.4 f.3
+  token_stays TokenCommand.RevokeSelf d does = let f = does.fated in revoked f.0 f.1 (on_token TokenCommand.RevokeSelf)
+      d f.2 f.4 f.3
+  token_stays (TokenCommand.RevokeOrphan u) d does =
       let f = does.fated in
-      elim (dropped (broker.revoke_orphan b u) u refl) [
+      elim (dropped (revoke_orphan b u) u refl) [
         | inl left ↦ inl (ap (λ (z : Done). get z.next.waiting t) f.2 ∙ left)
         | inr at ↦ inr (inl (f.0, f.1, ap (λ (z : Done). z.answered) f.2, inr (ap Some at)))
       ]
@@ -116,15 +106,15 @@ module _ (b : Broker) (who : Option Text) (words : Words) (t : Text) (w : Waitin
       → are_new b.used ((traits (on_wrapping command)).own (names_of words)) ≡ true
       → act_on_wrappings b (names_of words) command ≡ Ok d → Does b who (names_of words) (on_wrapping command) d
       → Stays (on_wrapping command) d
-  wrapping_stays (response.Rewrap meant) d new e does =
+  wrapping_stays (WrappingCommand.Rewrap meant) d new e does =
       let names = names_of words in
       let u = token_text names.wrapping_token in
       let f = ok_step (found b meant) (λ f. Ok (rewrapped b names f)) d e in
       let x = found_there meant f.0 f.1 in
-      elim (same t x.0) as (λ v. same t x.0 ≡ v → Stays (on_wrapping (response.Rewrap meant)) d) [
+      elim (same t x.0) as (λ v. same t x.0 ≡ v → Stays (on_wrapping (WrappingCommand.Rewrap meant)) d) [
         | true ↦ λ at. inr (inr (
           ap (λ (z : Done). status_of z.answered) (sym (ok_inj f.2)),
-          inl (ap (λ m. on_wrapping (response.Rewrap m)) (x.1 ∙ ap Some (sym (same_true t x.0 at)))),
+          inl (ap (λ m. on_wrapping (WrappingCommand.Rewrap m)) (x.1 ∙ ap Some (sym (same_true t x.0 at)))),
         ))
         | false ↦ λ apart. inl (
             ap (λ (z : Done). get z.next.waiting t) (sym (ok_inj f.2))
@@ -134,14 +124,14 @@ module _ (b : Broker) (who : Option Text) (words : Words) (t : Text) (w : Waitin
             ∙ first_new b.used names.wrapping_token (names.wrapping_accessor ∷ []) new))
             ∙ waits)
       ] refl
-  wrapping_stays (response.Unwrap meant) d new e does =
+  wrapping_stays (WrappingCommand.Unwrap meant) d new e does =
       let f = ok_step (found b meant) (λ f. Ok (handed_out b f)) d e in
       let x = found_there meant f.0 f.1 in
       elim (dropped b (f.0).token refl) [
         | inl left ↦ inl (ap (λ (z : Done). get z.next.waiting t) (sym (ok_inj f.2)) ∙ left)
         | inr at ↦ inr (inr (
           ap (λ (z : Done). status_of z.answered) (sym (ok_inj f.2)),
-          inr (ap (λ m. on_wrapping (response.Unwrap m)) (x.1 ∙ ap Some (sym x.2 ∙ at))),
+          inr (ap (λ m. on_wrapping (WrappingCommand.Unwrap m)) (x.1 ∙ ap Some (sym x.2 ∙ at))),
         ))
       ]
   wrapping_stays _ d new e does = inl (ap (λ (m : Map Waiting). get m t) does.keeps.waiting ∙ waits)
@@ -154,7 +144,7 @@ module _ (b : Broker) (who : Option Text) (words : Words) (t : Text) (w : Waitin
       wrapping_stays command d new (sym (acts_same b who (names_of words) command) ∙ e) does
   operation_stays command d new e does =
       inl (ap (λ (m : Map Waiting). get m t)
-      (left_same (may_change (traits command).changes kind.Waiting) b.waiting d.next.waiting
+      (left_same (may_change (traits command).changes Kind.Waiting) b.waiting d.next.waiting
       (never command refl) does.keeps.waiting) ∙ waits)
 
 -- ---- a request
@@ -175,7 +165,7 @@ module _ (told : OperationsDoAsTold) (a : Asking) (sound : Sound forms None a.br
     means = means_at_clock a s.caller s.command s.means
 
     -- what is answered with 200 or 204 is answered so
-    success : status_of (s.done).answered ≡ status.Success → a.outcome.response.status ≡ status.Success
+    success : status_of (s.done).answered ≡ Status.Success → a.outcome.response.status ≡ Status.Success
     success code =
         ap (λ (x : Outcome). x.response.status) s.outcome
         ∙ elim (wrapped_cases permits traits act start (request_of a.ask) (names_of a.words) s.command s.done) [
@@ -343,7 +333,7 @@ module _ (told : OperationsDoAsTold) (a : Asking) (sound : Sound forms None a.br
   moves : (t : Text) (w : Waiting) → Rewraps a t → get now.waiting t ≡ Some w
       → get a.outcome.next.waiting (token_text (names_of a.words).wrapping_token) ≡ Some (moved_by a w)
   moves t w r there =
-      let rewrap = response.Rewrap (Some t) in
+      let rewrap = WrappingCommand.Rewrap (Some t) in
       let s = served_200 a is r.success rewrap r.means in
       let start = spent now s.caller in
       let names = names_of a.words in
@@ -361,13 +351,14 @@ module _ (told : OperationsDoAsTold) (a : Asking) (sound : Sound forms None a.br
   -- only an unwrap hands out
   is_unwrap : (b : Broker) (command : WrappingCommand) (d : Done) (o : Text)
       → act_on_wrappings b (names_of a.words) command ≡ Ok d
-      → d.handed ≡ Some o → (meant : Option Text) × (command ≡ response.Unwrap meant)
-  is_unwrap b (response.Wrap text) d o e handed = absurd (none-some _ (ap (λ (z : Done). z.handed) (ok_inj e) ∙ handed))
-  is_unwrap b (response.LookUp meant) d o e handed =
+      → d.handed ≡ Some o → (meant : Option Text) × (command ≡ WrappingCommand.Unwrap meant)
+  is_unwrap b (WrappingCommand.Wrap text) d o e handed = absurd
+      (none-some _ (ap (λ (z : Done). z.handed) (ok_inj e) ∙ handed))
+  is_unwrap b (WrappingCommand.LookUp meant) d o e handed =
       absurd (none-some _ (ap (λ (z : Done). z.handed) (ok_inj (ok_step (found b meant) _ d e).2) ∙ handed))
-  is_unwrap b (response.Rewrap meant) d o e handed =
+  is_unwrap b (WrappingCommand.Rewrap meant) d o e handed =
       absurd (none-some _ (ap (λ (z : Done). z.handed) (ok_inj (ok_step (found b meant) _ d e).2) ∙ handed))
-  is_unwrap b (response.Unwrap meant) d o e handed = (meant, refl)
+  is_unwrap b (WrappingCommand.Unwrap meant) d o e handed = (meant, refl)
 
   -- whose reply is none to wrap
   of_responses : (command : Command) → (traits command).may_wrap ≡ false

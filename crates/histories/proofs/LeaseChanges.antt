@@ -1,64 +1,52 @@
 -- What becomes of the leases of a token that a request leaves, one by one.
-use Rattle.std.proofs.Common.{◌≡◌, ◌<◌, ◌+◌, ◌-◌, ◌==◌, if◌then◌else◌, ℕ, min, Bool, true, false, not, cond, nat_lt, Ok}
-use Rattle.broker_model.specs.Words.{is_some, Option, Some, None, option_map, option_map_or, refl, sym, ◌∙◌, ap, subst}
-use Rattle.broker_model.specs.Words.{inl, inr, arith, min-eq_left, false≢true, ltb-false, ltb-true, ne_eqb, not-true}
-use Rattle.broker_model.specs.Words.{same_Some, Text, same, same_true, Map, change, get, keep, map_values, put, without}
-use Rattle.broker_model.specs.Words.{get-change, get-keep, get-put, get-without, valued_is, Broker, Mount, Role}
-use Rattle.broker_model.specs.Words.{longest_ttl, names_of, Names, Response, nothing, plainly, reply, Done, some_or}
-use Rattle.broker_model.specs.Words.{unless, ok_step, unless_ok, is_spent, Token, Tokens, Lease, Reply, Part, ok_inj}
-use Rattle.broker_model.specs.Words.{Issued, is_last_use, longest, new_lease, disabled, credential_object, lease_reply}
-use Rattle.broker_model.specs.Words.{LeaseRenewal, Command, command_of, on_cubbyhole, on_issued, on_lease, on_mount}
-use Rattle.broker_model.specs.Words.{on_policy, on_secret, on_token, on_wrapping, traits, may_change, stay}
-use Rattle.broker_model.specs.Words.{policy_changes, cubbyhole_changes, act_on_issued, issued_changes, lease_changes}
-use Rattle.broker_model.specs.Words.{mount_changes, without_kept, Place, secret_changes, token_changes, token_fate}
-use Rattle.broker_model.specs.Words.{wrapping_changes}
-use Rattle.broker_types.specs.declared.status.Status.TheVariants as status
-use Rattle.broker_types.specs.declared.refusal.Refusal.TheVariants as refusal
-use Rattle.broker_types.specs.declared.refusal.Reason.TheVariants as reason
-use Rattle.records.specs.declared.kind.Kind.TheVariants as kind
+use Rattle.broker_model.specs.Words.{min-eq_left, Issued, longest, policy_changes, secret_changes, token_changes}
 use Rattle.leases.specs.Leases as leases
 use Rattle.leases.specs.Roles as roles
-use Rattle.histories.specs.Words.{CubbyholeCommand, IssuedCommand, LeaseCommand, MountCommand, PolicyCommand}
-use Rattle.histories.specs.Words.{SecretCommand, TokenCommand, WrappingCommand, Asking, clocked, spent_by, EndsLease}
-use Rattle.histories.specs.Words.{IsIssuedTo, IsOfRole, IsRenewedLease, LeaseBecomes, RenewsLease, IsClient}
-use Rattle.broker_model.specs.declared.commands.CubbyholeCommand.TheVariants as of_cubbyhole
-use Rattle.broker_model.specs.declared.commands.IssuedCommand.TheVariants as of_issued
-use Rattle.broker_model.specs.declared.commands.LeaseCommand.TheVariants as of_lease
-use Rattle.broker_model.specs.declared.commands.MountCommand.TheVariants as of_mount
-use Rattle.broker_model.specs.declared.commands.PolicyCommand.TheVariants as of_policy
-use Rattle.broker_model.specs.declared.commands.SecretCommand.TheVariants as of_secret
-use Rattle.broker_model.specs.declared.commands.TokenCommand.TheVariants as of_token
-use Rattle.broker_model.specs.declared.commands.WrappingCommand.TheVariants as of_response
+use Rattle.histories.specs.Words.{◌≡◌, ◌<◌, ◌+◌, ◌-◌, ◌==◌, if◌then◌else◌, ℕ, min, Bool, true, false, not, cond, nat_lt}
+use Rattle.histories.specs.Words.{Ok, is_some, Option, Some, None, option_map, option_map_or, refl, sym, ◌∙◌, ap, subst}
+use Rattle.histories.specs.Words.{inl, inr, arith, false≢true, ltb-false, ltb-true, ne_eqb, not-true, same_Some, Text}
+use Rattle.histories.specs.Words.{same, same_true, Map, change, get, keep, map_values, put, without, get-change}
+use Rattle.histories.specs.Words.{get-keep, get-put, get-without, valued_is, Broker, Mount, Role, longest_ttl, names_of}
+use Rattle.histories.specs.Words.{Names, Response, nothing, plainly, reply, Done, some_or, unless, ok_step, unless_ok}
+use Rattle.histories.specs.Words.{is_spent, Token, Tokens, Lease, Reply, Part, ok_inj, is_last_use, new_lease, disabled}
+use Rattle.histories.specs.Words.{credential_object, lease_reply, LeaseRenewal, Command, command_of, on_cubbyhole}
+use Rattle.histories.specs.Words.{on_issued, on_lease, on_mount, on_policy, on_secret, on_token, on_wrapping, traits}
+use Rattle.histories.specs.Words.{may_change, stay, cubbyhole_changes, act_on_issued, issued_changes, lease_changes}
+use Rattle.histories.specs.Words.{mount_changes, without_kept, Place, token_fate, wrapping_changes, Status, Refusal}
+use Rattle.histories.specs.Words.{Reason, Kind, CubbyholeCommand, IssuedCommand, LeaseCommand, MountCommand}
+use Rattle.histories.specs.Words.{PolicyCommand, SecretCommand, TokenCommand, WrappingCommand, Asking, clocked}
+use Rattle.histories.specs.Words.{spent_by, EndsLease, IsIssuedTo, IsOfRole, IsRenewedLease, LeaseBecomes, RenewsLease}
+use Rattle.histories.specs.Words.{IsClient}
 use Rattle.histories.proofs.Clients.{CarriesOut, from_clock}
 use Rattle.histories.proofs.OrderCases.{some_ok}
 
 -- ---- parts that change neither
 
 abbrev pub Neither : Option Part → Type 0
-Neither changes = (may_change changes kind.Cubby ≡ false) × (may_change changes kind.Lease ≡ false)
+Neither changes = (may_change changes Kind.Cubby ≡ false) × (may_change changes Kind.Lease ≡ false)
 
 pub tokens_neither : (k : TokenCommand) → token_fate k ≡ stay → Neither (token_changes k)
-tokens_neither (of_token.Revoke t) e = absurd (cc)
-tokens_neither (of_token.RevokeOrphan t) e = absurd (cc)
-tokens_neither (of_token.RevokeAccessor accessor) e = absurd (cc)
-tokens_neither of_token.RevokeSelf e = absurd (cc)
+tokens_neither (TokenCommand.Revoke t) e = absurd (cc)
+tokens_neither (TokenCommand.RevokeOrphan t) e = absurd (cc)
+tokens_neither (TokenCommand.RevokeAccessor accessor) e = absurd (cc)
+tokens_neither TokenCommand.RevokeSelf e = absurd (cc)
 tokens_neither _ e = (refl, refl)
 
 pub secrets_neither : (k : SecretCommand) → Neither (secret_changes k)
-secrets_neither of_secret.ShowSettings = (refl, refl)
+secrets_neither SecretCommand.ShowSettings = (refl, refl)
 secrets_neither _ = (refl, refl)
 
 pub policies_neither : (k : PolicyCommand) → Neither (policy_changes k)
-policies_neither of_policy.List = (refl, refl)
+policies_neither PolicyCommand.List = (refl, refl)
 policies_neither _ = (refl, refl)
 
 pub responses_neither : (k : WrappingCommand) → Neither (wrapping_changes k)
-responses_neither (of_response.Wrap text) = (refl, refl)
+responses_neither (WrappingCommand.Wrap text) = (refl, refl)
 responses_neither _ = (refl, refl)
 
 -- those that change no lease
-cubbyholes_no_lease : (k : CubbyholeCommand) → may_change (cubbyhole_changes k) kind.Lease ≡ false
-cubbyholes_no_lease of_cubbyhole.Read = refl
+cubbyholes_no_lease : (k : CubbyholeCommand) → may_change (cubbyhole_changes k) Kind.Lease ≡ false
+cubbyholes_no_lease CubbyholeCommand.Read = refl
 cubbyholes_no_lease _ = refl
 
 -- ---- one token
@@ -139,13 +127,13 @@ module _ (a : Asking) (c : Text) (p : Place) (d : Done) where
     pub id : made.lease_id ≡ roles.lease_id p.mount p.path names.lease
     pub credential : made.lease.credential ≡ names.credential
 
-  pub did_issue : act_on_issued start c names p of_issued.Issue ≡ Ok d → DidIssue
+  pub did_issue : act_on_issued start c names p IssuedCommand.Issue ≡ Ok d → DidIssue
   did_issue acted =
       let i = ok_step (roles.creds start c p.mount p.path names.lease names.credential) _ d acted in
       let new = ok_step (roles.issued (roles.role start p.mount p.path)
       (is_last_use start c) start.clock p.mount p.path names.lease names.credential) _ i.0 i.1 in
-      let r = ok_step (some_or refusal.NotFound (roles.role start p.mount p.path)) _ new.0 new.1 in
-      let lasts = ok_step (unless (not (is_last_use start c)) (refusal.BadRequest reason.LastUseTakesLease)) _ new.0
+      let r = ok_step (some_or Refusal.NotFound (roles.role start p.mount p.path)) _ new.0 new.1 in
+      let lasts = ok_step (unless (not (is_last_use start c)) (Refusal.BadRequest Reason.LastUseTakesLease)) _ new.0
       r.2 in
       let is_new = ok_inj new.2 in
       let is_lease = ok_inj lasts.2 in
@@ -157,7 +145,7 @@ module _ (a : Asking) (c : Text) (p : Place) (d : Done) where
             ∙ (λ j. (leases.issue start c (is_new j).lease_id (is_new j).lease).tokens);
         lasts = not-true _ (unless_ok _ _ lasts.0 lasts.1);
         role = r.0;
-        is_role = some_ok refusal.NotFound (roles.role start p.mount p.path) r.1;
+        is_role = some_ok Refusal.NotFound (roles.role start p.mount p.path) r.1;
         times = subst (IsOfRole start.clock r.0)
             (ap (λ (z : roles.IssuedLease). z.lease) is_lease ∙ ap (λ (z : Issued). z.lease) is_new)
             (of_role start.clock r.0 names.credential);
@@ -167,8 +155,8 @@ module _ (a : Asking) (c : Text) (p : Place) (d : Done) where
       }
 
   pub issued_to : (i : DidIssue) → IsClient a c
-      → command_of (clocked a).mounts a.ask ≡ Ok (on_issued p of_issued.Issue)
-      → a.outcome.response.status ≡ status.Success → (x : Token) → get start.tokens c ≡ Some x
+      → command_of (clocked a).mounts a.ask ≡ Ok (on_issued p IssuedCommand.Issue)
+      → a.outcome.response.status ≡ Status.Success → (x : Token) → get start.tokens c ≡ Some x
       → IsIssuedTo a c i.made.lease_id i.made.lease
   issued_to i client means success x there =
       let from = from_clock a c client c x there in
@@ -192,8 +180,8 @@ module _ (a : Asking) (c : Text) (p : Place) (d : Done) where
 
   -- of the role at this place
   pub issued_at : (i : DidIssue) (client : IsClient a c)
-      (means : command_of (clocked a).mounts a.ask ≡ Ok (on_issued p of_issued.Issue))
-      (success : a.outcome.response.status ≡ status.Success) (x : Token) (there : get start.tokens c ≡ Some x)
+      (means : command_of (clocked a).mounts a.ask ≡ Ok (on_issued p IssuedCommand.Issue))
+      (success : a.outcome.response.status ≡ Status.Success) (x : Token) (there : get start.tokens c ≡ Some x)
       → (issued_to i client means success x there).place ≡ p
   unfolding issued_to
   issued_at i client means success x there = refl
@@ -234,7 +222,8 @@ module _ (a : Asking) (c : Text) (q : Text) (x y : Token) (was : get (spent_by a
     )))
     taken_out command s answered false ends = inl refl
 
-    lease_renewed : (prefix : Text) (asked : LeaseRenewal) → CarriesOut a c (on_lease prefix (of_lease.Renew asked)) d
+    lease_renewed : (prefix : Text) (asked : LeaseRenewal) → CarriesOut a c (on_lease prefix (LeaseCommand.Renew asked))
+        d
         → Becomes (get y.leases lease_id)
     lease_renewed prefix asked s =
         let f = leases.renewed b.clock asked.increment in
@@ -262,24 +251,24 @@ module _ (a : Asking) (c : Text) (q : Text) (x y : Token) (was : get (spent_by a
         }) k))
 
     at_lease : (prefix : Text) (k : LeaseCommand) → CarriesOut a c (on_lease prefix k) d
-        → may_change (lease_changes k) kind.Lease ≡ true → Becomes (get y.leases lease_id)
-    at_lease prefix (of_lease.LookUp id) s may = absurd (false≢true may)
-    at_lease prefix (of_lease.Renew asked) s may = lease_renewed prefix asked s
-    at_lease prefix (of_lease.Revoke id) s may =
+        → may_change (lease_changes k) Kind.Lease ≡ true → Becomes (get y.leases lease_id)
+    at_lease prefix (LeaseCommand.LookUp id) s may = absurd (false≢true may)
+    at_lease prefix (LeaseCommand.Renew asked) s may = lease_renewed prefix asked s
+    at_lease prefix (LeaseCommand.Revoke id) s may =
         leases_edited (λ t m. without m id) (ap (λ (z : Done). z.next.tokens) (sym (ok_inj s.acted)))
         (subst Becomes (sym (get-without x.leases id lease_id ∙ without_it (same lease_id id) (get x.leases lease_id)))
-        (taken_out (on_lease prefix (of_lease.Revoke id)) s (ap (λ (z : Done). z.answered) (sym (ok_inj s.acted)))
+        (taken_out (on_lease prefix (LeaseCommand.Revoke id)) s (ap (λ (z : Done). z.answered) (sym (ok_inj s.acted)))
         (same lease_id id) (λ at. sym (same_true lease_id id at))))
-    at_lease prefix of_lease.RevokeUnder s may =
+    at_lease prefix LeaseCommand.RevokeUnder s may =
         leases_edited (λ t m. keep (λ u. not (leases.is_under prefix u)) m)
         (ap (λ (z : Done). z.next.tokens) (sym (ok_inj s.acted)))
         (subst Becomes (sym (get-keep (λ u. not (leases.is_under prefix u)) x.leases lease_id
         ∙ not_kept (leases.is_under prefix lease_id) (get x.leases lease_id)))
-        (taken_out (on_lease prefix of_lease.RevokeUnder) s (ap (λ (z : Done). z.answered) (sym (ok_inj s.acted)))
+        (taken_out (on_lease prefix LeaseCommand.RevokeUnder) s (ap (λ (z : Done). z.answered) (sym (ok_inj s.acted)))
         (leases.is_under prefix lease_id) (λ under. under)))
 
     -- what is below the name of a mount goes with it, if it was there
-    disabled_left : (name : Text) → CarriesOut a c (on_mount name of_mount.Disable) d
+    disabled_left : (name : Text) → CarriesOut a c (on_mount name MountCommand.Disable) d
         → Becomes (get y.leases lease_id)
     disabled_left name s =
         let next = ok_step (disabled b.mounts name) _ d s.acted in
@@ -292,7 +281,7 @@ module _ (a : Asking) (c : Text) (q : Text) (x y : Token) (was : get (spent_by a
             leases_edited (λ t m. keep (λ u. not (leases.is_under name u)) m) (ap (λ (z : Done). z.next.tokens) (sym e))
             (subst Becomes (sym (get-keep (λ u. not (leases.is_under name u)) x.leases lease_id
             ∙ not_kept (leases.is_under name lease_id) (get x.leases lease_id)))
-            (taken_out (on_mount name of_mount.Disable) s (ap (λ (z : Done). z.answered) (sym e))
+            (taken_out (on_mount name MountCommand.Disable) s (ap (λ (z : Done). z.answered) (sym e))
             (leases.is_under name lease_id)
             (λ under. (under, λ none. false≢true (sym (ap (λ (o : Option Mount). is_some o) none) ∙ there)))))
         by mounts false none e =
@@ -300,12 +289,12 @@ module _ (a : Asking) (c : Text) (q : Text) (x y : Token) (was : get (spent_by a
             (same_Some _ _ (sym (ap (λ (z : Done). get z.next.tokens q) e ∙ is) ∙ was)))
 
     at_mount : (name : Text) (k : MountCommand) → CarriesOut a c (on_mount name k) d
-        → may_change (mount_changes k) kind.Lease ≡ true → Becomes (get y.leases lease_id)
-    at_mount name of_mount.Disable s may = disabled_left name s
+        → may_change (mount_changes k) Kind.Lease ≡ true → Becomes (get y.leases lease_id)
+    at_mount name MountCommand.Disable s may = disabled_left name s
     at_mount name _ s may = absurd (false≢true may)
 
     -- what is issued is the caller's, whose last use this is not
-    issued_left : (p : Place) → CarriesOut a c (on_issued p of_issued.Issue) d
+    issued_left : (p : Place) → CarriesOut a c (on_issued p IssuedCommand.Issue) d
         → Becomes (get y.leases lease_id)
     issued_left p s =
         let i = did_issue a c p d s.acted in
@@ -330,13 +319,13 @@ module _ (a : Asking) (c : Text) (q : Text) (x y : Token) (was : get (spent_by a
         ] refl)
 
     at_issued : (p : Place) (k : IssuedCommand) → CarriesOut a c (on_issued p k) d
-        → may_change (issued_changes k) kind.Lease ≡ true → Becomes (get y.leases lease_id)
-    at_issued p of_issued.Issue s may = issued_left p s
+        → may_change (issued_changes k) Kind.Lease ≡ true → Becomes (get y.leases lease_id)
+    at_issued p IssuedCommand.Issue s may = issued_left p s
     at_issued p _ s may = absurd (false≢true may)
 
     -- what may change leases renews, revokes or issues
     pub leases_left : (command : Command) → CarriesOut a c command d
-        → (traits command).fate ≡ stay → may_change (traits command).changes kind.Lease ≡ true
+        → (traits command).fate ≡ stay → may_change (traits command).changes Kind.Lease ≡ true
         → Becomes (get y.leases lease_id)
     leases_left (on_lease prefix k) s fate may = at_lease prefix k s may
     leases_left (on_mount name k) s fate may = at_mount name k s may

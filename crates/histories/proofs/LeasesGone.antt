@@ -1,8 +1,7 @@
 -- A lease that a request ends does not come back.
-use Rattle.std.proofs.Common.{◌≡◌, ◌⊎◌, Some, None, option_map, sym, ◌∙◌, ap, inl, inr}
-use Rattle.broker_model.specs.Words.{none-some, Text, get, Broker, Evolves, identifier_at, lease_identifier, lease_of}
-use Rattle.broker_model.specs.Words.{Sound, Lease, forms}
 use Rattle.broker_types.specs.IdentifierPlaces as place
+use Rattle.histories.specs.Words.{◌≡◌, ◌⊎◌, Some, None, option_map, sym, ◌∙◌, ap, inl, inr, none-some, Text, get}
+use Rattle.histories.specs.Words.{Broker, Evolves, identifier_at, lease_identifier, lease_of, Sound, Lease, forms}
 use Rattle.histories.specs.Words.{Asking, unwrapped_body, LacksLease}
 use Rattle.histories.proofs.Ending.{IsLeaseGone, lease_lasts}
 use Rattle.histories.proofs.Keeping.{Keeps}

@@ -1,19 +1,15 @@
 -- A creation that may be made passes each test of the definition.
-use Rattle.std.proofs.Common.{◌≡◌, ◌⊎◌, ◌==◌, ◌||◌, ◌&&◌, ◌∷◌, [], List, All, Bool, true, false, not, Some, None, codes}
-use Rattle.broker_model.specs.Words.{ℕ, Option, Result, Ok, is_none, ⊤, list_all, refl, sym, ◌∙◌, ap, inl, inr}
-use Rattle.broker_model.specs.Words.{false≢true, and_parts, eq-eqb, eqb-true, false_from_ne_true, or_cases, or_right}
-use Rattle.broker_model.specs.Words.{All-head, All-tail, Text, same, same_self, same_true, Broker, is_name, Names, Done}
-use Rattle.broker_model.specs.Words.{reply, ◌>>=◌, some_or, unless, Sound, Token, alive_is, Refusal, Reply, has, grants}
-use Rattle.broker_model.specs.Words.{AllThatIsGranted, RootMayDoAll, Sudo, TokenCreation, forms, has_no_end, have_root}
-use Rattle.broker_model.specs.Words.{is_privileged, makes_orphans, making_path, may_make, new_parent, new_policies}
-use Rattle.broker_model.specs.Words.{new_token, create, made}
-use Rattle.broker_types.specs.declared.ask.Verb.TheVariants as verb
-use Rattle.broker_types.specs.declared.refusal.Denial.TheVariants as denial
-use Rattle.broker_types.specs.declared.refusal.Reason.TheVariants as reason
-use Rattle.broker_types.specs.declared.refusal.Refusal.TheVariants as refusal
 use Rattle.broker_model.specs.CreationLaws as creation
-use Rattle.histories.specs.Words.{Making, AsksItsOwn, AsksNoRoot, MayCreate, IsAllowed, HasPolicies, HasRoot, HasSudo}
-use Rattle.histories.specs.Words.{Asking, clocked, spent_by, path_of}
+use Rattle.histories.specs.Words.{◌≡◌, ◌⊎◌, ◌==◌, ◌||◌, ◌&&◌, ◌∷◌, [], List, All, Bool, true, false, not, Some, None}
+use Rattle.histories.specs.Words.{codes, ℕ, Option, Result, Ok, is_none, ⊤, list_all, refl, sym, ◌∙◌, ap, inl, inr}
+use Rattle.histories.specs.Words.{false≢true, and_parts, eq-eqb, eqb-true, false_from_ne_true, or_cases, or_right}
+use Rattle.histories.specs.Words.{All-head, All-tail, Text, same, same_self, same_true, Broker, is_name, Names, Done}
+use Rattle.histories.specs.Words.{reply, ◌>>=◌, some_or, unless, Sound, Token, alive_is, Refusal, Reply, has, grants}
+use Rattle.histories.specs.Words.{AllThatIsGranted, RootMayDoAll, Sudo, TokenCreation, forms, has_no_end, have_root}
+use Rattle.histories.specs.Words.{is_privileged, makes_orphans, making_path, may_make, new_parent, new_policies}
+use Rattle.histories.specs.Words.{new_token, create, made, Verb, Denial, Reason, Making, AsksItsOwn, AsksNoRoot}
+use Rattle.histories.specs.Words.{MayCreate, IsAllowed, HasPolicies, HasRoot, HasSudo, Asking, clocked, spent_by}
+use Rattle.histories.specs.Words.{path_of}
 use Rattle.histories.proofs.Clients.{from_clock}
 use Rattle.histories.proofs.Created.{has_policies}
 use Rattle.histories.proofs.TokenLaws.{granted_so, path_is}
@@ -49,16 +45,16 @@ module _ (privileged : Bool) (making : Making) (x : Token) (ps : List Text) (ask
     (all : creation.IsAllowed privileged making x ps asked) where
   none_refuses : may_make privileged making x ps asked ≡ Ok tt
   none_refuses =
-      passes (is_none x.uses_left) (refusal.BadRequest reason.RestrictedToken) _ (ap is_none all.unlimited)
-      ∙ passes (list_all is_name asked.policies) (refusal.BadRequest reason.InvalidName) _ all.named
-      ∙ passes (have_root x.policies || not (have_root asked.policies)) (refusal.BadRequest reason.RootByRootAlone) _
+      passes (is_none x.uses_left) (Refusal.BadRequest Reason.RestrictedToken) _ (ap is_none all.unlimited)
+      ∙ passes (list_all is_name asked.policies) (Refusal.BadRequest Reason.InvalidName) _ all.named
+      ∙ passes (have_root x.policies || not (have_root asked.policies)) (Refusal.BadRequest Reason.RootByRootAlone) _
       all.root
       ∙ passes (privileged || list_all (has x.policies) asked.policies)
-      (refusal.BadRequest reason.PoliciesBeyondParent) _ all.had
+      (Refusal.BadRequest Reason.PoliciesBeyondParent) _ all.had
       ∙ passes (privileged || (makes_orphans making || not asked.no_parent))
-      (refusal.BadRequest reason.OrphanNeedsSudo) _ all.parted
-      ∙ passes (is_none x.ends || not (has_no_end ps asked)) (refusal.BadRequest reason.ExpiringRoot) _ all.ends
-      ∙ ap (λ v. unless v (refusal.BadRequest reason.PeriodNeedsSudo)) all.period
+      (Refusal.BadRequest Reason.OrphanNeedsSudo) _ all.parted
+      ∙ passes (is_none x.ends || not (has_no_end ps asked)) (Refusal.BadRequest Reason.ExpiringRoot) _ all.ends
+      ∙ ap (λ v. unless v (Refusal.BadRequest Reason.PeriodNeedsSudo)) all.period
 
 -- ---- a creation that may be made
 
@@ -93,7 +89,7 @@ module _ (granted : AllThatIsGranted) (root_may : RootMayDoAll) (a : Asking) (so
 
   is_so : HasRoot own ⊎ HasSudo (clocked a) own (path_of making) → privileged ≡ true
   is_so may =
-      ap (λ path. grants here.policies own.policies verb.Write path Sudo) (path_is making)
+      ap (λ path. grants here.policies own.policies Verb.Write path Sudo) (path_is making)
       ∙ granted_so granted root_may here.policies own.policies (path_of making) may
 
   -- with privileges, or asking for its own, each of these tests holds
@@ -167,7 +163,7 @@ module _ (granted : AllThatIsGranted) (root_may : RootMayDoAll) (a : Asking) (so
       let d = made here names (token ps) in (
         d,
         _,
-        ap (λ (o : Option Token). some_or (refusal.Forbidden denial.BadToken) o
+        ap (λ (o : Option Token). some_or (Refusal.Forbidden Denial.BadToken) o
             >>= (λ x. make x (privileges x) (new_policies (privileges x) x asked))) k.calls.there
             ∙ ap (λ (r : Result ⊤ Refusal). r >>= (λ u. Ok d)) (none_refuses privileged making own ps asked all_hold),
         refl,

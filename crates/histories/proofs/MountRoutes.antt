@@ -1,20 +1,13 @@
 -- What the paths mean in a mount that was enabled, and those of policies, of mounts and of cubbyholes.
-use Rattle.std.proofs.Common.{◌≡◌, ◌&&◌, ◌||◌, ◌++◌, ◌∷◌, if◌then◌else◌, [], ℕ, Bool, true, false, not, Option, Some}
-use Rattle.broker_model.specs.Words.{None, Result, codes, unwrap_or, list_all, refl, ◌∙◌, ap, and_parts, false≢true}
-use Rattle.broker_model.specs.Words.{is_mount_name, is_name, Engine, Mount, issued, kv, ◌>>=◌, Text, same, Verb}
-use Rattle.broker_model.specs.Words.{Refusal, or_else, split-lacking, slash, mount_no_slash, are_bytes, parameter}
-use Rattle.broker_model.specs.Words.{AreInOrder, FoundByForm, NoneFoundByForm, Route, operation_for, route_of}
-use Rattle.broker_model.specs.Words.{route_rows, engine_type, fixed_type, type_at, type_of, MountType, Operation}
-use Rattle.broker_model.specs.Words.{Cubbyholes, Mounts, Policies, Secrets, Command, command_for}
-use Rattle.broker_types.specs.declared.ask.Verb.TheVariants as verb
-use Rattle.mounts.specs.declared.mount_type.MountType.TheVariants as type
-use Rattle.mounts.specs.declared.operation.CubbyholeOperation.TheVariants as of_cubbyholes
-use Rattle.mounts.specs.declared.operation.IssuedOperation.TheVariants as of_issued
-use Rattle.mounts.specs.declared.operation.MountOperation.TheVariants as of_mounts
-use Rattle.mounts.specs.declared.operation.Operation.TheVariants.{Issued}
-use Rattle.mounts.specs.declared.operation.PolicyOperation.TheVariants as of_policies
-use Rattle.mounts.specs.declared.operation.SecretOperation.TheVariants as of_secrets
-use Rattle.histories.specs.Words.{MeansIn, PathsOfIssued, PathsOfSecrets, PathsOfSettings}
+use Rattle.broker_model.specs.Words.{is_mount_name, split-lacking, mount_no_slash}
+use Rattle.histories.specs.Words.{◌≡◌, ◌&&◌, ◌||◌, ◌++◌, ◌∷◌, if◌then◌else◌, [], ℕ, Bool, true, false, not, Option}
+use Rattle.histories.specs.Words.{Some, None, Result, codes, unwrap_or, list_all, refl, ◌∙◌, ap, and_parts, false≢true}
+use Rattle.histories.specs.Words.{is_name, Engine, Mount, issued, kv, ◌>>=◌, Text, same, Verb, Refusal, or_else, slash}
+use Rattle.histories.specs.Words.{are_bytes, parameter, AreInOrder, FoundByForm, NoneFoundByForm, Route, operation_for}
+use Rattle.histories.specs.Words.{route_of, route_rows, engine_type, fixed_type, type_at, type_of, MountType, Operation}
+use Rattle.histories.specs.Words.{Cubbyholes, Mounts, Policies, Secrets, Command, command_for, CubbyholeOperation}
+use Rattle.histories.specs.Words.{IssuedOperation, MountOperation, Issued, PolicyOperation, SecretOperation, MeansIn}
+use Rattle.histories.specs.Words.{PathsOfIssued, PathsOfSecrets, PathsOfSettings}
 use Rattle.histories.proofs.Routes.{StandsFor, asked, route_to, routed_at}
 
 -- ---- the name of a mount
@@ -31,7 +24,8 @@ not_fixed name h =
     (same name (codes "identity")) (and_parts (is_name name) _ h).1
   where
     by : (x y z w : Bool) → not (x || (y || (z || (w || false)))) ≡ true
-        → (if y then Some type.Token else (if x then Some type.System else (if z then Some type.Cubbyhole else None)))
+        → (if y then Some MountType.Token else (if x then Some MountType.System else
+        (if z then Some MountType.Cubbyhole else None)))
         ≡ None
     by true y z w h = absurd (false≢true h)
     by false true z w h = absurd (false≢true h)
@@ -63,63 +57,63 @@ module _ (found : FoundByForm) (none : NoneFoundByForm) (ordered : AreInOrder) w
   unfolding same
   paths_of_secrets = record {
     show_settings =
-        in_mount kv verb.Get (codes "config") (codes "config") [] (Secrets of_secrets.ShowSettings) refl
+        in_mount kv Verb.Get (codes "config") (codes "config") [] (Secrets SecretOperation.ShowSettings) refl
         (record { listed = refl; form = refl; alone = refl }) refl refl;
     set_settings =
-        in_mount kv verb.Write (codes "config") (codes "config") [] (Secrets of_secrets.SetSettings) refl
+        in_mount kv Verb.Write (codes "config") (codes "config") [] (Secrets SecretOperation.SetSettings) refl
         (record { listed = refl; form = refl; alone = refl }) refl refl;
     read =
-        λ c path bytes. in_mount kv verb.Get (codes "data/" ++ c ∷ path) (codes "data/{*path}") (c ∷ path)
-        (Secrets of_secrets.Read) bytes (record { listed = refl; form = refl; alone = refl }) refl refl;
+        λ c path bytes. in_mount kv Verb.Get (codes "data/" ++ c ∷ path) (codes "data/{*path}") (c ∷ path)
+        (Secrets SecretOperation.Read) bytes (record { listed = refl; form = refl; alone = refl }) refl refl;
     write =
-        λ c path bytes. in_mount kv verb.Write (codes "data/" ++ c ∷ path) (codes "data/{*path}") (c ∷ path)
-        (Secrets of_secrets.Write) bytes (record { listed = refl; form = refl; alone = refl }) refl refl;
+        λ c path bytes. in_mount kv Verb.Write (codes "data/" ++ c ∷ path) (codes "data/{*path}") (c ∷ path)
+        (Secrets SecretOperation.Write) bytes (record { listed = refl; form = refl; alone = refl }) refl refl;
     delete_current =
-        λ c path bytes. in_mount kv verb.Delete (codes "data/" ++ c ∷ path) (codes "data/{*path}") (c ∷ path)
-        (Secrets of_secrets.DeleteCurrent) bytes (record { listed = refl; form = refl; alone = refl }) refl refl;
+        λ c path bytes. in_mount kv Verb.Delete (codes "data/" ++ c ∷ path) (codes "data/{*path}") (c ∷ path)
+        (Secrets SecretOperation.DeleteCurrent) bytes (record { listed = refl; form = refl; alone = refl }) refl refl;
     delete =
-        λ c path bytes. in_mount kv verb.Write (codes "delete/" ++ c ∷ path) (codes "delete/{*path}") (c ∷ path)
-        (Secrets of_secrets.Delete) bytes (record { listed = refl; form = refl; alone = refl }) refl refl;
+        λ c path bytes. in_mount kv Verb.Write (codes "delete/" ++ c ∷ path) (codes "delete/{*path}") (c ∷ path)
+        (Secrets SecretOperation.Delete) bytes (record { listed = refl; form = refl; alone = refl }) refl refl;
     undelete =
-        λ c path bytes. in_mount kv verb.Write (codes "undelete/" ++ c ∷ path) (codes "undelete/{*path}") (c ∷ path)
-        (Secrets of_secrets.Undelete) bytes (record { listed = refl; form = refl; alone = refl }) refl refl;
+        λ c path bytes. in_mount kv Verb.Write (codes "undelete/" ++ c ∷ path) (codes "undelete/{*path}") (c ∷ path)
+        (Secrets SecretOperation.Undelete) bytes (record { listed = refl; form = refl; alone = refl }) refl refl;
     destroy =
-        λ c path bytes. in_mount kv verb.Write (codes "destroy/" ++ c ∷ path) (codes "destroy/{*path}") (c ∷ path)
-        (Secrets of_secrets.Destroy) bytes (record { listed = refl; form = refl; alone = refl }) refl refl;
+        λ c path bytes. in_mount kv Verb.Write (codes "destroy/" ++ c ∷ path) (codes "destroy/{*path}") (c ∷ path)
+        (Secrets SecretOperation.Destroy) bytes (record { listed = refl; form = refl; alone = refl }) refl refl;
     list_whole =
-        in_mount kv verb.List (codes "metadata") (codes "metadata") [] (Secrets of_secrets.List) refl
+        in_mount kv Verb.List (codes "metadata") (codes "metadata") [] (Secrets SecretOperation.List) refl
         (record { listed = refl; form = refl; alone = refl }) refl refl;
     list =
-        λ c path bytes. in_mount kv verb.List (codes "metadata/" ++ c ∷ path) (codes "metadata/{*path}") (c ∷ path)
-        (Secrets of_secrets.List) bytes (record { listed = refl; form = refl; alone = refl }) refl refl;
+        λ c path bytes. in_mount kv Verb.List (codes "metadata/" ++ c ∷ path) (codes "metadata/{*path}") (c ∷ path)
+        (Secrets SecretOperation.List) bytes (record { listed = refl; form = refl; alone = refl }) refl refl;
     show_metadata =
-        λ c path bytes. in_mount kv verb.Get (codes "metadata/" ++ c ∷ path) (codes "metadata/{*path}") (c ∷ path)
-        (Secrets of_secrets.ShowMetadata) bytes (record { listed = refl; form = refl; alone = refl }) refl refl;
+        λ c path bytes. in_mount kv Verb.Get (codes "metadata/" ++ c ∷ path) (codes "metadata/{*path}") (c ∷ path)
+        (Secrets SecretOperation.ShowMetadata) bytes (record { listed = refl; form = refl; alone = refl }) refl refl;
     set_metadata =
-        λ c path bytes. in_mount kv verb.Write (codes "metadata/" ++ c ∷ path) (codes "metadata/{*path}") (c ∷ path)
-        (Secrets of_secrets.SetMetadata) bytes (record { listed = refl; form = refl; alone = refl }) refl refl;
+        λ c path bytes. in_mount kv Verb.Write (codes "metadata/" ++ c ∷ path) (codes "metadata/{*path}") (c ∷ path)
+        (Secrets SecretOperation.SetMetadata) bytes (record { listed = refl; form = refl; alone = refl }) refl refl;
     remove =
-        λ c path bytes. in_mount kv verb.Delete (codes "metadata/" ++ c ∷ path) (codes "metadata/{*path}") (c ∷ path)
-        (Secrets of_secrets.Remove) bytes (record { listed = refl; form = refl; alone = refl }) refl refl;
+        λ c path bytes. in_mount kv Verb.Delete (codes "metadata/" ++ c ∷ path) (codes "metadata/{*path}") (c ∷ path)
+        (Secrets SecretOperation.Remove) bytes (record { listed = refl; form = refl; alone = refl }) refl refl;
   }
 
   pub paths_of_issued : PathsOfIssued
   unfolding same
   paths_of_issued = record {
     show_role =
-        λ c name bytes one. in_mount issued verb.Get (codes "roles/" ++ c ∷ name) (codes "roles/{name}") (c ∷ name)
-        (Issued of_issued.ShowRole) bytes (record { listed = refl; form = one; alone = refl }) refl refl;
+        λ c name bytes one. in_mount issued Verb.Get (codes "roles/" ++ c ∷ name) (codes "roles/{name}") (c ∷ name)
+        (Issued IssuedOperation.ShowRole) bytes (record { listed = refl; form = one; alone = refl }) refl refl;
     set_role =
-        λ c name bytes one. in_mount issued verb.Write (codes "roles/" ++ c ∷ name) (codes "roles/{name}") (c ∷ name)
-        (Issued of_issued.SetRole) bytes (record { listed = refl; form = one; alone = refl }) refl refl;
+        λ c name bytes one. in_mount issued Verb.Write (codes "roles/" ++ c ∷ name) (codes "roles/{name}") (c ∷ name)
+        (Issued IssuedOperation.SetRole) bytes (record { listed = refl; form = one; alone = refl }) refl refl;
     remove_role =
-        λ c name bytes one. in_mount issued verb.Delete (codes "roles/" ++ c ∷ name) (codes "roles/{name}") (c ∷ name)
-        (Issued of_issued.RemoveRole) bytes (record { listed = refl; form = one; alone = refl }) refl refl;
+        λ c name bytes one. in_mount issued Verb.Delete (codes "roles/" ++ c ∷ name) (codes "roles/{name}") (c ∷ name)
+        (Issued IssuedOperation.RemoveRole) bytes (record { listed = refl; form = one; alone = refl }) refl refl;
     issue =
-        λ c name bytes one. in_mount issued verb.Get (codes "creds/" ++ c ∷ name) (codes "creds/{name}") (c ∷ name)
-        (Issued of_issued.Issue) bytes (record { listed = refl; form = one; alone = refl }) refl refl;
+        λ c name bytes one. in_mount issued Verb.Get (codes "creds/" ++ c ∷ name) (codes "creds/{name}") (c ∷ name)
+        (Issued IssuedOperation.Issue) bytes (record { listed = refl; form = one; alone = refl }) refl refl;
     verify =
-        in_mount issued verb.Write (codes "verify") (codes "verify") [] (Issued of_issued.Verify) refl
+        in_mount issued Verb.Write (codes "verify") (codes "verify") [] (Issued IssuedOperation.Verify) refl
         (record { listed = refl; form = refl; alone = refl }) refl refl;
   }
 
@@ -129,49 +123,54 @@ module _ (found : FoundByForm) (none : NoneFoundByForm) (ordered : AreInOrder) w
   unfolding same
   paths_of_settings = record {
     list_policies =
-        asked found none ordered type.System verb.List (codes "sys") (codes "policies/acl")
+        asked found none ordered MountType.System Verb.List (codes "sys") (codes "policies/acl")
         (codes "sys/policies/acl") (codes "policies/acl") []
-        (Policies of_policies.List) (λ o. refl) refl refl (record { listed = refl; form = refl; alone = refl }) refl
+        (Policies PolicyOperation.List) (λ o. refl) refl refl (record { listed = refl; form = refl; alone = refl }) refl
         refl;
     show_policy =
-        λ c name bytes one. asked found none ordered type.System verb.Get (codes "sys")
+        λ c name bytes one. asked found none ordered MountType.System Verb.Get (codes "sys")
         (codes "policies/acl/" ++ c ∷ name)
         (codes "sys/policies/acl/" ++ c ∷ name) (codes "policies/acl/{name}") (c ∷ name)
-        (Policies of_policies.Show) (λ o. refl) refl bytes (record { listed = refl; form = one; alone = refl }) refl
+        (Policies PolicyOperation.Show) (λ o. refl) refl bytes (record { listed = refl; form = one; alone = refl }) refl
         refl;
     set_policy =
-        λ c name bytes one. asked found none ordered type.System verb.Write (codes "sys")
+        λ c name bytes one. asked found none ordered MountType.System Verb.Write (codes "sys")
         (codes "policies/acl/" ++ c ∷ name)
         (codes "sys/policies/acl/" ++ c ∷ name) (codes "policies/acl/{name}") (c ∷ name)
-        (Policies of_policies.Set) (λ o. refl) refl bytes (record { listed = refl; form = one; alone = refl }) refl
+        (Policies PolicyOperation.Set) (λ o. refl) refl bytes (record { listed = refl; form = one; alone = refl }) refl
         refl;
     remove_policy =
-        λ c name bytes one. asked found none ordered type.System verb.Delete (codes "sys")
+        λ c name bytes one. asked found none ordered MountType.System Verb.Delete (codes "sys")
         (codes "policies/acl/" ++ c ∷ name)
         (codes "sys/policies/acl/" ++ c ∷ name) (codes "policies/acl/{name}") (c ∷ name)
-        (Policies of_policies.Remove) (λ o. refl) refl bytes (record { listed = refl; form = one; alone = refl }) refl
+        (Policies PolicyOperation.Remove) (λ o. refl) refl bytes (record { listed = refl; form = one; alone = refl })
+        refl
         refl;
     list_mounts =
-        asked found none ordered type.System verb.Get (codes "sys") (codes "mounts") (codes "sys/mounts")
+        asked found none ordered MountType.System Verb.Get (codes "sys") (codes "mounts") (codes "sys/mounts")
         (codes "mounts") []
-        (Mounts of_mounts.List) (λ o. refl) refl refl (record { listed = refl; form = refl; alone = refl }) refl refl;
+        (Mounts MountOperation.List) (λ o. refl) refl refl (record { listed = refl; form = refl; alone = refl }) refl
+        refl;
     enable_mount =
-        λ c name bytes one. asked found none ordered type.System verb.Write (codes "sys") (codes "mounts/" ++ c ∷ name)
+        λ c name bytes one. asked found none ordered MountType.System Verb.Write (codes "sys")
+        (codes "mounts/" ++ c ∷ name)
         (codes "sys/mounts/" ++ c ∷ name) (codes "mounts/{name}") (c ∷ name)
-        (Mounts of_mounts.Enable) (λ o. refl) refl bytes (record { listed = refl; form = one; alone = refl }) refl
+        (Mounts MountOperation.Enable) (λ o. refl) refl bytes (record { listed = refl; form = one; alone = refl }) refl
         refl;
     write_object =
-        λ c path bytes. asked found none ordered type.Cubbyhole verb.Write (codes "cubbyhole") (c ∷ path)
+        λ c path bytes. asked found none ordered MountType.Cubbyhole Verb.Write (codes "cubbyhole") (c ∷ path)
         (codes "cubbyhole/" ++ c ∷ path) (codes "{*path}") (c ∷ path)
-        (Cubbyholes of_cubbyholes.Write) (λ o. refl) refl bytes (record { listed = refl; form = refl; alone = refl })
+        (Cubbyholes CubbyholeOperation.Write) (λ o. refl) refl bytes
+        (record { listed = refl; form = refl; alone = refl })
         refl refl;
     list_objects =
-        λ c path bytes. asked found none ordered type.Cubbyhole verb.List (codes "cubbyhole") (c ∷ path)
+        λ c path bytes. asked found none ordered MountType.Cubbyhole Verb.List (codes "cubbyhole") (c ∷ path)
         (codes "cubbyhole/" ++ c ∷ path) (codes "{*path}") (c ∷ path)
-        (Cubbyholes of_cubbyholes.List) (λ o. refl) refl bytes (record { listed = refl; form = refl; alone = refl })
+        (Cubbyholes CubbyholeOperation.List) (λ o. refl) refl bytes
+        (record { listed = refl; form = refl; alone = refl })
         refl refl;
     list_cubbyhole =
-        asked found none ordered type.Cubbyhole verb.List (codes "cubbyhole") [] (codes "cubbyhole") [] []
-        (Cubbyholes of_cubbyholes.List) (λ o. refl) refl refl (record { listed = refl; form = refl; alone = refl })
+        asked found none ordered MountType.Cubbyhole Verb.List (codes "cubbyhole") [] (codes "cubbyhole") [] []
+        (Cubbyholes CubbyholeOperation.List) (λ o. refl) refl refl (record { listed = refl; form = refl; alone = refl })
         refl refl;
   }

@@ -1,13 +1,11 @@
 -- Which mounts the list shows.
-use Rattle.std.proofs.Common.{◌≡◌, ◌≢◌, ◌∷◌, List, [], map, true, false, cond, All, Some, None, codes, option_map, refl}
-use Rattle.broker_model.specs.Words.{fold, lookup, sym, ◌∙◌, ap, subst, inl, inr, All-head, All-tail, none-some, Text}
-use Rattle.broker_model.specs.Words.{same, text_cmp, same_true, Map, empty, entries, get, map_values, put, with_values}
+use Rattle.broker_model.specs.Words.{List, [], map, true, false, cond, Some, None, codes, option_map, refl, fold}
+use Rattle.broker_model.specs.Words.{lookup, sym, ◌∙◌, ap, subst, inl, inr, All-head, All-tail, none-some, Text, same}
+use Rattle.broker_model.specs.Words.{text_cmp, same_true, Map, empty, entries, get, map_values, put, with_values}
 use Rattle.broker_model.specs.Words.{entries-map_values, get-lookup, get-map_values, Engine, Mount, issued, kv, mapped}
 use Rattle.broker_model.specs.Words.{put_is, put_keeps, put_there, each_entry, listed_types, printed, typed, with_type}
-use Rattle.broker_model.specs.Words.{engine_type, type_of, MountType, MountObject, shown_mount}
-use Rattle.std.specs.FinMap as fin
-use Rattle.mounts.specs.declared.mount_type.MountType.TheVariants as type
-use Rattle.histories.specs.Words.{IsMountShown, mount_shown}
+use Rattle.broker_model.specs.Words.{engine_type, type_of, MountType, MountObject, shown_mount, get-empty}
+use Rattle.histories.specs.Words.{◌≡◌, ◌≢◌, ◌∷◌, All, IsMountShown, mount_shown}
 
 -- ---- types put one after another
 
@@ -52,7 +50,7 @@ module _ (mounts : Map Mount) where
   own = fold with_type empty (map typed (entries mounts))
 
   abbrev with_cubbyhole : Map MountType
-  with_cubbyhole = put own (printed (codes "cubbyhole")) type.Cubbyhole
+  with_cubbyhole = put own (printed (codes "cubbyhole")) MountType.Cubbyhole
 
   -- the mounts by their printed names
   abbrev pub objects : Map MountObject
@@ -66,12 +64,13 @@ module _ (mounts : Map Mount) where
   each_shown : (q : Text) (t : MountType) → get (listed_types mounts) q ≡ Some t
       → IsMountShown mounts (shown_mount (q, t))
   each_shown q t e =
-      put_is with_cubbyhole (printed (codes "sys")) type.System q t (IsMountShown mounts (shown_mount (q, t))) e
+      put_is with_cubbyhole (printed (codes "sys")) MountType.System q t (IsMountShown mounts (shown_mount (q, t))) e
       (λ here is. inl (λ i. shown_mount (here i, is i)))
-      (λ e. put_is own (printed (codes "cubbyhole")) type.Cubbyhole q t (IsMountShown mounts (shown_mount (q, t))) e
+      (λ e. put_is own (printed (codes "cubbyhole")) MountType.Cubbyhole q t (IsMountShown mounts (shown_mount (q, t)))
+      e
       (λ here is. inr (inl (λ i. shown_mount (here i, is i))))
       (only_of (λ q t. IsMountShown mounts (shown_mount (q, t))) (entries mounts) empty
-      (λ q t e. absurd (none-some _ (sym (fin.get-empty text_cmp q) ∙ e)))
+      (λ q t e. absurd (none-some _ (sym (get-empty text_cmp q) ∙ e)))
       (each_entry (λ (m : Text × Mount). IsMountShown mounts (shown_mount (printed m.0, type_of m.1))) mounts
       (λ name m there. inr (inr (name, m, there, of_engine (printed name) m.engine)))) q t))
 
@@ -93,20 +92,20 @@ module _ (mounts : Map Mount) where
           ∙ ap (option_map (λ t. shown_mount (q, t))) e)
 
   pub own_shown : (name : Text) → get mounts name ≢ None → get objects (printed name) ≢ None
-  own_shown name there = has_object (printed name) (put_keeps with_cubbyhole (printed (codes "sys")) type.System _
-      (put_keeps own (printed (codes "cubbyhole")) type.Cubbyhole _ (by (get mounts name) refl)))
+  own_shown name there = has_object (printed name) (put_keeps with_cubbyhole (printed (codes "sys")) MountType.System _
+      (put_keeps own (printed (codes "cubbyhole")) MountType.Cubbyhole _ (by (get mounts name) refl)))
     where
       by : (o : _) → get mounts name ≡ o → get own (printed name) ≢ None
       by None e = absurd (there e)
       by (Some m) e = comes (entries mounts) empty name m (sym (get-lookup mounts name) ∙ e)
 
   pub system_shown : get objects (codes "sys/") ≢ None
-  system_shown = has_object (codes "sys/") (put_there with_cubbyhole (printed (codes "sys")) type.System)
+  system_shown = has_object (codes "sys/") (put_there with_cubbyhole (printed (codes "sys")) MountType.System)
 
   pub cubbyhole_shown : get objects (codes "cubbyhole/") ≢ None
   cubbyhole_shown = has_object (codes "cubbyhole/")
-      (put_keeps with_cubbyhole (printed (codes "sys")) type.System (codes "cubbyhole/")
-      (put_there own (printed (codes "cubbyhole")) type.Cubbyhole))
+      (put_keeps with_cubbyhole (printed (codes "sys")) MountType.System (codes "cubbyhole/")
+      (put_there own (printed (codes "cubbyhole")) MountType.Cubbyhole))
 
   flat : (ts : List (Text × MountType))
       → map (λ (e : Text × MountObject). e.1) (with_values (λ q t. shown_mount (q, t)) ts)

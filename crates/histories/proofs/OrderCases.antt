@@ -1,11 +1,10 @@
 -- The cases of the order of one request.
-use Rattle.std.proofs.Common.{◌≡◌, ◌⊎◌, ◌||◌, if◌then◌else◌, ℕ, Bool, true, false, not, nat_lt, Option, Some, None, Ok}
-use Rattle.broker_model.specs.Words.{Result, Err, is_some, refl, sym, ◌∙◌, ap, subst, inl, inr, Text, get, Broker}
-use Rattle.broker_model.specs.Words.{at_moment, Names, Done, some_or, unless, no_ok, ok_step, unless_ok, spend}
-use Rattle.broker_model.specs.Words.{drop_waiting, are_new, Verb, Refusal, ok_inj, Outcome, Traits, Wrapped, denied}
-use Rattle.broker_model.specs.Words.{for_caller, finish, needed, ordered, permission_denied, serve, wrapped, Request}
-use Rattle.broker_types.specs.declared.refusal.Refusal.TheVariants as refusal
-use Rattle.broker_types.specs.declared.refusal.Reason.TheVariants as reason
+use Rattle.histories.specs.Words.{◌≡◌, ◌⊎◌, ◌||◌, if◌then◌else◌, ℕ, Bool, true, false, not, nat_lt, Option, Some, None}
+use Rattle.histories.specs.Words.{Ok, Result, Err, is_some, refl, sym, ◌∙◌, ap, subst, inl, inr, Text, get, Broker}
+use Rattle.histories.specs.Words.{at_moment, Names, Done, some_or, unless, no_ok, ok_step, unless_ok, spend}
+use Rattle.histories.specs.Words.{drop_waiting, are_new, Verb, Refusal, ok_inj, Outcome, Traits, Wrapped, denied}
+use Rattle.histories.specs.Words.{for_caller, finish, needed, ordered, permission_denied, serve, wrapped, Request}
+use Rattle.histories.specs.Words.{Reason}
 
 -- ---- steps of a definition
 
@@ -74,9 +73,9 @@ module _ {Command : Type 0} (permits : Broker → Option Text → Verb → Text 
       let p = ok_step (unless (q.is_open || permits b caller q.verb q.path) permission_denied) _ v e in
       let r = ok_step (q.command b) _ v p.2 in
       let n =
-      ok_step (unless (are_new b.used (needed permits traits act q names r.0)) refusal.IdentifierUsed) _ v r.2 in
+      ok_step (unless (are_new b.used (needed permits traits act q names r.0)) Refusal.IdentifierUsed) _ v r.2 in
       let m = ok_step (unless (not (traits r.0).must_wrap || nat_lt 0 q.wrap_ttl)
-      (refusal.BadRequest reason.WrappingRequired)) _ v n.2 in
+      (Refusal.BadRequest Reason.WrappingRequired)) _ v n.2 in
       let f = ok_step (act b caller names r.0) _ v m.2 in
       inr (inr (record {
         caller = caller;
@@ -85,7 +84,7 @@ module _ {Command : Type 0} (permits : Broker → Option Text → Verb → Text 
         done = f.0;
         allowed = unless_ok _ permission_denied p.0 p.1;
         means = r.1;
-        new = unless_ok _ refusal.IdentifierUsed n.0 n.1;
+        new = unless_ok _ Refusal.IdentifierUsed n.0 n.1;
         acted = f.1;
         outcome = ap (λ (x : Wrapped). finish b caller (Ok x)) (sym (ok_inj f.2));
       }))

@@ -1,32 +1,73 @@
 -- What is another's stays: what makes a token go, what changes of one that stands, and who reads a cubbyhole.
-use Rattle.std.proofs.Common.{◌≡◌, ◌≢◌, ◌⊎◌, ◌&&◌, ◌||◌, ◌-◌, ◌==◌, if◌then◌else◌, ℕ, zero, suc, [], true, false, not}
-use Rattle.broker_model.specs.Words.{nat_lt, Option, Some, None, Ok, is_none, is_some, option_map, list_any}
-use Rattle.broker_model.specs.Words.{option_map_or, refl, sym, ◌∙◌, ap, subst, inl, inr, arith, false≢true, and_parts}
-use Rattle.broker_model.specs.Words.{eqb-true, none-some, same_Some, get-empty, Text, same, text_cmp, IsTree, Map, get}
-use Rattle.broker_model.specs.Words.{keys, len, valued_none, Broker, climb, ends_within, is_under, climb_above}
-use Rattle.broker_model.specs.Words.{climb_at, ends_above, ends_at, names_of, reply, Done, found_or_not, some_or}
-use Rattle.broker_model.specs.Words.{unless, no_ok, ok_step, Sound, is_spent, one_less, Token, Tokens, status_code}
-use Rattle.broker_model.specs.Words.{Reply, children, folder, ok_inj, keys_object, plain_reply, reply_text, act}
-use Rattle.broker_model.specs.Words.{Command, on_cubbyhole, command_of, allowed, chained, forms, OperationsDoAsTold}
-use Rattle.broker_model.specs.Words.{Outcome, Wrapped, response_to, permits, ok, request_of, step, traits, are_none}
-use Rattle.broker_model.specs.Words.{is_privileged, making_path, new_policies}
-use Rattle.broker_types.specs.declared.refusal.Refusal.TheVariants as refusal
-use Rattle.broker_types.specs.declared.status.Status.TheVariants as status
 use Rattle.cubbyhole.specs.Cubbyhole as of_cubbyhole
-use Rattle.histories.specs.Words.{CubbyholeCommand, Asking, clocked, spent_by, AllOwnStays, AnswersOwn, EndsWithClient}
-use Rattle.histories.specs.Words.{TokenGoes, IsListAt, IsObjectAt, IsClient, has_no_use, left_by_caller}
-use Rattle.broker_model.specs.declared.commands.CubbyholeCommand.TheVariants as cubbyhole
-use Rattle.histories.proofs.Clients.{CarriesOut, Course, from_clock}
+use Rattle.histories.specs.Words.{◌≡◌, ◌≢◌, ◌⊎◌, ◌&&◌, ◌||◌, ◌-◌, ◌==◌, if◌then◌else◌, ℕ, zero, suc, [], true, false}
+use Rattle.histories.specs.Words.{not, nat_lt, Option, Some, None, Ok, is_none, is_some, option_map, list_any}
+use Rattle.histories.specs.Words.{option_map_or, refl, sym, ◌∙◌, ap, subst, inl, inr, arith, false≢true, and_parts}
+use Rattle.histories.specs.Words.{eqb-true, none-some, same_Some, get-empty, Text, same, text_cmp, IsTree, Map, get}
+use Rattle.histories.specs.Words.{keys, len, valued_none, Broker, climb, ends_within, is_under, climb_above, climb_at}
+use Rattle.histories.specs.Words.{ends_above, ends_at, names_of, reply, Done, found_or_not, some_or, unless, no_ok}
+use Rattle.histories.specs.Words.{ok_step, Sound, is_spent, one_less, Token, Tokens, status_code, Reply, children}
+use Rattle.histories.specs.Words.{folder, ok_inj, keys_object, plain_reply, reply_text, act, Command, on_cubbyhole}
+use Rattle.histories.specs.Words.{command_of, allowed, chained, forms, OperationsDoAsTold, Outcome, Wrapped}
+use Rattle.histories.specs.Words.{response_to, permits, ok, request_of, step, traits, are_none, is_privileged}
+use Rattle.histories.specs.Words.{making_path, new_policies, Refusal, Status, CubbyholeCommand, Asking, clocked}
+use Rattle.histories.specs.Words.{spent_by, AllOwnStays, AnswersOwn, EndsWithClient, TokenGoes, IsListAt, IsObjectAt}
+use Rattle.histories.specs.Words.{IsClient, has_no_use, left_by_caller, same_self, put, without, get-change}
+use Rattle.histories.specs.Words.{get-put_self, get-without_self, mapped, edited, with_cubbyhole, LeavesAt}
+use Rattle.histories.proofs.Clients.{CarriesOut, Course, from_clock, is_client}
 use Rattle.histories.proofs.Created.{new_unspent}
-use Rattle.histories.proofs.CubbyholeEdits.{edits_stand}
 use Rattle.histories.proofs.Descent.{Makes, follows, keeps, leaves}
-use Rattle.histories.proofs.OrderCases.{IsCaller, some_ok, spent}
-use Rattle.histories.proofs.OrderKeeps.{wrapped_cases}
-use Rattle.histories.proofs.Requests.{answers_plainly, asked_at, means_at_clock}
+use Rattle.histories.proofs.Order.{IsCaller, some_ok, spent, wrapped_cases, answers_plainly, asked_at, means_at_clock}
+use Rattle.histories.proofs.Order.{Served, served}
 use Rattle.histories.proofs.Renewals.{had_lease, renewed_lease, renewed_token}
 use Rattle.histories.proofs.RevocationLasts.{called_tree, not_due_stays}
-use Rattle.histories.proofs.Served.{Served, served}
 use Rattle.histories.proofs.TokenLaws.{asked_course}
+use Rattle.histories.proofs.Disabled.{token_left}
+
+-- ---- after a 204 to a write or a deletion the cubbyhole of the client token has what that leaves
+
+-- a token that is there after an edit of its cubbyhole has it edited
+edited_is : (b : Broker) (c : Text) (edit : Map Text → Map Text) (y : Token) → get (edited b c edit).tokens c ≡ Some y
+    → (x : Token) × (y.cubbyhole ≡ edit x.cubbyhole)
+edited_is b c edit y e =
+    let x = mapped (λ (x : Token). if same c c then with_cubbyhole edit x else x) (get b.tokens c) y
+    (sym (get-change b.tokens c (with_cubbyhole edit) c) ∙ e) in
+    (x.0, ap (λ (z : Token). z.cubbyhole) (x.2 ∙ ap (λ v. if v then with_cubbyhole edit x.0 else x.0) (same_self c)))
+
+module _ (a : Asking) (is : a.outcome ≡ step a.broker a.moment a.words a.ask) (q path : Text) (client : IsClient a q)
+    (answered : a.outcome.response.status ≡ Status.NoContent) (y : Token)
+    (there : get a.outcome.next.tokens q ≡ Some y) where
+  it : Served a
+  it = served a is (omega (arith, ap status_code answered))
+
+  left : (caller : Option Text) → IsCaller (clocked a) (request_of a.ask) caller → (command : CubbyholeCommand)
+      → act (spent (clocked a) caller) caller (names_of a.words) (on_cubbyhole path command) ≡ Ok it.done
+      → LeavesAt (get y.cubbyhole path) command
+  left None asked command e = no_ok e
+  left (Some c) asked (CubbyholeCommand.Write None) e = no_ok e
+  left (Some c) asked (CubbyholeCommand.Write (Some text)) e =
+      let at : q ≡ c = same_Some _ _ (sym client.token ∙ (is_client a c asked).token) in
+      let x = edited_is (spent (clocked a) (Some c)) c (λ m. put m path text) y
+      (ap (λ (z : Done). get z.next.tokens c) (ok_inj e)
+      ∙ subst (λ u. get it.done.next.tokens u ≡ Some y) at (token_left a it q y there)) in
+      ap (λ (m : Map Text). get m path) x.1 ∙ get-put_self (x.0).cubbyhole path text
+  left (Some c) asked CubbyholeCommand.Delete e =
+      let at : q ≡ c = same_Some _ _ (sym client.token ∙ (is_client a c asked).token) in
+      let x = edited_is (spent (clocked a) (Some c)) c (λ m. without m path) y
+      (ap (λ (z : Done). get z.next.tokens c) (ok_inj e)
+      ∙ subst (λ u. get it.done.next.tokens u ≡ Some y) at (token_left a it q y there)) in
+      ap (λ (m : Map Text). get m path) x.1 ∙ get-without_self (x.0).cubbyhole path
+  left (Some c) asked CubbyholeCommand.Read e = tt
+  left (Some c) asked CubbyholeCommand.List e = tt
+
+  pub edits_stand : (command : CubbyholeCommand) → command_of (clocked a).mounts a.ask ≡ Ok (on_cubbyhole path command)
+      → LeavesAt (get y.cubbyhole path) command
+  edits_stand command means =
+      let is_command : it.command ≡ on_cubbyhole path command =
+      ok_inj (sym (means_at_clock a it.caller it.command it.means) ∙ means) in
+      left it.caller it.asked command
+      (subst (λ (x : Command). act (spent (clocked a) it.caller) it.caller (names_of a.words) x ≡ Ok it.done)
+      is_command it.acted)
 
 -- ---- what is above a token of fewer
 
@@ -183,7 +224,7 @@ module _ (a : Asking) where
 
 module _ (a : Asking) (is : a.outcome ≡ step a.broker a.moment a.words a.ask) (path : Text) (k : CubbyholeCommand)
     (means : command_of (clocked a).mounts a.ask ≡ Ok (on_cubbyhole path k))
-    (success : a.outcome.response.status ≡ status.Success) where
+    (success : a.outcome.response.status ≡ Status.Success) where
   was_served : Served a
   was_served = served a is (omega (arith, ap status_code success))
 
@@ -264,20 +305,20 @@ own_stays told b history h = record {
   edited = λ i a q path command y at client means answered there.
       edits_stand a (asked_at b history i a h at).outcome q path client answered y there command means;
   reads = λ i a path at means success.
-      answers_own a (asked_at b history i a h at).outcome path cubbyhole.Read means success (IsObjectAt path)
+      answers_own a (asked_at b history i a h at).outcome path CubbyholeCommand.Read means success (IsObjectAt path)
       (λ c x there done.
-      let kept = ok_step (some_or refusal.NotFound (of_cubbyhole.object_at (spent_by a c) c path)) _ _ done in
+      let kept = ok_step (some_or Refusal.NotFound (of_cubbyhole.object_at (spent_by a c) c path)) _ _ done in
       let object = chained (λ (z : Token). get z.cubbyhole path) (get (spent_by a c).tokens c) kept.0
-      (some_ok refusal.NotFound _ kept.1) in (
+      (some_ok Refusal.NotFound _ kept.1) in (
         kept.0,
         subst (λ (z : Token). get z.cubbyhole path ≡ Some kept.0) (same_Some _ _ (sym object.1 ∙ there)) object.2,
         ap (λ (z : Done). z.answered) (sym (ok_inj kept.2)),
       ));
   lists = λ i a path at means success.
-      answers_own a (asked_at b history i a h at).outcome path cubbyhole.List means success (IsListAt path)
+      answers_own a (asked_at b history i a h at).outcome path CubbyholeCommand.List means success (IsListAt path)
       (λ c x there done.
       let names = of_cubbyhole.list (spent_by a c) c path in
-      let some = ok_step (unless (not (are_none names)) refusal.NotFound) _ _ done in (
+      let some = ok_step (unless (not (are_none names)) Refusal.NotFound) _ _ done in (
         keys_object names,
         ap (λ (o : Option Token). keys_object (children (folder path)
             (option_map_or (λ (z : Token). keys z.cubbyhole) o []))) there,

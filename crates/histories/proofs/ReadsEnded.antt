@@ -1,26 +1,152 @@
 -- What a 404 to a read of a version shows: one that is deleted or destroyed, without what it held; or there is none.
-use Rattle.std.proofs.Common.{◌≡◌, ◌≢◌, ◌⊎◌, ◌==◌, if◌then◌else◌, ℕ, Bool, true, false, is_some, Option, Some, None, Ok}
-use Rattle.broker_model.specs.Words.{Result, Err, option_and_then, option_map, refl, sym, ◌∙◌, ap, subst, inl, inr}
-use Rattle.broker_model.specs.Words.{eqb-true, none-some, Text, entries, get, Response, refused, names_of, missing}
-use Rattle.broker_model.specs.Words.{reply, Done, mapped, mapped_none, not_there, some_or, no_ok, ok_step, Key, Version}
-use Rattle.broker_model.specs.Words.{spend, Refusal, Reply, Status, ok_inj, secret_name, Found, asked_number, numbered}
-use Rattle.broker_model.specs.Words.{secret_object, plain_reply, reply_text, act, Command, command_of, on_secret}
-use Rattle.broker_model.specs.Words.{chained, Outcome, Wrapped, permission_denied, response_to, permits, not_found}
-use Rattle.broker_model.specs.Words.{request_of, step, traits, Place, object_left, version_answered, version_reply}
 use Rattle.broker_model.specs.Words.{version_shown}
-use Rattle.std.specs.FinMap as fin
-use Rattle.broker_types.specs.declared.refusal.Reason.TheVariants as reason
-use Rattle.broker_types.specs.declared.refusal.Refusal.TheVariants as refusal
-use Rattle.broker_types.specs.declared.status.Status.TheVariants as status
 use Rattle.kv2.specs.Secrets as secrets
-use Rattle.broker_model.specs.declared.commands.SecretCommand.TheVariants as secret
-use Rattle.histories.specs.Words.{Asking, clocked, LacksVersion, ShowsEnded}
+use Rattle.histories.specs.Words.{◌≡◌, ◌≢◌, ◌⊎◌, ◌==◌, if◌then◌else◌, ℕ, Bool, true, false, is_some, Option, Some, None}
+use Rattle.histories.specs.Words.{Ok, Result, Err, option_and_then, option_map, refl, sym, ◌∙◌, ap, subst, inl, inr}
+use Rattle.histories.specs.Words.{eqb-true, none-some, Text, entries, get, Response, refused, names_of, missing, reply}
+use Rattle.histories.specs.Words.{Done, mapped, mapped_none, not_there, some_or, no_ok, ok_step, Key, Version, spend}
+use Rattle.histories.specs.Words.{Refusal, Reply, Status, ok_inj, secret_name, Found, asked_number, numbered}
+use Rattle.histories.specs.Words.{secret_object, plain_reply, reply_text, act, Command, command_of, on_secret, chained}
+use Rattle.histories.specs.Words.{Outcome, Wrapped, permission_denied, response_to, permits, not_found, request_of}
+use Rattle.histories.specs.Words.{step, traits, Place, object_left, version_answered, version_reply, Reason}
+use Rattle.histories.specs.Words.{SecretCommand, Asking, clocked, LacksVersion, ShowsEnded, ◌||◌, not, nat_lt, ⊤, Map}
+use Rattle.histories.specs.Words.{Broker, Mount, ◌>>=◌, unless, unless_ok, are_new, finish, needed, serve, wrapped}
+use Rattle.histories.specs.Words.{Request}
 use Rattle.histories.proofs.EventSecrets.{is_200}
-use Rattle.histories.proofs.OrderCases.{some_ok, spent}
-use Rattle.histories.proofs.OrderKeeps.{wrapped_cases}
-use Rattle.histories.proofs.Reasons.{Rejects, Way, err_inj, err_step, some_err, ways}
-use Rattle.histories.proofs.Requests.{means_at_clock}
-use Rattle.histories.proofs.Served.{Served}
+use Rattle.histories.proofs.Order.{some_ok, spent, wrapped_cases, means_at_clock, Served, IsCaller, spent_mounts}
+use Rattle.histories.proofs.InOrder.{in_order}
+
+-- ---- why a request that means a command is refused: by policies, by its identifiers, or by the command
+
+-- ---- steps that are refused
+
+pub err_inj : {X : Type 0} {x y : Refusal} → ◌≡◌ {A = Result X Refusal} (Err x) (Err y) → x ≡ y
+err_inj {X = X} {x = x} e = ap why e
+  where
+    why : Result X Refusal → Refusal
+    why (Ok y) = x
+    why (Err z) = z
+
+-- the step that was refused first, or the next
+pub err_step : {A B : Type 0} (r : Result A Refusal) (f : A → Result B Refusal) (e : Refusal) → (r >>= f) ≡ Err e
+    → (r ≡ Err e) ⊎ ((x : A) × (r ≡ Ok x) × (f x ≡ Err e))
+err_step (Ok x) f e h = inr (x, refl, h)
+err_step (Err z) f e h = inl (ap Err (err_inj h))
+
+pub unless_err : (v : Bool) (r e : Refusal) → unless v r ≡ Err e → e ≡ r
+unless_err true r e h = no_ok (sym h)
+unless_err false r e h = sym (err_inj h)
+
+pub some_err : {A : Type 0} (r : Refusal) (o : Option A) (e : Refusal) → some_or r o ≡ Err e → (o ≡ None) × (e ≡ r)
+some_err r None e h = (refl, sym (err_inj h))
+some_err r (Some x) e h = no_ok (sym h)
+
+-- ---- one request
+
+-- the command was refused
+pub record Rejects (a : Asking) (command : Command) : Type 0 where
+  pub caller : Option Text
+  pub asked : IsCaller (clocked a) (request_of a.ask) caller
+  pub why : Refusal
+  pub acted : act (spent (clocked a) caller) caller (names_of a.words) command ≡ Err why
+  pub response : a.outcome.response ≡ refused why
+
+-- the request was denied; its identifiers were not new, or it had no wrap TTL; its command was refused; or it was
+-- served
+abbrev pub Way : Asking → Command → Type 0
+Way a command =
+    (a.outcome.response ≡ refused permission_denied)
+    ⊎ ((a.outcome.response ≡ refused Refusal.IdentifierUsed)
+    ⊎ ((a.outcome.response ≡ refused (Refusal.BadRequest Reason.WrappingRequired)) ⊎ (Rejects a command ⊎ Served a)))
+
+module _ (a : Asking) (is : a.outcome ≡ step a.broker a.moment a.words a.ask) (command : Command)
+    (means : command_of (clocked a).mounts a.ask ≡ Ok command) where
+  abbrev q : Request Command
+  q = request_of a.ask
+
+  module _ (caller : Option Text) (asked : IsCaller (clocked a) (request_of a.ask) caller) where
+    abbrev start : Broker
+    start = spent (clocked a) caller
+
+    means_it : q.command start ≡ Ok command
+    means_it = ap (λ (m : Map Mount). command_of m a.ask) (spent_mounts (clocked a) caller) ∙ means
+
+    abbrev fresh : Result ⊤ Refusal
+    fresh = unless (are_new start.used (needed permits traits act q (names_of a.words) command)) Refusal.IdentifierUsed
+
+    abbrev has_ttl : Result ⊤ Refusal
+    has_ttl =
+        unless (not (traits command).must_wrap || nat_lt 0 q.wrap_ttl) (Refusal.BadRequest Reason.WrappingRequired)
+
+    by_command : (why : Refusal) → a.outcome ≡ finish start caller (Err why)
+        → (fresh >>= (λ u. has_ttl >>= (λ v. act start caller (names_of a.words) command
+        >>= (λ d. Ok (wrapped permits traits act start q (names_of a.words) command d))))) ≡ Err why
+        → Way a command
+    by_command why outcome e = elim (err_step fresh _ why e) [
+      | inl used ↦ inr (inl (answer ∙ ap refused (unless_err _ _ why used)))
+      | inr (u, new, f) ↦ elim (err_step has_ttl _ why f) [
+        | inl none ↦ inr (inr (inl (answer ∙ ap refused (unless_err _ _ why none))))
+        | inr (v, some, g) ↦ elim (err_step (act start caller (names_of a.words) command) _ why g) [
+          | inl rejected ↦ inr (inr (inr (inl (record {
+            caller = caller;
+            asked = asked;
+            why = why;
+            acted = rejected;
+            response = answer;
+          }))))
+          | inr d ↦ no_ok (sym d.2)
+        ]
+      ]
+    ]
+      where
+        answer : a.outcome.response ≡ refused why
+        answer = ap (λ (o : Outcome). o.response) outcome
+
+    by_result : (r : Result Wrapped Refusal) → serve permits traits act start caller q (names_of a.words) ≡ r
+        → a.outcome ≡ finish start caller r → Way a command
+    by_result (Err why) e outcome =
+        elim (err_step (unless (q.is_open || permits start caller q.verb q.path) permission_denied) _ why e) [
+          | inl forbidden ↦ inl (ap (λ (o : Outcome). o.response) outcome
+              ∙ ap refused (unless_err _ _ why forbidden))
+          | inr (u, may, f) ↦
+              by_command why outcome
+              (ap (λ (z : Result Command Refusal). z >>= (λ k.
+              unless (are_new start.used (needed permits traits act q (names_of a.words) k)) Refusal.IdentifierUsed
+              >>= (λ u. unless (not (traits k).must_wrap || nat_lt 0 q.wrap_ttl)
+              (Refusal.BadRequest Reason.WrappingRequired)
+              >>= (λ v. act start caller (names_of a.words) k
+              >>= (λ d. Ok (wrapped permits traits act start q (names_of a.words) k d)))))) (sym means_it) ∙ f)
+        ]
+    by_result (Ok v) e outcome =
+        let p = ok_step (unless (q.is_open || permits start caller q.verb q.path) permission_denied) _ v e in
+        let r = ok_step (q.command start) _ v p.2 in
+        let n = ok_step (unless (are_new start.used (needed permits traits act q (names_of a.words) r.0))
+        Refusal.IdentifierUsed) _ v r.2 in
+        let m = ok_step (unless (not (traits r.0).must_wrap || nat_lt 0 q.wrap_ttl)
+        (Refusal.BadRequest Reason.WrappingRequired)) _ v n.2 in
+        let f = ok_step (act start caller (names_of a.words) r.0) _ v m.2 in
+        inr (inr (inr (inr (record {
+          caller = caller;
+          asked = asked;
+          command = r.0;
+          done = f.0;
+          allowed = unless_ok _ permission_denied p.0 p.1;
+          means = r.1;
+          new = unless_ok _ Refusal.IdentifierUsed n.0 n.1;
+          acted = f.1;
+          outcome = outcome ∙ ap (λ (x : Wrapped). finish start caller (Ok x)) (sym (ok_inj f.2));
+        }))))
+
+  -- a request that means the command went in one of these ways
+  pub ways : Way a command
+  unfolding step
+  ways =
+      in_order permits traits act a.broker a.moment q (names_of a.words)
+      (λ o. a.outcome ≡ o → Way a command)
+      (λ closed none outcome. inl (ap (λ (o : Outcome). o.response) outcome))
+      (λ t closed is_token waits outcome. inl (ap (λ (o : Outcome). o.response) outcome))
+      (λ caller asked outcome. by_result caller asked
+      (serve permits traits act (spent (clocked a) caller) caller q (names_of a.words)) refl outcome) is
 
 -- the number that is asked for
 pub number_is : (k : Key) (n : ℕ) → n ≢ 0 → asked_number k.current n ≡ n
@@ -43,7 +169,7 @@ has_ended v none = by v.deleted refl none
     by (Some t) is e = inl (λ away. none-some t (sym away ∙ is))
 
 module _ (a : Asking) (p : Place) (n : ℕ)
-    (means : command_of (clocked a).mounts a.ask ≡ Ok (on_secret p (secret.Read n)))
+    (means : command_of (clocked a).mounts a.ask ≡ Ok (on_secret p (SecretCommand.Read n)))
   where
     abbrev request : Text
     request = (names_of a.words).request
@@ -53,18 +179,19 @@ module _ (a : Asking) (p : Place) (n : ℕ)
       pub key : Key
       pub there : get (clocked a).secrets (secret_name p.mount p.path) ≡ Some key
       pub version : Version
-      pub is_kept : fin.get key.versions (asked_number key.current n) ≡ Some version
+      pub is_kept : get key.versions (asked_number key.current n) ≡ Some version
       pub answered : d.answered
           ≡ version_answered request (numbered (entries key.custom_metadata) (asked_number key.current n) version)
 
     found_by : (d : Done) (caller : Option Text)
-        → act (spent (clocked a) caller) caller (names_of a.words) (on_secret p (secret.Read n)) ≡ Ok d → FoundRead d
+        → act (spent (clocked a) caller) caller (names_of a.words) (on_secret p (SecretCommand.Read n)) ≡ Ok d
+        → FoundRead d
     found_by d None e = no_ok e
     found_by d (Some c) e =
-        let v = ok_step (some_or refusal.NotFound (secrets.read (spend (clocked a) c) p.mount p.path n)) _ d e in
+        let v = ok_step (some_or Refusal.NotFound (secrets.read (spend (clocked a) c) p.mount p.path n)) _ d e in
         let o = get (clocked a).secrets (secret_name p.mount p.path) in
         let k = chained (λ (k : Key). option_map (numbered (entries k.custom_metadata) (asked_number k.current n))
-        (fin.get k.versions (asked_number k.current n))) o v.0 (some_ok refusal.NotFound _ v.1) in
+        (get k.versions (asked_number k.current n))) o v.0 (some_ok Refusal.NotFound _ v.1) in
         let x = mapped (numbered (entries (k.0).custom_metadata) (asked_number (k.0).current n)) _ v.0 k.2 in
         record {
           key = k.0;
@@ -137,17 +264,17 @@ module _ (a : Asking) (p : Place) (n : ℕ)
     -- ---- where there is none
 
     lacks : (caller : Option Text) (why : Refusal)
-        → act (spent (clocked a) caller) caller (names_of a.words) (on_secret p (secret.Read n)) ≡ Err why
-        → (refused why).status ≡ status.NotFound
-        → LacksVersion a p n × (why ≡ refusal.NotFound)
+        → act (spent (clocked a) caller) caller (names_of a.words) (on_secret p (SecretCommand.Read n)) ≡ Err why
+        → (refused why).status ≡ Status.NotFound
+        → LacksVersion a p n × (why ≡ Refusal.NotFound)
     lacks None why e is_404 = absurd (apart (ap (λ r. (refused r).status) (err_inj e) ∙ is_404))
       where
-        apart : ◌≡◌ {A = Status} status.Forbidden status.NotFound → ⊥
+        apart : ◌≡◌ {A = Status} Status.Forbidden Status.NotFound → ⊥
         apart e = cc
     lacks (Some c) why e is_404 =
-        elim (err_step (some_or refusal.NotFound (secrets.read (spend (clocked a) c) p.mount p.path n)) _ why e) [
+        elim (err_step (some_or Refusal.NotFound (secrets.read (spend (clocked a) c) p.mount p.path n)) _ why e) [
           | inr x ↦ absurd (ok_no_err x.2)
-          | inl none ↦ by (some_err refusal.NotFound (secrets.read (spend (clocked a) c) p.mount p.path n) why none)
+          | inl none ↦ by (some_err Refusal.NotFound (secrets.read (spend (clocked a) c) p.mount p.path n) why none)
         ]
       where
         ok_no_err : {X : Type 0} {x : X} {e : Refusal} → ◌≡◌ {A = Result X Refusal} (Ok x) (Err e) → ⊥
@@ -155,35 +282,35 @@ module _ (a : Asking) (p : Place) (n : ℕ)
 
         at_key : (k : Key) → get (clocked a).secrets (secret_name p.mount p.path) ≡ Some k
             → secrets.read (spend (clocked a) c) p.mount p.path n ≡ None
-            → fin.get k.versions (asked_number k.current n) ≡ None
+            → get k.versions (asked_number k.current n) ≡ None
         at_key k there none =
             mapped_none (numbered (entries k.custom_metadata) (asked_number k.current n)) _
             (ap (option_and_then (λ (k : Key).
             option_map (numbered (entries k.custom_metadata) (asked_number k.current n))
-            (fin.get k.versions (asked_number k.current n)))) (sym there) ∙ none)
+            (get k.versions (asked_number k.current n)))) (sym there) ∙ none)
 
-        by : (secrets.read (spend (clocked a) c) p.mount p.path n ≡ None) × (why ≡ refusal.NotFound)
-            → LacksVersion a p n × (why ≡ refusal.NotFound)
+        by : (secrets.read (spend (clocked a) c) p.mount p.path n ≡ None) × (why ≡ Refusal.NotFound)
+            → LacksVersion a p n × (why ≡ Refusal.NotFound)
         by (none, is) = (
           record {
-            by_number = λ k there some. ap (fin.get k.versions) (sym (number_is k n some)) ∙ at_key k there none;
-            by_current = λ k there zero_. ap (fin.get k.versions) (sym (current_is k n zero_)) ∙ at_key k there none;
+            by_number = λ k there some. ap (get k.versions) (sym (number_is k n some)) ∙ at_key k there none;
+            by_current = λ k there zero_. ap (get k.versions) (sym (current_is k n zero_)) ∙ at_key k there none;
           },
           is,
         )
 
 -- what a 404 to a read says
 module _ (a : Asking) (is : a.outcome ≡ step a.broker a.moment a.words a.ask) (p : Place) (n : ℕ)
-    (means : command_of (clocked a).mounts a.ask ≡ Ok (on_secret p (secret.Read n)))
-    (is_404 : a.outcome.response.status ≡ status.NotFound) where
+    (means : command_of (clocked a).mounts a.ask ≡ Ok (on_secret p (SecretCommand.Read n)))
+    (is_404 : a.outcome.response.status ≡ Status.NotFound) where
   abbrev Says : Type 0
-  Says = ShowsEnded a p n ⊎ (LacksVersion a p n × (a.outcome.response ≡ refused refusal.NotFound))
+  Says = ShowsEnded a p n ⊎ (LacksVersion a p n × (a.outcome.response ≡ refused Refusal.NotFound))
 
   -- another refusal is no 404
-  other : (why : Refusal) → a.outcome.response ≡ refused why → ((refused why).status ≡ status.NotFound → ⊥) → Says
+  other : (why : Refusal) → a.outcome.response ≡ refused why → ((refused why).status ≡ Status.NotFound → ⊥) → Says
   other why response apart = absurd (apart (ap (λ (r : Response). r.status) (sym response) ∙ is_404))
 
-  rejected : Rejects a (on_secret p (secret.Read n)) → Says
+  rejected : Rejects a (on_secret p (SecretCommand.Read n)) → Says
   rejected r =
       let none = lacks a p n means r.caller r.why r.acted (ap (λ (x : Response). x.status) (sym r.response) ∙ is_404) in
       inr (none.0, r.response ∙ ap refused none.1)
@@ -193,24 +320,24 @@ module _ (a : Asking) (is : a.outcome ≡ step a.broker a.moment a.words a.ask) 
       inl (ended_if a p n means s (found a p n means s) (λ r answered.
       absurd (apart (sym (is_200 a s r None answered) ∙ is_404))))
     where
-      apart : ◌≡◌ {A = Status} status.Success status.NotFound → ⊥
+      apart : ◌≡◌ {A = Status} Status.Success Status.NotFound → ⊥
       apart e = cc
 
   pub read_404 : Says
-  read_404 = by_way (ways a is (on_secret p (secret.Read n)) means)
+  read_404 = by_way (ways a is (on_secret p (SecretCommand.Read n)) means)
     where
-      not_403 : ◌≡◌ {A = Status} status.Forbidden status.NotFound → ⊥
+      not_403 : ◌≡◌ {A = Status} Status.Forbidden Status.NotFound → ⊥
       not_403 e = cc
 
-      not_500 : ◌≡◌ {A = Status} status.InternalServerError status.NotFound → ⊥
+      not_500 : ◌≡◌ {A = Status} Status.InternalServerError Status.NotFound → ⊥
       not_500 e = cc
 
-      not_400 : ◌≡◌ {A = Status} status.BadRequest status.NotFound → ⊥
+      not_400 : ◌≡◌ {A = Status} Status.BadRequest Status.NotFound → ⊥
       not_400 e = cc
 
-      by_way : Way a (on_secret p (secret.Read n)) → Says
+      by_way : Way a (on_secret p (SecretCommand.Read n)) → Says
       by_way (inl forbidden) = other permission_denied forbidden not_403
-      by_way (inr (inl used)) = other refusal.IdentifierUsed used not_500
-      by_way (inr (inr (inl none))) = other (refusal.BadRequest reason.WrappingRequired) none not_400
+      by_way (inr (inl used)) = other Refusal.IdentifierUsed used not_500
+      by_way (inr (inr (inl none))) = other (Refusal.BadRequest Reason.WrappingRequired) none not_400
       by_way (inr (inr (inr (inl r)))) = rejected r
       by_way (inr (inr (inr (inr s)))) = was_served s

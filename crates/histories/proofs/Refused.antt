@@ -1,23 +1,17 @@
 -- What a refused request leaves, and what policies decide.
-use Rattle.std.proofs.Common.{◌≡◌, ◌≢◌, ◌≤◌, ◌||◌, if◌then◌else◌, ℕ, List, Bool, true, false, not, nat_lt, is_some, Ok}
-use Rattle.broker_model.specs.Words.{Option, Some, None, Result, Err, ⊤, option_map_or, refl, sym, ◌∙◌, ap, subst, inl}
-use Rattle.broker_model.specs.Words.{inr, arith, false≢true, none-some, Text, same, Map, get, valued_is, IsRefused}
-use Rattle.broker_model.specs.Words.{Broker, Mount, Waiting, at_moment, Names, names_of, Answered, nothing, reply}
-use Rattle.broker_model.specs.Words.{kept_text, missing, Done, ◌>>=◌, unless, ok_step, unless_ok, spend, drop_waiting}
-use Rattle.broker_model.specs.Words.{end_spent, one_less, status_code, Token, are_new, use_up, Ask, Refusal, Words}
-use Rattle.broker_model.specs.Words.{ok_inj, act, Command, on_wrapping, command_of, OperationsDoAsTold, Outcome}
-use Rattle.broker_model.specs.Words.{Wrapped, counted, denied, finish, for_caller, needed, permission_denied}
-use Rattle.broker_model.specs.Words.{response_to, serve, unwrapped, may_ask, permits, Request, operated, request_of}
-use Rattle.broker_model.specs.Words.{step, traits}
-use Rattle.broker_types.specs.declared.refusal.Refusal.TheVariants as refusal
-use Rattle.broker_types.specs.declared.refusal.Reason.TheVariants as reason
-use Rattle.broker_model.specs.declared.commands.WrappingCommand.TheVariants as response
-use Rattle.histories.specs.Words.{Calls, ChangesNothingElse, HasNoCaller, HasResponse, IsDenial, PoliciesDecide}
-use Rattle.histories.specs.Words.{RefusedChangeNothing, WrapNeedsTtl, is_granted}
+use Rattle.histories.specs.Words.{◌≡◌, ◌≢◌, ◌≤◌, ◌||◌, if◌then◌else◌, ℕ, List, Bool, true, false, not, nat_lt, is_some}
+use Rattle.histories.specs.Words.{Ok, Option, Some, None, Result, Err, ⊤, option_map_or, refl, sym, ◌∙◌, ap, subst, inl}
+use Rattle.histories.specs.Words.{inr, arith, false≢true, none-some, Text, same, Map, get, valued_is, IsRefused, Broker}
+use Rattle.histories.specs.Words.{Mount, Waiting, at_moment, Names, names_of, Answered, nothing, reply, kept_text}
+use Rattle.histories.specs.Words.{missing, Done, ◌>>=◌, unless, ok_step, unless_ok, spend, drop_waiting, end_spent}
+use Rattle.histories.specs.Words.{one_less, status_code, Token, are_new, use_up, Ask, Refusal, Words, ok_inj, act}
+use Rattle.histories.specs.Words.{Command, on_wrapping, command_of, OperationsDoAsTold, Outcome, Wrapped, counted}
+use Rattle.histories.specs.Words.{denied, finish, for_caller, needed, permission_denied, response_to, serve, unwrapped}
+use Rattle.histories.specs.Words.{may_ask, permits, Request, operated, request_of, step, traits, Reason}
+use Rattle.histories.specs.Words.{WrappingCommand, Calls, ChangesNothingElse, HasNoCaller, HasResponse, IsDenial}
+use Rattle.histories.specs.Words.{PoliciesDecide, RefusedChangeNothing, WrapNeedsTtl, is_granted}
 use Rattle.histories.proofs.InOrder.{in_order}
-use Rattle.histories.proofs.OrderCases.{IsCaller, spent, with_caller}
-use Rattle.histories.proofs.OrderKeeps.{wrapped_cases}
-use Rattle.histories.proofs.Requests.{spent_mounts}
+use Rattle.histories.proofs.Order.{IsCaller, spent, with_caller, wrapped_cases, spent_mounts}
 
 -- ---- refused
 
@@ -73,9 +67,9 @@ module _ (told : OperationsDoAsTold) (b : Broker) (moment : ℕ) (words : Words)
         let p = ok_step (unless (q.is_open || permits start caller q.verb q.path) permission_denied) _ v e in
         let r = ok_step (q.command start) _ v p.2 in
         let n =
-        ok_step (unless (are_new start.used (needed permits traits act q names r.0)) refusal.IdentifierUsed) _ v r.2 in
+        ok_step (unless (are_new start.used (needed permits traits act q names r.0)) Refusal.IdentifierUsed) _ v r.2 in
         let m = ok_step (unless (not (traits r.0).must_wrap || nat_lt 0 q.wrap_ttl)
-        (refusal.BadRequest reason.WrappingRequired)) _ v n.2 in
+        (Refusal.BadRequest Reason.WrappingRequired)) _ v n.2 in
         let f = ok_step (act start caller names r.0) _ v m.2 in
         elim (wrapped_cases permits traits act start q names r.0 f.0) [
           | inl plain ↦ by_answer v r.0 f.0 f.1 (sym (ok_inj f.2) ∙ plain) f.0.answered refl high
@@ -107,7 +101,7 @@ refused_change_nothing told b moment words a high = leaves_all_else told b momen
 -- ---- without a wrap TTL
 
 module _ (b : Broker) (moment : ℕ) (words : Words) (a : Ask) (text : Text)
-    (means : command_of (at_moment b moment).mounts a ≡ Ok (on_wrapping (response.Wrap text)))
+    (means : command_of (at_moment b moment).mounts a ≡ Ok (on_wrapping (WrappingCommand.Wrap text)))
     (none : a.wrap_ttl ≡ 0) where
   abbrev IsNot : Outcome → Type 0
   IsNot o = IsRefused o.response
@@ -122,15 +116,15 @@ module _ (b : Broker) (moment : ℕ) (words : Words) (a : Ask) (text : Text)
       let p = ok_step (unless (z.is_open || permits start caller z.verb z.path) permission_denied) _ v e in
       let r = ok_step (z.command start) _ v p.2 in
       let n = ok_step (unless (are_new start.used (needed permits traits act z (names_of words) r.0))
-      refusal.IdentifierUsed) _ v r.2 in
+      Refusal.IdentifierUsed) _ v r.2 in
       let m = ok_step (unless (not (traits r.0).must_wrap || nat_lt 0 z.wrap_ttl)
-      (refusal.BadRequest reason.WrappingRequired)) _ v n.2 in
-      let is : r.0 ≡ on_wrapping (response.Wrap text) =
+      (Refusal.BadRequest Reason.WrappingRequired)) _ v n.2 in
+      let is : r.0 ≡ on_wrapping (WrappingCommand.Wrap text) =
       ok_inj (sym r.1 ∙ ap (λ (ms : Map Mount). command_of ms a) (spent_mounts (at_moment b moment) caller) ∙ means) in
       absurd (false≢true
       (sym (ap (λ (k : Command). not (traits k).must_wrap || nat_lt 0 a.wrap_ttl) is
       ∙ ap (λ t. not true || nat_lt 0 t) none)
-      ∙ unless_ok _ (refusal.BadRequest reason.WrappingRequired) m.0 m.1))
+      ∙ unless_ok _ (Refusal.BadRequest Reason.WrappingRequired) m.0 m.1))
 
   pub needs_ttl : IsRefused (step b moment words a).response
   unfolding step

@@ -1,28 +1,21 @@
 -- What a renewal that was answered with 200 renewed.
-use Rattle.std.proofs.Common.{◌≡◌, ◌≢◌, ◌+◌, ◌-◌, ◌==◌, if◌then◌else◌, ℕ, min, is_some, Some, None, Ok, option_and_then}
-use Rattle.broker_model.specs.Words.{option_map, refl, sym, ◌∙◌, ap, subst, inl, inr, arith, ne_eqb, none-some}
-use Rattle.broker_model.specs.Words.{same_Some, Text, same, same_self, change, first_where, get, get-change, valued_is}
-use Rattle.broker_model.specs.Words.{Broker, names_of, Done, found_or_not, is_there, lease_of, unless, no_ok, ok_step}
-use Rattle.broker_model.specs.Words.{unless_ok, first_where_is, status_code, Lease, Token, Tokens, has_lease}
-use Rattle.broker_model.specs.Words.{token_entry, ok_inj, auth_object, lease_reply, reply_text, on_lease, on_token}
-use Rattle.broker_model.specs.Words.{chained, OperationsDoAsTold, step, act_on_tokens, known, new_end, renew_token}
-use Rattle.broker_types.specs.declared.refusal.Reason.TheVariants as reason
-use Rattle.broker_types.specs.declared.refusal.Refusal.TheVariants as refusal
 use Rattle.leases.specs.Leases as leases
-use Rattle.token_tree.specs.Tokens as tree
-use Rattle.broker_model.specs.declared.commands.LeaseCommand.TheVariants as of_lease
-use Rattle.histories.specs.Words.{TokenCommand, told_of, with_token, Asking, clocked, spent_by, IsRenewedLease}
-use Rattle.histories.specs.Words.{IsRenewedTo, RenewalOf, RenewsLease, RenewsToken, increment_of, TellsRenewed}
-use Rattle.histories.specs.Words.{TellsRenewedLease}
-use Rattle.broker_model.specs.declared.commands.TokenCommand.TheVariants as of_token
+use Rattle.histories.specs.Words.{with_end, ◌≡◌, ◌≢◌, ◌+◌, ◌-◌, ◌==◌, if◌then◌else◌, ℕ, min, is_some, Some, None, Ok}
+use Rattle.histories.specs.Words.{option_and_then, option_map, refl, sym, ◌∙◌, ap, subst, inl, inr, arith, ne_eqb}
+use Rattle.histories.specs.Words.{none-some, same_Some, Text, same, same_self, change, first_where, get, get-change}
+use Rattle.histories.specs.Words.{valued_is, Broker, names_of, Done, found_or_not, is_there, lease_of, unless, no_ok}
+use Rattle.histories.specs.Words.{ok_step, unless_ok, first_where_is, status_code, Lease, Token, Tokens, has_lease}
+use Rattle.histories.specs.Words.{token_entry, ok_inj, auth_object, lease_reply, reply_text, on_lease, on_token}
+use Rattle.histories.specs.Words.{chained, OperationsDoAsTold, step, act_on_tokens, known, new_end, renew_token, Reason}
+use Rattle.histories.specs.Words.{Refusal, LeaseCommand, TokenCommand, told_of, with_token, Asking, clocked, spent_by}
+use Rattle.histories.specs.Words.{IsRenewedLease, IsRenewedTo, RenewalOf, RenewsLease, RenewsToken, increment_of}
+use Rattle.histories.specs.Words.{TellsRenewed, TellsRenewedLease}
 use Rattle.histories.proofs.Clients.{from_clock}
 use Rattle.histories.proofs.Descent.{HasNewEnd, before_use, renewed_to}
 use Rattle.histories.proofs.Disabled.{token_left}
 use Rattle.histories.proofs.LeaseChanges.{renewed_so}
-use Rattle.histories.proofs.OrderCases.{some_ok}
+use Rattle.histories.proofs.Order.{some_ok, tells_body, served}
 use Rattle.histories.proofs.RenewedEnds.{is_new_end}
-use Rattle.histories.proofs.Requests.{tells_body}
-use Rattle.histories.proofs.Served.{served}
 use Rattle.histories.proofs.ServedFor.{ServedFor, served_for}
 
 -- ---- a token
@@ -44,9 +37,9 @@ module _ (a : Asking) (is : a.outcome ≡ step a.broker a.moment a.words a.ask) 
       → renew_token start (names_of a.words) t increment ≡ Ok for.it.done → Renewed
   by_text t increment is_q is_so e =
       let x = ok_step (known start t) _ for.it.done e in
-      let ending = ok_step (unless (is_some x.0.ends) (refusal.BadRequest reason.TokenNotRenewable)) _ for.it.done x.2
+      let ending = ok_step (unless (is_some x.0.ends) (Refusal.BadRequest Reason.TokenNotRenewable)) _ for.it.done x.2
       in
-      let f = tree.with_end (new_end start.clock (token_entry x.0) increment) in
+      let f = with_end (new_end start.clock (token_entry x.0) increment) in
       let left : get (change start.tokens t f) q ≡ Some y =
       ap (λ (z : Done). get z.next.tokens q) (ok_inj ending.2) ∙ token_left a for.it q y there in
       let z = valued_is (λ u (w : Token). if same u t then f w else w) start.tokens q y left in
@@ -73,9 +66,9 @@ module _ (a : Asking) (is : a.outcome ≡ step a.broker a.moment a.words a.ask) 
   Acts k = act_on_tokens start for.caller (names_of a.words) k ≡ Ok for.it.done
 
   by_command : (k : TokenCommand) → r.command ≡ k → RenewalOf r.caller q k → Acts k → Renewed
-  by_command (of_token.Renew asked) is_k names acted =
+  by_command (TokenCommand.Renew asked) is_k names acted =
       by_text asked.token asked.increment names (ap increment_of (sym is_k)) acted
-  by_command (of_token.RenewSelf increment) is_k names acted =
+  by_command (TokenCommand.RenewSelf increment) is_k names acted =
       by_text for.caller increment (same_Some _ _ (sym for.client.token ∙ r.client.token) ∙ names)
       (ap increment_of (sym is_k)) acted
   by_command _ is_k names acted = absurd names
@@ -105,7 +98,7 @@ module _ (told : OperationsDoAsTold) (a : Asking) (is : a.outcome ≡ step a.bro
       let now = (clocked a).clock in
       let request = (names_of a.words).request in
       let x = ok_step (known start t) _ for_token.it.done e in
-      let ending = ok_step (unless (is_some x.0.ends) (refusal.BadRequest reason.TokenNotRenewable)) _
+      let ending = ok_step (unless (is_some x.0.ends) (Refusal.BadRequest Reason.TokenNotRenewable)) _
       for_token.it.done x.2 in
       let object : Text → ℕ → Text = λ u n. reply_text (with_token request
       (auth_object (told_of now u (record x.0 { ends = Some (new_end now (token_entry x.0) n) })))) in
@@ -122,9 +115,9 @@ module _ (told : OperationsDoAsTold) (a : Asking) (is : a.outcome ≡ step a.bro
   ActsFor k = act_on_tokens (spent_by a r.caller) r.caller (names_of a.words) k ≡ Ok for_token.it.done
 
   tells_by : (k : TokenCommand) → r.command ≡ k → RenewalOf r.caller q k → ActsFor k → TellsRenewed a q r
-  tells_by (of_token.Renew asked) is_k names acted =
+  tells_by (TokenCommand.Renew asked) is_k names acted =
       tells_of asked.token asked.increment names (ap increment_of (sym is_k)) acted
-  tells_by (of_token.RenewSelf increment) is_k names acted =
+  tells_by (TokenCommand.RenewSelf increment) is_k names acted =
       tells_of r.caller increment names (ap increment_of (sym is_k)) acted
   tells_by _ is_k names acted = absurd names
 
@@ -138,9 +131,9 @@ module _ (told : OperationsDoAsTold) (a : Asking) (is : a.outcome ≡ step a.bro
 
 module _ (a : Asking) (is : a.outcome ≡ step a.broker a.moment a.words a.ask) (lease_id : Text)
     (r : RenewsLease a lease_id) where
-  pub for_lease : ServedFor a (on_lease r.prefix (of_lease.Renew r.asked))
+  pub for_lease : ServedFor a (on_lease r.prefix (LeaseCommand.Renew r.asked))
   for_lease = served_for a (served a is (omega (arith, ap status_code r.answered)))
-      (on_lease r.prefix (of_lease.Renew r.asked)) r.means (λ b names d e. no_ok e)
+      (on_lease r.prefix (LeaseCommand.Renew r.asked)) r.means (λ b names d e. no_ok e)
 
   abbrev b : Broker
   b = spent_by a for_lease.caller

@@ -1,38 +1,83 @@
 -- What each request of a history keeps.
-use Rattle.std.proofs.Common.{◌≡◌, ◌⊎◌, ◌∷◌, ℕ, zero, suc, List, [], Bool, true, false, Option, Some, None, Result, Ok}
-use Rattle.broker_model.specs.Words.{Err, refl, sym, ◌∙◌, ap, subst, false≢true, none-some, same_Some, Text, Map}
-use Rattle.broker_model.specs.Words.{Response, Broker, Mount, Names, names_of, reply, Done, ◌>>=◌, ok_step, Sound, Ask}
-use Rattle.broker_model.specs.Words.{Refusal, Reply, Words, ok_inj, Route, route_of, Operation, WrappingOperation}
-use Rattle.broker_model.specs.Words.{body_members, plain_reply, reply_text, act, Command, on_cubbyhole, on_token}
-use Rattle.broker_model.specs.Words.{on_secret, on_policy, on_mount, on_lease, on_issued, on_wrapping, command_by}
-use Rattle.broker_model.specs.Words.{command_for, command_of, meant_by, forms, OperationsDoAsTold, Outcome, ordered}
-use Rattle.broker_model.specs.Words.{permits, are_proper, Request, ok, request_of, step, traits, unwrapped_ask, opens}
-use Rattle.broker_model.specs.Words.{token_meant, wrapping_command, act_on_wrappings}
-use Rattle.serde_json.specs.Data.{object}
-use Rattle.serde_json.specs.Written.{compact_text}
-use Rattle.mounts.specs.declared.operation.Operation.TheVariants as operation
-use Rattle.mounts.specs.declared.operation.WrappingOperation.TheVariants as of_responses
 use Rattle.api_json.specs.Readers as reader
+use Rattle.histories.specs.Words.{◌≡◌, ◌⊎◌, ◌∷◌, ℕ, zero, suc, List, [], Bool, true, false, Option, Some, None, Result}
+use Rattle.histories.specs.Words.{Ok, Err, refl, sym, ◌∙◌, ap, subst, false≢true, none-some, same_Some, Text, Map}
+use Rattle.histories.specs.Words.{Response, Broker, Mount, Names, names_of, reply, Done, ◌>>=◌, ok_step, Sound, Ask}
+use Rattle.histories.specs.Words.{Refusal, Reply, Words, ok_inj, Route, route_of, Operation, WrappingOperation}
+use Rattle.histories.specs.Words.{body_members, plain_reply, reply_text, act, Command, on_cubbyhole, on_token}
+use Rattle.histories.specs.Words.{on_secret, on_policy, on_mount, on_lease, on_issued, on_wrapping, command_by}
+use Rattle.histories.specs.Words.{command_for, command_of, meant_by, forms, OperationsDoAsTold, Outcome, ordered}
+use Rattle.histories.specs.Words.{permits, are_proper, Request, ok, request_of, step, traits, unwrapped_ask, opens}
+use Rattle.histories.specs.Words.{token_meant, wrapping_command, act_on_wrappings, object, compact_text}
 use Rattle.histories.specs.Words.{WrappingCommand, AreAsked, Asking, AskedAt, History, IsAsked, clocked, answer_by}
-use Rattle.histories.specs.Words.{object_text, unwrapped_answer, unwrapped_body}
-use Rattle.broker_model.specs.declared.commands.WrappingCommand.TheVariants as response
+use Rattle.histories.specs.Words.{object_text, unwrapped_answer, unwrapped_body, ◌||◌, not, nat_lt, at_moment, unless}
+use Rattle.histories.specs.Words.{are_new, Verb, Traits, Wrapped, finish, needed, permission_denied, response_to, serve}
+use Rattle.histories.specs.Words.{unwrapped, wrapped, Reason}
 use Rattle.histories.proofs.Keeping.{EachKeeps, Keeps}
-use Rattle.histories.proofs.OrderCases.{IsServed, spent}
-use Rattle.histories.proofs.OrderKeeps.{request_keeps}
-use Rattle.histories.proofs.Plain.{plain, plain_tells}
+use Rattle.histories.proofs.OrderCases.{IsServed, spent, with_caller}
+use Rattle.histories.proofs.OrderKeeps.{request_keeps, own_new}
+
+-- ---- laws of requests without their wrap TTL
+
+-- the request without its wrap TTL
+abbrev pub plain : {Command : Type 0} → Request Command → Request Command
+plain q = record q { wrap_ttl = 0 }
+
+module _ {Command : Type 0} (permits : Broker → Option Text → Verb → Text → Bool) (traits : Command → Traits)
+    (act : Broker → Option Text → Names → Command → Result Done Refusal) (b : Broker) (moment : ℕ)
+    (q : Request Command) (names : Names) (o : Outcome) where
+  abbrev now : Broker
+  now = at_moment b moment
+
+  module _ (s : IsServed permits traits act now q names o) (free : (traits s.command).must_wrap ≡ false) where
+    abbrev start : Broker
+    start = spent now s.caller
+
+    -- the last steps of serving, from the identifiers on
+    abbrev from_names : Command → Result Wrapped Refusal
+    from_names command = do
+      fresh ← unless (are_new start.used (needed permits traits act (plain q) names command)) Refusal.IdentifierUsed
+      asked ← unless (not (traits command).must_wrap || nat_lt 0 0) (Refusal.BadRequest Reason.WrappingRequired)
+      done ← act start s.caller names command
+      Ok (wrapped permits traits act start (plain q) names command done)
+
+    -- without the wrap TTL the same operation runs, and its reply is not wrapped
+    plain_serves : serve permits traits act start s.caller (plain q) names ≡ Ok (unwrapped s.done)
+    plain_serves =
+        ap (λ v. unless v permission_denied >>= (λ allowed. q.command start >>= from_names)) s.allowed
+        ∙ ap (λ (r : Result Command Refusal). r >>= from_names) s.means
+        ∙ ap (λ v. unless v Refusal.IdentifierUsed >>= (λ fresh.
+        unless (not (traits s.command).must_wrap || nat_lt 0 0) (Refusal.BadRequest Reason.WrappingRequired)
+        >>= (λ asked.
+        act start s.caller names s.command >>= (λ done. Ok
+        (wrapped permits traits act start (plain q) names s.command done)))))
+        (own_new permits traits act start.used q names s.command s.new)
+        ∙ ap (λ v. unless (not v || nat_lt 0 0) (Refusal.BadRequest Reason.WrappingRequired) >>= (λ asked.
+        act start s.caller names s.command >>= (λ done. Ok
+        (wrapped permits traits act start (plain q) names s.command done)))) free
+        ∙ ap (λ (r : Result Done Refusal). r
+        >>= (λ done. Ok (wrapped permits traits act start (plain q) names s.command done))) s.acted
+
+    -- so its text is the body of the reply
+    pub plain_tells : (r : Reply) (made : Option Text) → s.done.answered ≡ reply r made
+        → (ordered permits traits act b moment (plain q) names).response ≡ ok (reply_text r)
+    plain_tells r made answered =
+        ap (λ (x : Outcome). x.response) (with_caller permits traits act b moment (plain q) names s.caller s.asked)
+        ∙ ap (λ (x : Result Wrapped Refusal). (finish start s.caller x).response) plain_serves
+        ∙ ap response_to answered
 
 -- ---- an ask without its wrap TTL
 
 -- the wrap TTL of an ask means nothing for its command
 command_by_plain : (o : Operation) (r : Route) (a : Ask) → command_by o r (unwrapped_ask a) ≡ command_by o r a
-command_by_plain (operation.Cubbyholes o) r a = refl
-command_by_plain (operation.Tokens o) r a = refl
-command_by_plain (operation.Secrets o) r a = refl
-command_by_plain (operation.Policies o) r a = refl
-command_by_plain (operation.Mounts o) r a = refl
-command_by_plain (operation.Leases o) r a = refl
-command_by_plain (operation.Issued o) r a = refl
-command_by_plain (operation.Wrappings o) r a = refl
+command_by_plain (Operation.Cubbyholes o) r a = refl
+command_by_plain (Operation.Tokens o) r a = refl
+command_by_plain (Operation.Secrets o) r a = refl
+command_by_plain (Operation.Policies o) r a = refl
+command_by_plain (Operation.Mounts o) r a = refl
+command_by_plain (Operation.Leases o) r a = refl
+command_by_plain (Operation.Issued o) r a = refl
+command_by_plain (Operation.Wrappings o) r a = refl
 
 pub command_plain : (mounts : Map Mount) (a : Ask) → command_of mounts (unwrapped_ask a) ≡ command_of mounts a
 command_plain mounts a =
@@ -79,59 +124,63 @@ is_wrap_of e = cc
 
 -- the text of an ask to wrap is the object of its body
 by_wrapping : (o : WrappingOperation) (client : Option Text) (body : List ℕ) (text : Text)
-    → wrapping_command o client body ≡ Ok (response.Wrap text) → object_text (body_members body) ≡ text
-by_wrapping of_responses.Wrap client body text e =
-    let m = ok_step (body_members body) (λ members. Ok (response.Wrap (compact_text (object members))))
-    (response.Wrap text) e in
+    → wrapping_command o client body ≡ Ok (WrappingCommand.Wrap text) → object_text (body_members body) ≡ text
+by_wrapping WrappingOperation.Wrap client body text e =
+    let m = ok_step (body_members body) (λ members. Ok (WrappingCommand.Wrap (compact_text (object members))))
+    (WrappingCommand.Wrap text) e in
     ap object_text m.1 ∙ same_wrap (ok_inj m.2)
   where
-    same_wrap : {s t : Text} → response.Wrap s ≡ response.Wrap t → s ≡ t
+    same_wrap : {s t : Text} → WrappingCommand.Wrap s ≡ WrappingCommand.Wrap t → s ≡ t
     same_wrap e = cc
-by_wrapping of_responses.LookUp client body text e =
-    let m = ok_step (body_members body) _ (response.Wrap text) e in
-    let n = ok_step (reader.wrapping_token m.0) (λ named. Ok (response.LookUp (token_meant client named)))
-    (response.Wrap text) m.2 in
+by_wrapping WrappingOperation.LookUp client body text e =
+    let m = ok_step (body_members body) _ (WrappingCommand.Wrap text) e in
+    let n = ok_step (reader.wrapping_token m.0) (λ named. Ok (WrappingCommand.LookUp (token_meant client named)))
+    (WrappingCommand.Wrap text) m.2 in
     absurd (apart (ok_inj n.2))
   where
-    apart : {o : Option Text} → response.LookUp o ≡ response.Wrap text → ⊥
+    apart : {o : Option Text} → WrappingCommand.LookUp o ≡ WrappingCommand.Wrap text → ⊥
     apart e = cc
-by_wrapping of_responses.Rewrap client body text e =
-    let m = ok_step (body_members body) _ (response.Wrap text) e in
-    let n = ok_step (reader.wrapping_token m.0) (λ named. Ok (response.Rewrap (token_meant client named)))
-    (response.Wrap text) m.2 in
+by_wrapping WrappingOperation.Rewrap client body text e =
+    let m = ok_step (body_members body) _ (WrappingCommand.Wrap text) e in
+    let n = ok_step (reader.wrapping_token m.0) (λ named. Ok (WrappingCommand.Rewrap (token_meant client named)))
+    (WrappingCommand.Wrap text) m.2 in
     absurd (apart (ok_inj n.2))
   where
-    apart : {o : Option Text} → response.Rewrap o ≡ response.Wrap text → ⊥
+    apart : {o : Option Text} → WrappingCommand.Rewrap o ≡ WrappingCommand.Wrap text → ⊥
     apart e = cc
-by_wrapping of_responses.Unwrap client body text e =
-    let m = ok_step (body_members body) _ (response.Wrap text) e in
-    let n = ok_step (reader.wrapping_token m.0) (λ named. Ok (response.Unwrap (token_meant client named)))
-    (response.Wrap text) m.2 in
+by_wrapping WrappingOperation.Unwrap client body text e =
+    let m = ok_step (body_members body) _ (WrappingCommand.Wrap text) e in
+    let n = ok_step (reader.wrapping_token m.0) (λ named. Ok (WrappingCommand.Unwrap (token_meant client named)))
+    (WrappingCommand.Wrap text) m.2 in
     absurd (apart (ok_inj n.2))
   where
-    apart : {o : Option Text} → response.Unwrap o ≡ response.Wrap text → ⊥
+    apart : {o : Option Text} → WrappingCommand.Unwrap o ≡ WrappingCommand.Wrap text → ⊥
     apart e = cc
 
 by_operation : (o : Operation) (r : Route) (a : Ask) (text : Text)
-    → command_by o r a ≡ Ok (on_wrapping (response.Wrap text)) → object_text (body_members a.body) ≡ text
-by_operation (operation.Cubbyholes o) r a text e =
-    no_wrap (on_cubbyhole r.parameter) (λ x. refl) _ (response.Wrap text) e
-by_operation (operation.Tokens o) r a text e = no_wrap on_token (λ x. refl) _ (response.Wrap text) e
-by_operation (operation.Secrets o) r a text e = no_wrap (on_secret _) (λ x. refl) _ (response.Wrap text) e
-by_operation (operation.Policies o) r a text e = no_wrap (on_policy r.parameter) (λ x. refl) _ (response.Wrap text) e
-by_operation (operation.Mounts o) r a text e = no_wrap (on_mount r.parameter) (λ x. refl) _ (response.Wrap text) e
-by_operation (operation.Leases o) r a text e = no_wrap (on_lease r.parameter) (λ x. refl) _ (response.Wrap text) e
-by_operation (operation.Issued o) r a text e = no_wrap (on_issued _) (λ x. refl) _ (response.Wrap text) e
-by_operation (operation.Wrappings o) r a text e =
+    → command_by o r a ≡ Ok (on_wrapping (WrappingCommand.Wrap text)) → object_text (body_members a.body) ≡ text
+by_operation (Operation.Cubbyholes o) r a text e =
+    no_wrap (on_cubbyhole r.parameter) (λ x. refl) _ (WrappingCommand.Wrap text) e
+by_operation (Operation.Tokens o) r a text e = no_wrap on_token (λ x. refl) _ (WrappingCommand.Wrap text) e
+by_operation (Operation.Secrets o) r a text e = no_wrap (on_secret _) (λ x. refl) _ (WrappingCommand.Wrap text) e
+by_operation (Operation.Policies o) r a text e = no_wrap (on_policy r.parameter) (λ x. refl) _
+    (WrappingCommand.Wrap text) e
+by_operation (Operation.Mounts o) r a text e = no_wrap (on_mount r.parameter) (λ x. refl) _ (WrappingCommand.Wrap text)
+    e
+by_operation (Operation.Leases o) r a text e = no_wrap (on_lease r.parameter) (λ x. refl) _ (WrappingCommand.Wrap text)
+    e
+by_operation (Operation.Issued o) r a text e = no_wrap (on_issued _) (λ x. refl) _ (WrappingCommand.Wrap text) e
+by_operation (Operation.Wrappings o) r a text e =
     let x = ok_step (wrapping_command o a.token a.body) (λ command. Ok (on_wrapping command))
-    (on_wrapping (response.Wrap text)) e in
+    (on_wrapping (WrappingCommand.Wrap text)) e in
     by_wrapping o a.token a.body text (x.1 ∙ ap Ok (is_wrap_of (ok_inj x.2)))
 
 wraps_object : (mounts : Map Mount) (a : Ask) (text : Text)
-    → command_of mounts a ≡ Ok (on_wrapping (response.Wrap text))
+    → command_of mounts a ≡ Ok (on_wrapping (WrappingCommand.Wrap text))
     → object_text (body_members a.body) ≡ text
 wraps_object mounts a text e =
-    let r = ok_step (route_of mounts a.verb a.path) (λ r. command_for r a) (on_wrapping (response.Wrap text)) e in
+    let r = ok_step (route_of mounts a.verb a.path) (λ r. command_for r a) (on_wrapping (WrappingCommand.Wrap text)) e
+    in
     by_operation r.0.operation r.0 a text r.2
 
 -- ---- what each request keeps
@@ -149,7 +198,8 @@ same_reply_of e = cc
 tells_by : (b : Broker) (caller : Option Text) (names : Names) (body : List ℕ) (answer : Response) (command : Command)
     (d : Done)
     (r : Reply) (made : Option Text) → act b caller names command ≡ Ok d → d.answered ≡ reply r made
-    → ((wrapped : Text) → command ≡ on_wrapping (response.Wrap wrapped) → object_text (body_members body) ≡ wrapped)
+    → ((wrapped : Text) → command ≡ on_wrapping (WrappingCommand.Wrap wrapped)
+    → object_text (body_members body) ≡ wrapped)
     → ((traits command).must_wrap ≡ false → answer ≡ ok (reply_text r))
     → answer_by names body answer (Ok command) ≡ ok (reply_text r)
 tells_by b caller names body answer (on_cubbyhole path command) d r made acted answered object_is plainly_ =
@@ -160,16 +210,20 @@ tells_by b caller names body answer (on_policy name command) d r made acted answ
 tells_by b caller names body answer (on_mount name command) d r made acted answered object_is plainly_ = plainly_ refl
 tells_by b caller names body answer (on_lease prefix command) d r made acted answered object_is plainly_ = plainly_ refl
 tells_by b caller names body answer (on_issued place command) d r made acted answered object_is plainly_ = plainly_ refl
-tells_by b caller names body answer (on_wrapping (response.LookUp t)) d r made acted answered object_is plainly_ =
+tells_by b caller names body answer (on_wrapping (WrappingCommand.LookUp t)) d r made acted answered object_is plainly_
+    =
     plainly_ refl
-tells_by b caller names body answer (on_wrapping (response.Rewrap t)) d r made acted answered object_is plainly_ =
+tells_by b caller names body answer (on_wrapping (WrappingCommand.Rewrap t)) d r made acted answered object_is plainly_
+    =
     plainly_ refl
-tells_by b caller names body answer (on_wrapping (response.Unwrap t)) d r made acted answered object_is plainly_ =
+tells_by b caller names body answer (on_wrapping (WrappingCommand.Unwrap t)) d r made acted answered object_is plainly_
+    =
     plainly_ refl
-tells_by b caller names body answer (on_wrapping (response.Wrap wrapped)) d r made acted answered object_is plainly_ =
+tells_by b caller names body answer (on_wrapping (WrappingCommand.Wrap wrapped)) d r made acted answered object_is
+    plainly_ =
     ap (λ z. ok (reply_text (plain_reply names.request z))) (object_is wrapped refl)
     ∙ ap ok (same_reply_of (ap (λ (z : Done). z.answered)
-    (ok_inj (sym (acts_same b caller names (response.Wrap wrapped)) ∙ acted)) ∙ answered))
+    (ok_inj (sym (acts_same b caller names (WrappingCommand.Wrap wrapped)) ∙ acted)) ∙ answered))
 
 pub spent_mounts : (b : Broker) (who : Option Text) → (spent b who).mounts ≡ b.mounts
 spent_mounts b None = refl

@@ -1,14 +1,10 @@
 -- What is done with a response that waits, whoever asks, is not refused.
-use Rattle.std.proofs.Common.{◌≡◌, ◌⊎◌, true, false, Option, Some, None, Ok, option_map, refl, ◌∙◌, ap, inl, inr}
-use Rattle.broker_model.specs.Words.{⊤, Text, Map, get, Response, Broker, Waiting, Names, names_of, Done, plainly}
-use Rattle.broker_model.specs.Words.{reply, ◌>>=◌, some_or, are_new, act, command_of, on_wrapping, finish, response_to}
-use Rattle.broker_model.specs.Words.{ok, is_open, operated, step, traits, is_wrap, FoundResponse, act_on_wrappings}
-use Rattle.broker_model.specs.Words.{found, found_under, handed_out, rewrapped, shown_response}
-use Rattle.broker_types.specs.declared.refusal.Reason.TheVariants as reason
-use Rattle.broker_types.specs.declared.refusal.Refusal.TheVariants as refusal
-use Rattle.broker_types.specs.declared.status.Status.TheVariants as status
+use Rattle.histories.specs.Words.{◌≡◌, ◌⊎◌, true, false, Option, Some, None, Ok, option_map, refl, ◌∙◌, ap, inl, inr, ⊤}
+use Rattle.histories.specs.Words.{Text, Map, get, Response, Broker, Waiting, Names, names_of, Done, plainly, reply}
+use Rattle.histories.specs.Words.{◌>>=◌, some_or, are_new, act, command_of, on_wrapping, finish, response_to, ok}
+use Rattle.histories.specs.Words.{is_open, operated, step, traits, is_wrap, FoundResponse, act_on_wrappings, found}
+use Rattle.histories.specs.Words.{found_under, handed_out, rewrapped, shown_response, Reason, Refusal, Status}
 use Rattle.histories.specs.Words.{WrappingCommand, AreNew, IsAllowed, Asking, clocked, spent_by, PoliciesDecide}
-use Rattle.broker_model.specs.declared.commands.WrappingCommand.TheVariants as command
 use Rattle.histories.proofs.Carried.{answers, carried_for, carried_openly, never_wrapped}
 use Rattle.histories.proofs.Found.{both_new}
 
@@ -55,7 +51,7 @@ module _ (decide : PoliciesDecide) (a : Asking) (is : a.outcome ≡ step a.broke
         → (found b (Some t) >>= (λ f. Ok (go f))) ≡ Ok (go (found_under t w))
     finds b same_waiting go =
         ap (λ (o : Option Waiting).
-        some_or (refusal.BadRequest reason.InvalidWrappingToken) (option_map (found_under t) o) >>= (λ f. Ok (go f)))
+        some_or (Refusal.BadRequest Reason.InvalidWrappingToken) (option_map (found_under t) o) >>= (λ f. Ok (go f)))
         (ap (λ (m : Map Waiting). get m t) same_waiting ∙ waits)
 
     -- what is done then, is answered
@@ -66,25 +62,25 @@ module _ (decide : PoliciesDecide) (a : Asking) (is : a.outcome ≡ step a.broke
         answers a b.start b.who (on_wrapping k) b.carried (never_wrapped a (on_wrapping k) no_wrap)
         (ap (λ (m : Map ⊤). are_new m ((traits (on_wrapping k)).own names)) b.used ∙ new) no_wrap d (b.acts ∙ acted)
 
-    pub unwrap : Means (command.Unwrap (Some t)) → a.outcome.response ≡ ok w.reply
+    pub unwrap : Means (WrappingCommand.Unwrap (Some t)) → a.outcome.response ≡ ok w.reply
     unwrap means =
-        let b = begins (command.Unwrap (Some t)) means in
-        answer (command.Unwrap (Some t)) refl b refl (handed_out b.start (found_under t w))
+        let b = begins (WrappingCommand.Unwrap (Some t)) means in
+        answer (WrappingCommand.Unwrap (Some t)) refl b refl (handed_out b.start (found_under t w))
         (finds b.start b.waiting (handed_out b.start))
 
-    pub look_up : Means (command.LookUp (Some t)) → a.outcome.response.status ≡ status.Success
+    pub look_up : Means (WrappingCommand.LookUp (Some t)) → a.outcome.response.status ≡ Status.Success
     look_up means =
-        let b = begins (command.LookUp (Some t)) means in
+        let b = begins (WrappingCommand.LookUp (Some t)) means in
         let go : FoundResponse → Done = λ f. plainly (reply (shown_response names f) None) b.start in
         ap (λ (r : Response). r.status)
-        (answer (command.LookUp (Some t)) refl b refl (go (found_under t w)) (finds b.start b.waiting go))
+        (answer (WrappingCommand.LookUp (Some t)) refl b refl (go (found_under t w)) (finds b.start b.waiting go))
 
-    pub rewrap : Means (command.Rewrap (Some t)) → AreNew a names.wrapping_token names.wrapping_accessor
-        → a.outcome.response.status ≡ status.Success
+    pub rewrap : Means (WrappingCommand.Rewrap (Some t)) → AreNew a names.wrapping_token names.wrapping_accessor
+        → a.outcome.response.status ≡ Status.Success
     rewrap means new =
-        let b = begins (command.Rewrap (Some t)) means in
+        let b = begins (WrappingCommand.Rewrap (Some t)) means in
         ap (λ (r : Response). r.status)
-        (answer (command.Rewrap (Some t)) refl b
+        (answer (WrappingCommand.Rewrap (Some t)) refl b
         (both_new (clocked a).used names.wrapping_token names.wrapping_accessor new.one_is_new new.other_is_new
         new.differ)
         (rewrapped b.start names (found_under t w)) (finds b.start b.waiting (rewrapped b.start names)))

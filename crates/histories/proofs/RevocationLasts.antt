@@ -1,43 +1,79 @@
 -- What is revoked, and whatever else ended, does not come back.
-use Rattle.std.proofs.Common.{◌≡◌, ◌≢◌, ◌<◌, ◌≤◌, ◌⊎◌, ◌||◌, ◌&&◌, ◌∷◌, if◌then◌else◌, not, nat_lt, ℕ, max, List, []}
-use Rattle.broker_model.specs.Words.{Bool, true, false, is_some, cond, Option, Some, None, Result, Ok, Err, option_map}
-use Rattle.broker_model.specs.Words.{option_and_then, refl, sym, ◌∙◌, ap, subst, inl, inr, arith, false≢true}
-use Rattle.broker_model.specs.Words.{false_from_ne_true, ltb-true, ltb-false, none-some, same_Some, Text, same, Map}
-use Rattle.broker_model.specs.Words.{get, get-change, get-without, valued_is, IsRefused, Response, refused, Broker}
-use Rattle.broker_model.specs.Words.{Waiting, Evolves, HasEnded, tree_of, IsTree, Names, names_of, Answered, nothing}
-use Rattle.broker_model.specs.Words.{reply, kept_text, missing, Done, found_or_not, lease_of, token_identifier, ◌>>=◌}
-use Rattle.broker_model.specs.Words.{some_or, unless, at_moment_ends, at_moment_evolves, Sound, spend, drop_waiting}
-use Rattle.broker_model.specs.Words.{end_spent, one_less, status_code, Token, Lease, same_true, alive_is, alive_tree}
-use Rattle.broker_model.specs.Words.{left_outlasts, outlasting_is_left, under_tokens, values_tree, are_new, use_up}
-use Rattle.broker_model.specs.Words.{Refusal, no_ok, ok_step, ok_inj, act, Command, on_token, on_wrapping, command_of}
-use Rattle.broker_model.specs.Words.{forms, OperationsDoAsTold, Outcome, Wrapped, denied, finish, for_caller, needed}
-use Rattle.broker_model.specs.Words.{permission_denied, response_to, serve, unwrapped, wrapped, permits, Request, ok}
-use Rattle.broker_model.specs.Words.{no_content, is_open, request_of, step, traits, wrapping_names, act_on_tokens}
-use Rattle.broker_model.specs.Words.{holder, revoke_token, revoke_alone, FoundResponse, found, found_under, rewrapped}
-use Rattle.broker_model.specs.Words.{act_on_wrappings}
-use Rattle.broker_types.specs.Broker as broker
+use Rattle.broker_model.specs.Words.{tree_of, at_moment_ends, alive_tree, left_outlasts, outlasting_is_left}
+use Rattle.broker_model.specs.Words.{values_tree, revoke_alone}
+use Rattle.broker_types.specs.Broker.{revoke, revoke_orphan}
 use Rattle.broker_types.specs.IdentifierPlaces as place
-use Rattle.broker_types.specs.declared.refusal.Refusal.TheVariants as refusal
-use Rattle.broker_types.specs.declared.refusal.Reason.TheVariants as reason
-use Rattle.broker_types.specs.declared.status.Status.TheVariants as status
-use Rattle.histories.specs.Words.{TokenCommand, WrappingCommand, AreAsked, Asking, AskedAt, History, clocked, spent_by}
-use Rattle.histories.specs.Words.{unwrapped_body, EndsToken, FindsNone, IsDue, IsGone, IsGranted, Revocation, Revokes}
-use Rattle.histories.specs.Words.{RevokesAlone, with_later_leases, is_orphaning, is_revocation, named_by, orphaning_by}
-use Rattle.histories.specs.Words.{orphaning_of, revoked_by, revoked_of, taken_as}
-use Rattle.broker_model.specs.declared.commands.TokenCommand.TheVariants as token
-use Rattle.broker_model.specs.declared.commands.WrappingCommand.TheVariants as response
+use Rattle.histories.specs.Words.{◌≡◌, ◌≢◌, ◌<◌, ◌≤◌, ◌⊎◌, ◌||◌, ◌&&◌, ◌∷◌, if◌then◌else◌, not, nat_lt, ℕ, max, List}
+use Rattle.histories.specs.Words.{[], Bool, true, false, is_some, cond, Option, Some, None, Result, Ok, Err, option_map}
+use Rattle.histories.specs.Words.{option_and_then, refl, sym, ◌∙◌, ap, subst, inl, inr, arith, false≢true}
+use Rattle.histories.specs.Words.{false_from_ne_true, ltb-true, ltb-false, none-some, same_Some, Text, same, Map, get}
+use Rattle.histories.specs.Words.{get-change, get-without, valued_is, IsRefused, Response, refused, Broker, Waiting}
+use Rattle.histories.specs.Words.{Evolves, HasEnded, IsTree, Names, names_of, Answered, nothing, reply, kept_text}
+use Rattle.histories.specs.Words.{missing, Done, found_or_not, lease_of, token_identifier, ◌>>=◌, some_or, unless}
+use Rattle.histories.specs.Words.{at_moment_evolves, Sound, spend, drop_waiting, end_spent, one_less, status_code}
+use Rattle.histories.specs.Words.{Token, Lease, same_true, alive_is, under_tokens, are_new, use_up, Refusal, no_ok}
+use Rattle.histories.specs.Words.{ok_step, ok_inj, act, Command, on_token, on_wrapping, command_of, forms}
+use Rattle.histories.specs.Words.{OperationsDoAsTold, Outcome, Wrapped, denied, finish, for_caller, needed}
+use Rattle.histories.specs.Words.{permission_denied, response_to, serve, unwrapped, wrapped, permits, Request, ok}
+use Rattle.histories.specs.Words.{no_content, is_open, request_of, step, traits, wrapping_names, act_on_tokens, holder}
+use Rattle.histories.specs.Words.{revoke_token, FoundResponse, found, found_under, rewrapped, act_on_wrappings, Reason}
+use Rattle.histories.specs.Words.{Status, TokenCommand, WrappingCommand, AreAsked, Asking, AskedAt, History, clocked}
+use Rattle.histories.specs.Words.{spent_by, unwrapped_body, EndsToken, FindsNone, IsDue, IsGone, IsGranted, Revocation}
+use Rattle.histories.specs.Words.{Revokes, RevokesAlone, with_later_leases, is_orphaning, is_revocation, named_by}
+use Rattle.histories.specs.Words.{orphaning_by, orphaning_of, revoked_by, revoked_of, taken_as, option_map_or}
+use Rattle.histories.specs.Words.{lease_identifier, kept_get, chained, IsLeaseDue, LacksLease}
 use Rattle.histories.proofs.Clients.{course}
 use Rattle.histories.proofs.Descent.{descends}
 use Rattle.histories.proofs.Ending.{IsLeaseGone, ended_lasts, gone_has_ended, lease_lasts, leases_are_gone}
 use Rattle.histories.proofs.Keeping.{EachKeeps, Keeps}
 use Rattle.histories.proofs.Lasting.{asked_keeps, evolved_since, kept_evolves, left_since}
-use Rattle.histories.proofs.LeasesDue.{lease_stays_out}
-use Rattle.histories.proofs.OrderCases.{IsCaller, some_ok, spent, with_caller}
-use Rattle.histories.proofs.OrderKeeps.{end_spent_waiting, wrapped_cases}
-use Rattle.histories.proofs.Requests.{asked_at, history_keeps, means_at_clock}
+use Rattle.histories.proofs.Order.{IsCaller, some_ok, spent, with_caller, end_spent_waiting, wrapped_cases, asked_at}
+use Rattle.histories.proofs.Order.{history_keeps, means_at_clock, Served, nothing_is_no_reply, refused_or_served}
+use Rattle.histories.proofs.Order.{served}
 use Rattle.histories.proofs.Revoking.{below_are_gone, below_are_left, children_are_orphans, orphaned_is_gone}
 use Rattle.histories.proofs.Revoking.{others_are_left, others_stay, revoked_are_gone}
-use Rattle.histories.proofs.Served.{Served, nothing_is_no_reply, refused_or_served, served}
+use Rattle.histories.proofs.LeasesGone.{stays_gone}
+
+-- ---- a lease that comes to its end does not come back
+
+module _ (a : Asking) (sound : Sound forms None a.broker) (keeps : Keeps unwrapped_body a) (q lease_id : Text)
+    (l : Lease) (d : IsLeaseDue a q lease_id l) where
+  -- it is none at the clock
+  none_then : lease_of (clocked a) q lease_id ≡ None
+  none_then = elim (found_or_not (lease_of (clocked a) q lease_id)) [
+    | inl none ↦ none
+    | inr k ↦
+        let now = max a.broker.clock a.moment in
+        let y = chained (λ (x : Token). get x.leases lease_id) (get (clocked a).tokens q) k.0 k.1 in
+        let x = alive_is now a.broker.tokens q y.0 y.1 in
+        let live =
+        kept_get (λ id. option_map_or (λ (m : Lease). nat_lt now m.ends)
+        (get x.0.leases id) false) x.0.leases lease_id k.0
+        (ap (λ (z : Token). get z.leases lease_id) (sym x.3) ∙ y.2) in
+        let there : get x.0.leases lease_id ≡ Some l =
+        ap (option_and_then (λ (z : Token). get z.leases lease_id)) (sym x.1) ∙ d.was in
+        let later : now < l.ends =
+        ltb-true now l.ends (ap (λ o. option_map_or (λ (m : Lease). nat_lt now m.ends) o false) (sym there) ∙ live.1) in
+        absurd (omega (arith, later, d.reached))
+  ]
+
+  was_used : get a.broker.used (lease_identifier lease_id) ≡ None → ⊥
+  was_used = sound.identifiers.all_used (place.lease q lease_id) (lease_identifier lease_id)
+      (ap (option_map (λ (k : Lease). lease_identifier lease_id)) d.was)
+
+  -- so it is none after the request
+  none_left : lease_of a.outcome.next q lease_id ≡ None
+  none_left = elim (found_or_not (lease_of a.outcome.next q lease_id)) [
+    | inl none ↦ none
+    | inr k ↦ elim (keeps.evolves.leases q lease_id k.0 k.1) [
+      | inl before ↦ absurd (none-some _ (sym none_then ∙ before.1))
+      | inr new ↦ absurd (was_used new.0)
+    ]
+  ]
+
+  -- nor in anything that evolves from that
+  pub lease_stays_out : (b : Broker) → (a.outcome.next ≡ b) ⊎ Evolves a.outcome.next b → LacksLease b lease_id l
+  lease_stays_out = stays_gone a sound keeps q lease_id l d.was none_left
 
 -- ---- a 204
 
@@ -114,11 +150,11 @@ module _ (a : Asking) (is : a.outcome ≡ step a.broker a.moment a.words a.ask) 
   -- what a command of tokens that revokes t does
   revokes : (command : TokenCommand) (d : Done) → revoked_of start c command ≡ Some t
       → act_on_tokens start c (names_of a.words) command ≡ Ok d → d ≡ revoke_token start t
-  revokes (token.Revoke u) d names done = sym (ok_inj done) ∙ ap (revoke_token start) (same_Some _ _ names)
-  revokes (token.RevokeAccessor accessor) d names done =
-      sym (ok_inj (ap (λ o. some_or (refusal.BadRequest reason.InvalidAccessor) o >>= (λ u. Ok (revoke_token start u)))
+  revokes (TokenCommand.Revoke u) d names done = sym (ok_inj done) ∙ ap (revoke_token start) (same_Some _ _ names)
+  revokes (TokenCommand.RevokeAccessor accessor) d names done =
+      sym (ok_inj (ap (λ o. some_or (Refusal.BadRequest Reason.InvalidAccessor) o >>= (λ u. Ok (revoke_token start u)))
       (sym names) ∙ done))
-  revokes token.RevokeSelf d names done = sym (ok_inj done) ∙ ap (revoke_token start) (same_Some _ _ names)
+  revokes TokenCommand.RevokeSelf d names done = sym (ok_inj done) ∙ ap (revoke_token start) (same_Some _ _ names)
   revokes _ d names done = absurd (none-some _ names)
 
   revokes_by : (command : Command) (d : Done) → revoked_by start c command ≡ Some t
@@ -127,14 +163,14 @@ module _ (a : Asking) (is : a.outcome ≡ step a.broker a.moment a.words a.ask) 
   revokes_by _ d names done = absurd (none-some _ names)
 
   -- what a revocation left
-  pub revocation_left : Revokes a c t → a.outcome.next ≡ end_spent (drop_waiting (broker.revoke start t) t) (Some c)
+  pub revocation_left : Revokes a c t → a.outcome.next ≡ end_spent (drop_waiting (revoke start t) t) (Some c)
   revocation_left r =
       let k = did a c r.command is r.granted in
       k.next ∙ ap (left_by a c) (revokes_by r.command k.done r.text k.acted)
 
   orphans : (command : TokenCommand) (d : Done) → orphaning_of command ≡ Some t
       → act_on_tokens start c (names_of a.words) command ≡ Ok d → d ≡ revoke_alone start t
-  orphans (token.RevokeOrphan u) d names done = sym (ok_inj done) ∙ ap (revoke_alone start) (same_Some _ _ names)
+  orphans (TokenCommand.RevokeOrphan u) d names done = sym (ok_inj done) ∙ ap (revoke_alone start) (same_Some _ _ names)
   orphans _ d names done = absurd (none-some _ names)
 
   orphans_by : (command : Command) (d : Done) → orphaning_by command ≡ Some t
@@ -144,13 +180,13 @@ module _ (a : Asking) (is : a.outcome ≡ step a.broker a.moment a.words a.ask) 
 
   -- what a revocation of one token left
   pub orphaning_left : RevokesAlone a c t
-      → a.outcome.next ≡ end_spent (drop_waiting (broker.revoke_orphan start t) t) (Some c)
+      → a.outcome.next ≡ end_spent (drop_waiting (revoke_orphan start t) t) (Some c)
   orphaning_left r =
       let k = did a c r.command is r.granted in
       k.next ∙ ap (left_by a c) (orphans_by r.command k.done r.text k.acted)
 
 -- a response to an operation that is a 204
-content_is : (x : Answered) (r : Response) → r ≡ response_to x → r.status ≡ status.NoContent → r ≡ no_content
+content_is : (x : Answered) (r : Response) → r ≡ response_to x → r.status ≡ Status.NoContent → r ≡ no_content
 content_is nothing r is code_is = is
 content_is (reply y made) r is code_is = absurd (omega (arith, ap code is, ap status_code code_is))
 content_is (kept_text t) r is code_is = absurd (omega (arith, ap code is, ap status_code code_is))
@@ -160,10 +196,10 @@ content_is (missing y) r is code_is = absurd (omega (arith, ap code is, ap statu
 answers_204 : (b : Broker) (c : Text) (names : Names) (command : TokenCommand) (d : Done)
     → (is_revocation command || is_orphaning command) ≡ true → act_on_tokens b c names command ≡ Ok d
     → d.answered ≡ nothing
-answers_204 b c names (token.Revoke u) d does done = ap (λ (z : Done). z.answered) (sym (ok_inj done))
-answers_204 b c names (token.RevokeOrphan u) d does done = ap (λ (z : Done). z.answered) (sym (ok_inj done))
-answers_204 b c names token.RevokeSelf d does done = ap (λ (z : Done). z.answered) (sym (ok_inj done))
-answers_204 b c names (token.RevokeAccessor accessor) d does done =
+answers_204 b c names (TokenCommand.Revoke u) d does done = ap (λ (z : Done). z.answered) (sym (ok_inj done))
+answers_204 b c names (TokenCommand.RevokeOrphan u) d does done = ap (λ (z : Done). z.answered) (sym (ok_inj done))
+answers_204 b c names TokenCommand.RevokeSelf d does done = ap (λ (z : Done). z.answered) (sym (ok_inj done))
+answers_204 b c names (TokenCommand.RevokeAccessor accessor) d does done =
     ap (λ (z : Done). z.answered) (sym (ok_inj (ok_step (holder b accessor) (λ u. Ok (revoke_token b u)) d done).2))
 answers_204 b c names _ d does done = absurd (false≢true does)
 
@@ -200,22 +236,22 @@ revoking_answer a is command means does = elim (refused_or_served a is) [
 revoked_text : (b : Broker) (c : Text) (names : Names) (command : TokenCommand) (d : Done)
     → is_revocation command ≡ true
     → act_on_tokens b c names command ≡ Ok d → (t : Text) × (revoked_of b c command ≡ Some t)
-revoked_text b c names (token.Revoke u) d does done = (u, refl)
-revoked_text b c names (token.RevokeAccessor accessor) d does done =
+revoked_text b c names (TokenCommand.Revoke u) d does done = (u, refl)
+revoked_text b c names (TokenCommand.RevokeAccessor accessor) d does done =
     let t = ok_step (holder b accessor) (λ u. Ok (revoke_token b u)) d done in
-    (t.0, some_ok (refusal.BadRequest reason.InvalidAccessor) (named_by b accessor) t.1)
-revoked_text b c names token.RevokeSelf d does done = (c, refl)
+    (t.0, some_ok (Refusal.BadRequest Reason.InvalidAccessor) (named_by b accessor) t.1)
+revoked_text b c names TokenCommand.RevokeSelf d does done = (c, refl)
 revoked_text b c names _ d does done = absurd (false≢true does)
 
 -- and one that revokes alone
 orphaned_text : (command : TokenCommand) → is_orphaning command ≡ true → (t : Text) × (orphaning_of command ≡ Some t)
-orphaned_text (token.RevokeOrphan u) does = (u, refl)
+orphaned_text (TokenCommand.RevokeOrphan u) does = (u, refl)
 orphaned_text _ does = absurd (false≢true does)
 
 -- a 204 to a command of tokens was granted to a caller
 module _ (a : Asking) (is : a.outcome ≡ step a.broker a.moment a.words a.ask) (command : TokenCommand)
     (means : command_of (clocked a).mounts a.ask ≡ Ok (on_token command))
-    (empty_ : a.outcome.response.status ≡ status.NoContent) where
+    (empty_ : a.outcome.response.status ≡ Status.NoContent) where
   was_served : Served a
   was_served = served a is (omega (arith, ap status_code empty_))
 
@@ -321,10 +357,10 @@ others_wait a is c t u how other = by how
     by : Revokes a c t ⊎ RevokesAlone a c t → get a.outcome.next.waiting u ≡ get (clocked a).waiting u
     by (inl r) =
         but_one a.outcome.next (ap (λ (z : Broker). z.waiting) (revocation_left a is c t r)
-        ∙ end_spent_waiting (drop_waiting (broker.revoke (spent_by a c) t) t) (Some c))
+        ∙ end_spent_waiting (drop_waiting (revoke (spent_by a c) t) t) (Some c))
     by (inr r) =
         but_one a.outcome.next (ap (λ (z : Broker). z.waiting) (orphaning_left a is c t r)
-        ∙ end_spent_waiting (drop_waiting (broker.revoke_orphan (spent_by a c) t) t) (Some c))
+        ∙ end_spent_waiting (drop_waiting (revoke_orphan (spent_by a c) t) t) (Some c))
 
 -- and was one before
 due_was : (a : Asking) (q : Text) → IsDue a q → get a.broker.tokens q ≢ None
@@ -357,8 +393,8 @@ module _ (a : Asking) (q : Text) (is : a.outcome ≡ step a.broker a.moment a.wo
 
   abbrev last_steps : Command → Result Wrapped Refusal
   last_steps command = do
-    fresh ← unless (are_new (clocked a).used (needed permits traits act r names command)) refusal.IdentifierUsed
-    asked ← unless (not (traits command).must_wrap || nat_lt 0 r.wrap_ttl) (refusal.BadRequest reason.WrappingRequired)
+    fresh ← unless (are_new (clocked a).used (needed permits traits act r names command)) Refusal.IdentifierUsed
+    asked ← unless (not (traits command).must_wrap || nat_lt 0 r.wrap_ttl) (Refusal.BadRequest Reason.WrappingRequired)
     done ← act (clocked a) None names command
     Ok (wrapped permits traits act (clocked a) r names command done)
 
@@ -375,7 +411,7 @@ module _ (a : Asking) (q : Text) (is : a.outcome ≡ step a.broker a.moment a.wo
       ∙ ap (λ (x : Result Command Refusal). (finish (clocked a) None (x >>= last_steps)).response) means
 
   abbrev bad : Refusal
-  bad = refusal.BadRequest reason.InvalidWrappingToken
+  bad = Refusal.BadRequest Reason.InvalidWrappingToken
 
   none_found : found (clocked a) (Some q) ≡ Err bad
   none_found = ap (λ o. some_or bad (option_map (found_under q) o)) none
@@ -393,10 +429,10 @@ module _ (a : Asking) (q : Text) (is : a.outcome ≡ step a.broker a.moment a.wo
   -- the last steps of a look-up or an unwrap
   refused_400 : (own : List Text) → own ≡ []
       → (f : FoundResponse → Result Done Refusal) (g : Done → Result Wrapped Refusal)
-      → (unless (are_new (clocked a).used own) refusal.IdentifierUsed
+      → (unless (are_new (clocked a).used own) Refusal.IdentifierUsed
       >>= (λ fresh. (found (clocked a) (Some q) >>= f) >>= g)) ≡ Err bad
   refused_400 own empty_ f g =
-      ap (λ is. unless (are_new (clocked a).used is) refusal.IdentifierUsed
+      ap (λ is. unless (are_new (clocked a).used is) Refusal.IdentifierUsed
       >>= (λ fresh. (found (clocked a) (Some q) >>= f) >>= g)) empty_
       ∙ ap (λ (x : Result FoundResponse Refusal). (x >>= f) >>= g) none_found
 
@@ -406,28 +442,30 @@ module _ (a : Asking) (q : Text) (is : a.outcome ≡ step a.broker a.moment a.wo
 
   pub finds_none : (command : WrappingCommand) → command_of (clocked a).mounts a.ask ≡ Ok (on_wrapping command)
       → taken_as command ≡ Some q → FindsNone a command
-  finds_none (response.Wrap text) means as_q = absurd (none-some _ as_q)
-  finds_none (response.LookUp meant) means as_q =
-      open_step (on_wrapping (response.LookUp meant)) means
-      ∙ ap (λ u. (finish (clocked a) None (last_steps (on_wrapping (response.LookUp u)))).response) as_q
-      ∙ refused_now (last_steps (on_wrapping (response.LookUp (Some q)))) bad
-      (refused_400 (needed permits traits act r names (on_wrapping (response.LookUp (Some q)))) (own_alone []) _ _)
-  finds_none (response.Unwrap meant) means as_q =
-      open_step (on_wrapping (response.Unwrap meant)) means
-      ∙ ap (λ u. (finish (clocked a) None (last_steps (on_wrapping (response.Unwrap u)))).response) as_q
-      ∙ refused_now (last_steps (on_wrapping (response.Unwrap (Some q)))) bad
-      (refused_400 (needed permits traits act r names (on_wrapping (response.Unwrap (Some q)))) (own_alone []) _ _)
-  finds_none (response.Rewrap meant) means as_q =
-      let rewrap : Command = on_wrapping (response.Rewrap (Some q)) in
-      let steps : Bool → Result Wrapped Refusal = λ v. unless v refusal.IdentifierUsed >>= (λ fresh.
-      act_on_wrappings (clocked a) names (response.Rewrap (Some q))
+  finds_none (WrappingCommand.Wrap text) means as_q = absurd (none-some _ as_q)
+  finds_none (WrappingCommand.LookUp meant) means as_q =
+      open_step (on_wrapping (WrappingCommand.LookUp meant)) means
+      ∙ ap (λ u. (finish (clocked a) None (last_steps (on_wrapping (WrappingCommand.LookUp u)))).response) as_q
+      ∙ refused_now (last_steps (on_wrapping (WrappingCommand.LookUp (Some q)))) bad
+      (refused_400 (needed permits traits act r names (on_wrapping (WrappingCommand.LookUp (Some q)))) (own_alone []) _
+      _)
+  finds_none (WrappingCommand.Unwrap meant) means as_q =
+      open_step (on_wrapping (WrappingCommand.Unwrap meant)) means
+      ∙ ap (λ u. (finish (clocked a) None (last_steps (on_wrapping (WrappingCommand.Unwrap u)))).response) as_q
+      ∙ refused_now (last_steps (on_wrapping (WrappingCommand.Unwrap (Some q)))) bad
+      (refused_400 (needed permits traits act r names (on_wrapping (WrappingCommand.Unwrap (Some q)))) (own_alone []) _
+      _)
+  finds_none (WrappingCommand.Rewrap meant) means as_q =
+      let rewrap : Command = on_wrapping (WrappingCommand.Rewrap (Some q)) in
+      let steps : Bool → Result Wrapped Refusal = λ v. unless v Refusal.IdentifierUsed >>= (λ fresh.
+      act_on_wrappings (clocked a) names (WrappingCommand.Rewrap (Some q))
       >>= (λ done. Ok (wrapped permits traits act (clocked a) r names rewrap done))) in
-      open_step (on_wrapping (response.Rewrap meant)) means
-      ∙ ap (λ u. (finish (clocked a) None (last_steps (on_wrapping (response.Rewrap u)))).response) as_q
+      open_step (on_wrapping (WrappingCommand.Rewrap meant)) means
+      ∙ ap (λ u. (finish (clocked a) None (last_steps (on_wrapping (WrappingCommand.Rewrap u)))).response) as_q
       ∙ ap (λ is. (finish (clocked a) None (steps (are_new (clocked a).used is))).response)
       (own_alone (wrapping_names names))
       ∙ elim (are_new (clocked a).used (wrapping_names names)) as
-      (λ v. (finish (clocked a) None (steps v)).response ≡ refused (if v then bad else refusal.IdentifierUsed)) [
+      (λ v. (finish (clocked a) None (steps v)).response ≡ refused (if v then bad else Refusal.IdentifierUsed)) [
         | true ↦ refused_now (steps true) bad
             (ap (λ (x : Result FoundResponse Refusal). (x >>= (λ f. Ok (rewrapped (clocked a) names f)))
             >>= (λ done. Ok (wrapped permits traits act (clocked a) r names rewrap done))) none_found)
@@ -516,39 +554,39 @@ module _ (told : OperationsDoAsTold) (b : Broker) (history : History) (h : AreAs
     revoked = λ i a c t q at r under. record {
       was = called_was a c q (under_tokens (spent_by a c).tokens q t under).0;
       gone = inr (ap (λ (z : Broker). get z.tokens q) (revocation_left a (asked_at b history i a h at).outcome c t r)
-          ∙ revoked_are_gone (spent_by a c) (drop_waiting (broker.revoke (spent_by a c) t) t) t c refl q under);
+          ∙ revoked_are_gone (spent_by a c) (drop_waiting (revoke (spent_by a c) t) t) t c refl q under);
     };
     others = λ i a c t q at r apart.
         let is = asked_at b history i a h at in
         ap (λ (z : Broker). get z.tokens q) (revocation_left a is.outcome c t r)
-        ∙ others_are_left (spent_by a c) (drop_waiting (broker.revoke (spent_by a c) t) t) t c refl
+        ∙ others_are_left (spent_by a c) (drop_waiting (revoke (spent_by a c) t) t) t c refl
         (called_tree a c is.sound) q apart;
     alone = λ i a c t at r there. record {
       was = called_was a c t there;
       gone = inr (ap (λ (z : Broker). get z.tokens t) (orphaning_left a (asked_at b history i a h at).outcome c t r)
-          ∙ orphaned_is_gone (spent_by a c) (drop_waiting (broker.revoke_orphan (spent_by a c) t) t) t c refl);
+          ∙ orphaned_is_gone (spent_by a c) (drop_waiting (revoke_orphan (spent_by a c) t) t) t c refl);
     };
     children = λ i a c t q x at r other is parent free.
         ap (λ (z : Broker). get z.tokens q) (orphaning_left a (asked_at b history i a h at).outcome c t r)
-        ∙ children_are_orphans (spent_by a c) (drop_waiting (broker.revoke_orphan (spent_by a c) t) t) t c refl q x
+        ∙ children_are_orphans (spent_by a c) (drop_waiting (revoke_orphan (spent_by a c) t) t) t c refl q x
         other is parent free;
     below = λ i a c t q x at r other under there parent stays.
         let is = asked_at b history i a h at in
         ap (λ (z : Broker). get z.tokens q) (orphaning_left a is.outcome c t r)
-        ∙ below_are_left (spent_by a c) (drop_waiting (broker.revoke_orphan (spent_by a c) t) t) t c refl
+        ∙ below_are_left (spent_by a c) (drop_waiting (revoke_orphan (spent_by a c) t) t) t c refl
         (called_tree a c is.sound) q x other under there parent stays;
     ended_below = λ i a c t q at r ends.
         let is = asked_at b history i a h at in
         record {
           was = called_was a c q (under_tokens (spent_by a c).tokens q c ends.under_caller).0;
           gone = inr (ap (λ (z : Broker). get z.tokens q) (orphaning_left a is.outcome c t r)
-              ∙ below_are_gone (spent_by a c) (drop_waiting (broker.revoke_orphan (spent_by a c) t) t) t c refl
+              ∙ below_are_gone (spent_by a c) (drop_waiting (revoke_orphan (spent_by a c) t) t) t c refl
               (called_tree a c is.sound) q ends);
         };
     others_alone = λ i a c t q at r apart.
         let is = asked_at b history i a h at in
         ap (λ (z : Broker). get z.tokens q) (orphaning_left a is.outcome c t r)
-        ∙ others_stay (spent_by a c) (drop_waiting (broker.revoke_orphan (spent_by a c) t) t) t c refl
+        ∙ others_stay (spent_by a c) (drop_waiting (revoke_orphan (spent_by a c) t) t) t c refl
         (called_tree a c is.sound) q apart;
     due = λ i a q at d. record { was = due_was a q d; gone = inl (due_is_gone a q d) };
     due_denied = λ i a q at d is_token closed.

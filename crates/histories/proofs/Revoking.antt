@@ -1,16 +1,15 @@
 -- Laws of what a revocation leaves.
-use Rattle.std.proofs.Common.{◌≡◌, ◌≢◌, ◌&&◌, ◌||◌, ◌⊎◌, ◌∷◌, if◌then◌else◌, ◌==◌, ℕ, zero, suc, Bool, true, false, not}
-use Rattle.broker_model.specs.Words.{cond, Option, Some, None, is_none, option_and_then, List, [], AllByRecursion}
-use Rattle.broker_model.specs.Words.{IsDistinct, list_any, option_map_or, refl, sym, ◌∙◌, ap, subst, inl, inr}
-use Rattle.broker_model.specs.Words.{and_parts, false≢true, false_from_ne_true, none-some, same_Some, Text, same, get}
-use Rattle.broker_model.specs.Words.{len, Token, Tokens, ChainsEnd, climb, ends_within, is_under, lineage}
-use Rattle.broker_model.specs.Words.{without_descendants, without_parent, climb_above, climb_at, climb_enough}
-use Rattle.broker_model.specs.Words.{ends_above, ends_at, get-revoke, climb_distinct, is_under_trans, revoke_other}
-use Rattle.broker_model.specs.Words.{IsTree, Broker, revoke, found_or_not, end_spent, is_spent, same_self, same_true}
-use Rattle.broker_model.specs.Words.{lineage_child, lineage_orphan, orphan_child, orphan_gone, orphan_none, orphan_tree}
-use Rattle.broker_model.specs.Words.{orphan_unrelated, orphaned_is, revoke_tree, under_self, under_tokens}
-use Rattle.broker_types.specs.LineageLaws.{revoke_under}
-use Rattle.histories.specs.Words.{EndsWithCaller, has_no_use, left_by_caller}
+use Rattle.broker_model.specs.Words.{IsDistinct, ChainsEnd, lineage, without_descendants, without_parent, climb_enough}
+use Rattle.broker_model.specs.Words.{climb_distinct, is_under_trans, revoke_other, lineage_child, lineage_orphan}
+use Rattle.broker_model.specs.Words.{orphan_child, orphan_gone, orphan_none, orphan_tree, orphan_unrelated, orphaned_is}
+use Rattle.broker_model.specs.Words.{revoke_tree}
+use Rattle.histories.specs.Words.{◌≡◌, ◌≢◌, ◌&&◌, ◌||◌, ◌⊎◌, ◌∷◌, if◌then◌else◌, ◌==◌, ℕ, zero, suc, Bool, true, false}
+use Rattle.histories.specs.Words.{not, cond, Option, Some, None, is_none, option_and_then, List, [], AllByRecursion}
+use Rattle.histories.specs.Words.{list_any, option_map_or, refl, sym, ◌∙◌, ap, subst, inl, inr, and_parts, false≢true}
+use Rattle.histories.specs.Words.{false_from_ne_true, none-some, same_Some, Text, same, get, len, Token, Tokens, climb}
+use Rattle.histories.specs.Words.{ends_within, is_under, climb_above, climb_at, ends_above, ends_at, get-revoke, IsTree}
+use Rattle.histories.specs.Words.{Broker, revoke, found_or_not, end_spent, is_spent, same_self, same_true, under_self}
+use Rattle.histories.specs.Words.{under_tokens, revoke_under, EndsWithCaller, has_no_use, left_by_caller}
 
 -- ---- lineages of what is left
 

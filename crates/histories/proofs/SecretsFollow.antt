@@ -1,37 +1,25 @@
 -- What becomes of each secret by a request: versions follow the writes, deletions and destructions that were asked for.
-use Rattle.std.proofs.Common.{◌≡◌, ◌≢◌, ◌⊎◌, ◌<◌, ◌≤◌, ◌+◌, ◌-◌, ◌==◌, ◌||◌, ◌∷◌, if◌then◌else◌, ℕ, zero, suc, List, []}
-use Rattle.broker_model.specs.Words.{Bool, true, false, not, cond, Contains, is_none, is_some, nat_eq, Option, Some}
-use Rattle.broker_model.specs.Words.{None, Ok, option_map, ⊤, starts_with, refl, sym, ◌∙◌, ap, subst, inl, inr, arith}
-use Rattle.broker_model.specs.Words.{eq-eqb, eqb-true, false≢true, le-ltb, lt-ltb, ne_eqb, not-false, or_parts}
-use Rattle.broker_model.specs.Words.{none-some, Text, same, same_true, passing, Map, get, keep, change, put, without}
-use Rattle.broker_model.specs.Words.{get-change, get-keep, get-put, get-without, Broker, Mount, Names, names_of}
-use Rattle.broker_model.specs.Words.{nothing, reply, Done, some_or, unless, no_ok, ok_step, Key, Version, spend, Reply}
-use Rattle.broker_model.specs.Words.{ok_inj, Written, secret_name, write_is, get-change_versions, next_versions}
-use Rattle.broker_model.specs.Words.{nat_cmp, Settings, checked, check_and_set, described, destroyed, is_among}
-use Rattle.broker_model.specs.Words.{key_or_new, new_version, restored, soft_deleted, version_of, versions_kept}
-use Rattle.broker_model.specs.Words.{with_changed, with_version, disabled, KeySettings, SecretWrite, act, Command}
-use Rattle.broker_model.specs.Words.{command_of, on_cubbyhole, on_issued, on_lease, on_mount, on_policy, on_secret}
-use Rattle.broker_model.specs.Words.{on_token, on_wrapping, SameUnless, OperationsDoAsTold, step, traits, may_change}
-use Rattle.broker_model.specs.Words.{are_none, act_on_mounts, without_kept, Place, act_on_secrets, given_settings}
-use Rattle.std.specs.FinMap as fin
-use Rattle.broker_types.specs.declared.refusal.Refusal.TheVariants as refusal
-use Rattle.broker_types.specs.declared.refusal.Reason.TheVariants as reason
-use Rattle.records.specs.declared.kind.Kind.TheVariants as kind
+use Rattle.broker_model.specs.Words.{le-ltb, not-false, write_is, next_versions, Settings, new_version, version_of}
+use Rattle.broker_model.specs.Words.{with_changed}
 use Rattle.kv2.specs.Secrets as secrets
-use Rattle.broker_model.specs.declared.commands.CubbyholeCommand.TheVariants as of_cubbyhole
-use Rattle.broker_model.specs.declared.commands.IssuedCommand.TheVariants as of_issued
-use Rattle.broker_model.specs.declared.commands.LeaseCommand.TheVariants as of_lease
-use Rattle.broker_model.specs.declared.commands.MountCommand.TheVariants as of_mount
-use Rattle.broker_model.specs.declared.commands.PolicyCommand.TheVariants as of_policy
-use Rattle.histories.specs.Words.{SecretCommand, Asking, clocked, AreKept, Commands, Comes, Deletes, SecretGoes}
-use Rattle.histories.specs.Words.{IsWritten, SecretStands, StandsUnwritten, VersionStands, Writes}
-use Rattle.broker_model.specs.declared.commands.SecretCommand.TheVariants as secret
-use Rattle.broker_model.specs.declared.commands.TokenCommand.TheVariants as of_token
-use Rattle.broker_model.specs.declared.commands.WrappingCommand.TheVariants as of_response
+use Rattle.histories.specs.Words.{get-empty, ◌≡◌, ◌≢◌, ◌⊎◌, ◌<◌, ◌≤◌, ◌+◌, ◌-◌, ◌==◌, ◌||◌, ◌∷◌, if◌then◌else◌, ℕ, zero}
+use Rattle.histories.specs.Words.{suc, List, [], Bool, true, false, not, cond, Contains, is_none, is_some, nat_eq}
+use Rattle.histories.specs.Words.{Option, Some, None, Ok, option_map, ⊤, starts_with, refl, sym, ◌∙◌, ap, subst, inl}
+use Rattle.histories.specs.Words.{inr, arith, eq-eqb, eqb-true, false≢true, lt-ltb, ne_eqb, or_parts, none-some, Text}
+use Rattle.histories.specs.Words.{same, same_true, passing, Map, get, keep, change, put, without, get-change, get-keep}
+use Rattle.histories.specs.Words.{get-put, get-without, Broker, Mount, Names, names_of, nothing, reply, Done, some_or}
+use Rattle.histories.specs.Words.{unless, no_ok, ok_step, Key, Version, spend, Reply, ok_inj, Written, secret_name}
+use Rattle.histories.specs.Words.{get-change_versions, nat_cmp, checked, check_and_set, described, destroyed, is_among}
+use Rattle.histories.specs.Words.{key_or_new, restored, soft_deleted, versions_kept, with_version, disabled}
+use Rattle.histories.specs.Words.{KeySettings, SecretWrite, act, Command, command_of, on_cubbyhole, on_issued, on_lease}
+use Rattle.histories.specs.Words.{on_mount, on_policy, on_secret, on_token, on_wrapping, SameUnless, OperationsDoAsTold}
+use Rattle.histories.specs.Words.{step, traits, may_change, are_none, act_on_mounts, without_kept, Place}
+use Rattle.histories.specs.Words.{act_on_secrets, given_settings, Refusal, Reason, Kind, CubbyholeCommand}
+use Rattle.histories.specs.Words.{IssuedCommand, LeaseCommand, MountCommand, PolicyCommand, SecretCommand, Asking}
+use Rattle.histories.specs.Words.{clocked, AreKept, Commands, Comes, Deletes, SecretGoes, IsWritten, SecretStands}
+use Rattle.histories.specs.Words.{StandsUnwritten, VersionStands, Writes, TokenCommand, WrappingCommand}
 use Rattle.histories.proofs.EventSecrets.{is_200, is_204, same_or_served, served_left, spent_same}
-use Rattle.histories.proofs.OrderCases.{spent}
-use Rattle.histories.proofs.Requests.{means_at_clock}
-use Rattle.histories.proofs.Served.{Served}
+use Rattle.histories.proofs.Order.{spent, means_at_clock, Served}
 
 -- ---- one secret
 
@@ -93,7 +81,7 @@ deleted_stands a q current n v deletes = by v.deleted refl
     by (Some t) some = version_self a q current n v
 
 restored_stands : (a : Asking) (q : Text) (current n : ℕ) (v : Version) (ns : List ℕ)
-    → Commands a q (secret.Undelete ns)
+    → Commands a q (SecretCommand.Undelete ns)
     → Contains ns n → VersionStands a q current n v (restored v)
 restored_stands a q current n v ns asked one = by v.secret refl
   where
@@ -107,7 +95,7 @@ restored_stands a q current n v ns asked one = by v.secret refl
     }
 
 destroyed_stands : (a : Asking) (q : Text) (current n : ℕ) (v : Version) (ns : List ℕ)
-    → Commands a q (secret.Destroy ns)
+    → Commands a q (SecretCommand.Destroy ns)
     → Contains ns n → VersionStands a q current n v (destroyed v)
 destroyed_stands a q current n v ns asked one =
     record { created = refl; secret = inr (refl, (ns, asked, one)); deleted = inl refl }
@@ -212,16 +200,16 @@ module _ (own of_mount : Bool) (current : ℕ) (cas : Option ℕ) (passed : chec
 
     told_is : (n : ℕ) → cas ≡ Some n → n ≡ current
     told_is n some =
-        let same_ : unless (n == current) (refusal.BadRequest reason.CheckAndSetFailed) ≡ Ok tt =
+        let same_ : unless (n == current) (Refusal.BadRequest Reason.CheckAndSetFailed) ≡ Ok tt =
         by (own || of_mount) (ap (check_and_set (own || of_mount) current) (sym some) ∙ set_passed) in
         by_test (n == current) refl same_
       where
         by : (v : Bool) → check_and_set v current (Some n) ≡ Ok tt
-            → unless (n == current) (refusal.BadRequest reason.CheckAndSetFailed) ≡ Ok tt
+            → unless (n == current) (Refusal.BadRequest Reason.CheckAndSetFailed) ≡ Ok tt
         by true e = e
         by false e = e
 
-        by_test : (v : Bool) → (n == current) ≡ v → unless v (refusal.BadRequest reason.CheckAndSetFailed) ≡ Ok tt
+        by_test : (v : Bool) → (n == current) ≡ v → unless v (Refusal.BadRequest Reason.CheckAndSetFailed) ≡ Ok tt
             → n ≡ current
         by_test true at e = eqb-true n current at
         by_test false at e = no_ok e
@@ -254,7 +242,7 @@ module _ (now : ℕ) (m : Mount) (asked : SecretWrite) (o : Option Key)
   positive_limit : 0 < limit
   positive_limit = some_kept_at_all k.max_versions m.max_versions limit (are_kept m k)
 
-  version_is : fin.get after.versions (k.current + 1)
+  version_is : get after.versions (k.current + 1)
       ≡ Some (record { created = now; deleted = None; secret = Some asked.object })
   version_is =
       next_versions now limit asked.object o (k.current + 1)
@@ -262,7 +250,7 @@ module _ (now : ℕ) (m : Mount) (asked : SecretWrite) (o : Option Key)
       (lt-ltb (k.current + 1 - limit) (k.current + 1) (omega (arith, positive_limit)))
       ∙ ap (λ v. cond v fresh (version_of o (k.current + 1))) (eq-eqb (k.current + 1) (k.current + 1) refl)
 
-  gone : (n : ℕ) → (n ≡ 0) ⊎ (n + limit ≤ k.current + 1) → fin.get after.versions n ≡ None
+  gone : (n : ℕ) → (n ≡ 0) ⊎ (n + limit ≤ k.current + 1) → get after.versions n ≡ None
   gone n low = next_versions now limit asked.object o n
       ∙ ap (λ v. cond v (cond (n == (k.current + 1)) fresh (version_of o n)) None)
       (le-ltb (k.current + 1 - limit) n (below low))
@@ -271,15 +259,15 @@ module _ (now : ℕ) (m : Mount) (asked : SecretWrite) (o : Option Key)
       below (inl none) = omega (arith, none)
       below (inr low_) = omega (arith, low_)
 
-  old_is : (n : ℕ) → fin.get k.versions n ≡ version_of o n
+  old_is : (n : ℕ) → get k.versions n ≡ version_of o n
   old_is n = by o
     where
-      by : (x : Option Key) → fin.get (key_or_new now x).versions n ≡ version_of x n
-      by None = fin.get-empty nat_cmp n
+      by : (x : Option Key) → get (key_or_new now x).versions n ≡ version_of x n
+      by None = get-empty nat_cmp n
       by (Some y) = refl
 
   left : (n : ℕ) → n ≢ 0 → n ≢ k.current + 1 → k.current + 1 < n + limit
-      → fin.get after.versions n ≡ fin.get k.versions n
+      → get after.versions n ≡ get k.versions n
   left n some other high = next_versions now limit asked.object o n
       ∙ ap (λ v. cond v (cond (n == (k.current + 1)) fresh (version_of o n)) None)
       (lt-ltb (k.current + 1 - limit) n (omega (arith, high, positive n some)))
@@ -311,7 +299,7 @@ only m n (suc i, low, is) = absurd (omega (arith, low))
 
 -- settings that a secret is given
 described_stands : (a : Asking) (q : Text) (now : ℕ) (settings : Settings) (k : Key) (asked : KeySettings)
-    → Commands a q (secret.SetMetadata asked) → StandsUnwritten a q k (described now settings k)
+    → Commands a q (SecretCommand.SetMetadata asked) → StandsUnwritten a q k (described now settings k)
 described_stands a q now settings k asked it = record {
   created = refl;
   current = refl;
@@ -334,7 +322,7 @@ module _ (a : Asking) (s : Served a) (means : command_of (clocked a).mounts a.as
       record { place = p; means = means ∙ ap Ok is; name = at; answered = is_204 a s answered }
 
   writes : (p : Place) (asked : SecretWrite) (q : Text) (r : Reply) (made : Option Text)
-      → s.command ≡ on_secret p (secret.Write asked)
+      → s.command ≡ on_secret p (SecretCommand.Write asked)
       → s.done.answered ≡ reply r made → q ≡ secret_name p.mount p.path → Writes a q asked
   writes p asked q r made is answered at =
       record { place = p; means = means ∙ ap Ok is; name = at; answered = is_200 a s r made answered }
@@ -345,22 +333,22 @@ module _ (a : Asking) (s : Served a) (means : command_of (clocked a).mounts a.as
   -- a command of the caller on a secret
   secrets_move : (c : Text) (p : Place) (k : SecretCommand) → s.command ≡ on_secret p k
       → act_on_secrets (spend now c) names p k ≡ Ok s.done → Moved s.done
-  secrets_move c p secret.ShowSettings is e =
-      let m = ok_step (some_or refusal.NotFound (secrets.config (spend now c) p.mount)) _ s.done e in
+  secrets_move c p SecretCommand.ShowSettings is e =
+      let m = ok_step (some_or Refusal.NotFound (secrets.config (spend now c) p.mount)) _ s.done e in
       all_same a now.secrets _ (ap (λ (d : Done). d.next.secrets) (sym (ok_inj m.2)))
-  secrets_move c p (secret.SetSettings asked) is e =
+  secrets_move c p (SecretCommand.SetSettings asked) is e =
       all_same a now.secrets _ (ap (λ (d : Done). d.next.secrets) (sym (ok_inj e)))
-  secrets_move c p (secret.Read n) is e =
-      let v = ok_step (some_or refusal.NotFound (secrets.read (spend now c) p.mount p.path n)) _ s.done e in
+  secrets_move c p (SecretCommand.Read n) is e =
+      let v = ok_step (some_or Refusal.NotFound (secrets.read (spend now c) p.mount p.path n)) _ s.done e in
       all_same a now.secrets _ (ap (λ (d : Done). d.next.secrets) (sym (ok_inj v.2)))
-  secrets_move c p secret.ShowMetadata is e =
-      let m = ok_step (some_or refusal.NotFound (secrets.metadata (spend now c) p.mount p.path)) _ s.done e in
+  secrets_move c p SecretCommand.ShowMetadata is e =
+      let m = ok_step (some_or Refusal.NotFound (secrets.metadata (spend now c) p.mount p.path)) _ s.done e in
       all_same a now.secrets _ (ap (λ (d : Done). d.next.secrets) (sym (ok_inj m.2)))
-  secrets_move c p secret.List is e =
+  secrets_move c p SecretCommand.List is e =
       let some =
-      ok_step (unless (not (are_none (secrets.list (spend now c) p.mount p.path))) refusal.NotFound) _ s.done e in
+      ok_step (unless (not (are_none (secrets.list (spend now c) p.mount p.path))) Refusal.NotFound) _ s.done e in
       all_same a now.secrets _ (ap (λ (d : Done). d.next.secrets) (sym (ok_inj some.2)))
-  secrets_move c p (secret.Write asked) is e =
+  secrets_move c p (SecretCommand.Write asked) is e =
       let w = ok_step (secrets.write (spend now c) p.mount p.path asked.cas asked.object) _ s.done e in
       let x = write_is (spend now c) p.mount p.path asked.cas asked.object w.0 w.1 in
       let answered = ap (λ (d : Done). d.answered) (sym (ok_inj w.2)) in
@@ -372,32 +360,36 @@ module _ (a : Asking) (s : Served a) (means : command_of (clocked a).mounts a.as
       by : (x : Key) (q : Text) (o : Option Key) → ((asked : SecretWrite) × Writes a q asked) → Moves a q o (Some x)
       by x q None it = inl it
       by x q (Some k) it = inl it
-  secrets_move c p secret.DeleteCurrent is e =
+  secrets_move c p SecretCommand.DeleteCurrent is e =
       let answered = ap (λ (d : Done). d.answered) (sym (ok_inj e)) in
       subst Moved (ok_inj e)
       (one_changed a now.secrets (secret_name p.mount p.path)
       (λ k. with_changed (soft_deleted now.clock) (k.current ∷ []) k) (λ q at k.
       changed_stands a q k (soft_deleted now.clock) (k.current ∷ []) (λ n v one.
-      deleted_stands a q k.current n v (inl (commands p secret.DeleteCurrent q is answered at, only k.current n one)))))
-  secrets_move c p (secret.Delete ns) is e =
+      deleted_stands a q k.current n v (inl (
+        commands p SecretCommand.DeleteCurrent q is answered at,
+        only k.current n
+            one,
+      )))))
+  secrets_move c p (SecretCommand.Delete ns) is e =
       let answered = ap (λ (d : Done). d.answered) (sym (ok_inj e)) in
       subst Moved (ok_inj e)
       (one_changed a now.secrets (secret_name p.mount p.path) (with_changed (soft_deleted now.clock) ns) (λ q at k.
       changed_stands a q k (soft_deleted now.clock) ns (λ n v one.
-      deleted_stands a q k.current n v (inr (ns, commands p (secret.Delete ns) q is answered at, one)))))
-  secrets_move c p (secret.Undelete ns) is e =
+      deleted_stands a q k.current n v (inr (ns, commands p (SecretCommand.Delete ns) q is answered at, one)))))
+  secrets_move c p (SecretCommand.Undelete ns) is e =
       let answered = ap (λ (d : Done). d.answered) (sym (ok_inj e)) in
       subst Moved (ok_inj e)
       (one_changed a now.secrets (secret_name p.mount p.path) (with_changed restored ns) (λ q at k.
       changed_stands a q k restored ns (λ n v one.
-      restored_stands a q k.current n v ns (commands p (secret.Undelete ns) q is answered at) one)))
-  secrets_move c p (secret.Destroy ns) is e =
+      restored_stands a q k.current n v ns (commands p (SecretCommand.Undelete ns) q is answered at) one)))
+  secrets_move c p (SecretCommand.Destroy ns) is e =
       let answered = ap (λ (d : Done). d.answered) (sym (ok_inj e)) in
       subst Moved (ok_inj e)
       (one_changed a now.secrets (secret_name p.mount p.path) (with_changed destroyed ns) (λ q at k.
       changed_stands a q k destroyed ns (λ n v one.
-      destroyed_stands a q k.current n v ns (commands p (secret.Destroy ns) q is answered at) one)))
-  secrets_move c p (secret.SetMetadata asked) is e =
+      destroyed_stands a q k.current n v ns (commands p (SecretCommand.Destroy ns) q is answered at) one)))
+  secrets_move c p (SecretCommand.SetMetadata asked) is e =
       let answered = ap (λ (d : Done). d.answered) (sym (ok_inj e)) in
       let name = secret_name p.mount p.path in
       subst Moved (ok_inj e)
@@ -406,20 +398,21 @@ module _ (a : Asking) (s : Served a) (means : command_of (clocked a).mounts a.as
       (λ q at o there.
       subst (λ z. Moves a q o (Some (described now.clock (given_settings asked) (key_or_new now.clock z))))
       (sym there ∙ ap (get now.secrets) at)
-      (by q o (commands p (secret.SetMetadata asked) q is answered at))))
+      (by q o (commands p (SecretCommand.SetMetadata asked) q is answered at))))
     where
-      by : (q : Text) (o : Option Key) → Commands a q (secret.SetMetadata asked)
+      by : (q : Text) (o : Option Key) → Commands a q (SecretCommand.SetMetadata asked)
           → Moves a q o (Some (described now.clock (given_settings asked) (key_or_new now.clock o)))
-      by q None it = inr ((asked, it), refl, λ n. fin.get-empty nat_cmp n)
+      by q None it = inr ((asked, it), refl, λ n. get-empty nat_cmp n)
       by q (Some k) it = inr (described_stands a q now.clock (given_settings asked) k asked it)
-  secrets_move c p secret.Remove is e =
+  secrets_move c p SecretCommand.Remove is e =
       let answered = ap (λ (d : Done). d.answered) (sym (ok_inj e)) in
       subst Moved (ok_inj e)
-      (one_gone a now.secrets (secret_name p.mount p.path) (λ q at. inl (commands p secret.Remove q is answered at)))
+      (one_gone a now.secrets (secret_name p.mount p.path) (λ q at. inl
+      (commands p SecretCommand.Remove q is answered at)))
 
   -- the disabling of a mount
-  disabling_moves : (c name : Text) → s.command ≡ on_mount name of_mount.Disable
-      → act_on_mounts (spend now c) names name of_mount.Disable ≡ Ok s.done
+  disabling_moves : (c name : Text) → s.command ≡ on_mount name MountCommand.Disable
+      → act_on_mounts (spend now c) names name MountCommand.Disable ≡ Ok s.done
       → Moved s.done
   disabling_moves c name is e =
       let next = ok_step (disabled now.mounts name) _ s.done e in
@@ -443,23 +436,23 @@ module _ (a : Asking) (s : Served a) (means : command_of (clocked a).mounts a.as
   -- ---- whatever the command is
 
   -- which commands may change secrets
-  touches : (command : Command) → may_change (traits command).changes kind.KvKey ≡ true
+  touches : (command : Command) → may_change (traits command).changes Kind.KvKey ≡ true
       → ((p : Place) × (k : SecretCommand) × (command ≡ on_secret p k)) ⊎
-      ((name : Text) × (command ≡ on_mount name of_mount.Disable))
+      ((name : Text) × (command ≡ on_mount name MountCommand.Disable))
   touches (on_secret p k) e = inl (p, k, refl)
-  touches (on_mount name of_mount.Disable) e = inr (name, refl)
+  touches (on_mount name MountCommand.Disable) e = inr (name, refl)
   touches (on_mount name _) e = absurd (false≢true e)
-  touches (on_cubbyhole path (of_cubbyhole.Write full)) e = absurd (false≢true e)
+  touches (on_cubbyhole path (CubbyholeCommand.Write full)) e = absurd (false≢true e)
   touches (on_cubbyhole path _) e = absurd (false≢true e)
-  touches (on_token (of_token.LookUp t)) e = absurd (false≢true e)
+  touches (on_token (TokenCommand.LookUp t)) e = absurd (false≢true e)
   touches (on_token _) e = absurd (false≢true e)
-  touches (on_policy name (of_policy.Set text)) e = absurd (false≢true e)
+  touches (on_policy name (PolicyCommand.Set text)) e = absurd (false≢true e)
   touches (on_policy name _) e = absurd (false≢true e)
-  touches (on_lease prefix (of_lease.LookUp id)) e = absurd (false≢true e)
+  touches (on_lease prefix (LeaseCommand.LookUp id)) e = absurd (false≢true e)
   touches (on_lease prefix _) e = absurd (false≢true e)
-  touches (on_issued p of_issued.Issue) e = absurd (false≢true e)
+  touches (on_issued p IssuedCommand.Issue) e = absurd (false≢true e)
   touches (on_issued p _) e = absurd (false≢true e)
-  touches (on_wrapping (of_response.Unwrap t)) e = absurd (false≢true e)
+  touches (on_wrapping (WrappingCommand.Unwrap t)) e = absurd (false≢true e)
   touches (on_wrapping _) e = absurd (false≢true e)
 
   abbrev Acted : Command → Option Text → Type 0
@@ -471,15 +464,15 @@ module _ (a : Asking) (s : Served a) (means : command_of (clocked a).mounts a.as
   by_caller p k is None e = no_ok e
   by_caller p k is (Some c) e = secrets_move c p k is e
 
-  disabled_by : (name : Text) → s.command ≡ on_mount name of_mount.Disable → (caller : Option Text)
-      → Acted (on_mount name of_mount.Disable) caller → Moved s.done
+  disabled_by : (name : Text) → s.command ≡ on_mount name MountCommand.Disable → (caller : Option Text)
+      → Acted (on_mount name MountCommand.Disable) caller → Moved s.done
   disabled_by name is None e = no_ok e
   disabled_by name is (Some c) e = disabling_moves c name is e
 
   served_moves : OperationsDoAsTold → Moved s.done
   served_moves told =
-      elim (may_change (traits s.command).changes kind.KvKey) as
-      (λ v. may_change (traits s.command).changes kind.KvKey ≡ v
+      elim (may_change (traits s.command).changes Kind.KvKey) as
+      (λ v. may_change (traits s.command).changes Kind.KvKey ≡ v
       → SameUnless v (spent now s.caller).secrets s.done.next.secrets → Moved s.done) [
         | true ↦ λ may _. elim (touches s.command may) [
           | inl (p, k, is) ↦ by_caller p k is s.caller (subst (λ (x : Command). Acted x s.caller) is s.acted)

@@ -1,25 +1,17 @@
 -- What becomes of the versions of each secret by a request.
-use Rattle.std.proofs.Common.{◌≡◌, ◌==◌, ◌||◌, if◌then◌else◌, not, nat_lt, ℕ, List, true, Option, Some, None, Result}
-use Rattle.broker_model.specs.Words.{Ok, Err, refl, sym, ◌∙◌, ap, subst, arith, eq-eqb, any_contained, Text, same}
-use Rattle.broker_model.specs.Words.{same_self, Map, get, valued_is, Broker, Names, names_of, Done, nothing, plainly}
-use Rattle.broker_model.specs.Words.{mapped, unless, no_ok, ok_step, Key, Version, Sound, end_spent, status_code}
-use Rattle.broker_model.specs.Words.{are_new, Refusal, ok_inj, secret_name, get-change_versions, destroyed, is_among}
-use Rattle.broker_model.specs.Words.{with_changed, act, Command, on_secret, command_of, secrets_same, AllGiven}
-use Rattle.broker_model.specs.Words.{SecretsStay, forms, OperationsDoAsTold, Outcome, Wrapped, counted, finish, needed}
-use Rattle.broker_model.specs.Words.{permission_denied, serve, wrapped, permits, Request, request_of, step, traits}
-use Rattle.broker_model.specs.Words.{Place}
-use Rattle.std.specs.FinMap as fin
-use Rattle.broker_types.specs.declared.refusal.Refusal.TheVariants as refusal
-use Rattle.broker_types.specs.declared.refusal.Reason.TheVariants as reason
-use Rattle.broker_types.specs.declared.status.Status.TheVariants as status
+use Rattle.broker_model.specs.Words.{with_changed, secrets_same, AllGiven, SecretsStay}
 use Rattle.kv2.specs.Secrets as secrets
-use Rattle.broker_model.specs.declared.commands.SecretCommand.TheVariants as command
-use Rattle.histories.specs.Words.{Asking, clocked, AllSecretsStay}
+use Rattle.histories.specs.Words.{◌≡◌, ◌==◌, ◌||◌, if◌then◌else◌, not, nat_lt, ℕ, List, true, Option, Some, None}
+use Rattle.histories.specs.Words.{Result, Ok, Err, refl, sym, ◌∙◌, ap, subst, arith, eq-eqb, any_contained, Text, same}
+use Rattle.histories.specs.Words.{same_self, Map, get, valued_is, Broker, Names, names_of, Done, nothing, plainly}
+use Rattle.histories.specs.Words.{mapped, unless, no_ok, ok_step, Key, Version, Sound, end_spent, status_code, are_new}
+use Rattle.histories.specs.Words.{Refusal, ok_inj, secret_name, get-change_versions, destroyed, is_among, act, Command}
+use Rattle.histories.specs.Words.{on_secret, command_of, forms, OperationsDoAsTold, Outcome, Wrapped, counted, finish}
+use Rattle.histories.specs.Words.{needed, permission_denied, serve, wrapped, permits, Request, request_of, step, traits}
+use Rattle.histories.specs.Words.{Place, Reason, Status, SecretCommand, Asking, clocked, AllSecretsStay}
 use Rattle.histories.proofs.EventSecrets.{end_same, spent_same, wrapped_same}
 use Rattle.histories.proofs.InOrder.{in_order}
-use Rattle.histories.proofs.OrderCases.{spent}
-use Rattle.histories.proofs.Requests.{asked_at, means_at_clock}
-use Rattle.histories.proofs.Served.{served}
+use Rattle.histories.proofs.Order.{spent, asked_at, means_at_clock, served}
 
 module _ (told : OperationsDoAsTold) (a : Asking) (sound : Sound forms None a.broker) where
   abbrev now : Broker
@@ -51,9 +43,9 @@ module _ (told : OperationsDoAsTold) (a : Asking) (sound : Sound forms None a.br
         let p = ok_step (unless (q.is_open || permits start caller q.verb q.path) permission_denied) _ v e in
         let r = ok_step (q.command start) _ v p.2 in
         let n =
-        ok_step (unless (are_new start.used (needed permits traits act q names r.0)) refusal.IdentifierUsed) _ v r.2 in
+        ok_step (unless (are_new start.used (needed permits traits act q names r.0)) Refusal.IdentifierUsed) _ v r.2 in
         let m = ok_step (unless (not (traits r.0).must_wrap || nat_lt 0 q.wrap_ttl)
-        (refusal.BadRequest reason.WrappingRequired)) _ v n.2 in
+        (Refusal.BadRequest Reason.WrappingRequired)) _ v n.2 in
         let f = ok_step (act start caller names r.0) _ v m.2 in
         let left : (end_spent (counted v.done) caller).secrets ≡ (f.0).next.secrets =
         end_same (counted v.done) caller ∙ ap (λ (x : Wrapped). x.done.next.secrets) (sym (ok_inj f.2))
@@ -75,23 +67,23 @@ module _ (told : OperationsDoAsTold) (a : Asking) (sound : Sound forms None a.br
 
 module _ (p : Place) (ns : List ℕ) where
   destroys : (b : Broker) (who : Option Text) (names : Names) (d : Done)
-      → act b who names (on_secret p (command.Destroy ns)) ≡ Ok d
+      → act b who names (on_secret p (SecretCommand.Destroy ns)) ≡ Ok d
       → d ≡ plainly nothing (secrets.destroy b p.mount p.path ns)
   destroys b None _ d e = no_ok e
   destroys b (Some c) _ d e = sym (ok_inj e)
 
   -- a version that a 204 destroyed holds nothing
   holds_nothing : (a : Asking) → a.outcome ≡ step a.broker a.moment a.words a.ask
-      → command_of (clocked a).mounts a.ask ≡ Ok (on_secret p (command.Destroy ns))
-      → a.outcome.response.status ≡ status.NoContent
+      → command_of (clocked a).mounts a.ask ≡ Ok (on_secret p (SecretCommand.Destroy ns))
+      → a.outcome.response.status ≡ Status.NoContent
       → (n : ℕ) (m : Key) (w : Version) → is_among ns n ≡ true
-      → get a.outcome.next.secrets (secret_name p.mount p.path) ≡ Some m → fin.get m.versions n ≡ Some w
+      → get a.outcome.next.secrets (secret_name p.mount p.path) ≡ Some m → get m.versions n ≡ Some w
       → w.secret ≡ None
   holds_nothing a is means empty_ n m w among there held =
       let s = served a is (omega (arith, ap status_code empty_)) in
       let start = spent (clocked a) s.caller in
       let names = names_of a.words in
-      let is_command : s.command ≡ on_secret p (command.Destroy ns) =
+      let is_command : s.command ≡ on_secret p (SecretCommand.Destroy ns) =
       ok_inj (sym (means_at_clock a s.caller s.command s.means) ∙ means) in
       let done = destroys start s.caller names s.done
       (subst (λ (k : Command). act start s.caller names k ≡ Ok s.done) is_command s.acted) in
@@ -104,9 +96,9 @@ module _ (p : Place) (ns : List ℕ) where
       let x = valued_is (λ u (z : Key). if same u name then f z else z) start.secrets name m
       (ap (λ (z : Map Key). get z name) (sym left) ∙ there) in
       let is_changed : m ≡ f x.0 = x.2 ∙ ap (λ b. if b then f x.0 else x.0) (same_self name) in
-      let y = mapped (λ (z : Version). if is_among ns n then destroyed z else z) (fin.get x.0.versions n) w
+      let y = mapped (λ (z : Version). if is_among ns n then destroyed z else z) (get x.0.versions n) w
       (sym (get-change_versions destroyed (is_among ns) x.0.versions n)
-      ∙ ap (λ (z : Key). fin.get z.versions n) (sym is_changed) ∙ held) in
+      ∙ ap (λ (z : Key). get z.versions n) (sym is_changed) ∙ held) in
       ap (λ (z : Version). z.secret) (y.2 ∙ ap (λ b. if b then destroyed y.0 else y.0) among)
 
 pub secrets_stay : OperationsDoAsTold → AllSecretsStay

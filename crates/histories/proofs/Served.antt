@@ -1,9 +1,7 @@
 -- A request whose answer is no refusal was served.
-use Rattle.std.proofs.Common.{◌≡◌, ◌<◌, ◌≤◌, ◌⊎◌, ℕ, Option, sym, ◌∙◌, ap, subst, inl, inr, arith}
-use Rattle.broker_model.specs.Words.{IsRefused, refused, names_of, Answered, nothing, reply, status_code, Text, Refusal}
-use Rattle.broker_model.specs.Words.{Reply, act, Outcome, permission_denied, permits, request_of, step, traits}
-use Rattle.broker_types.specs.declared.refusal.Refusal.TheVariants as refusal
-use Rattle.histories.specs.Words.{Asking, clocked}
+use Rattle.histories.specs.Words.{◌≡◌, ◌<◌, ◌≤◌, ◌⊎◌, ℕ, Option, sym, ◌∙◌, ap, subst, inl, inr, arith, IsRefused}
+use Rattle.histories.specs.Words.{refused, names_of, Answered, nothing, reply, status_code, Text, Refusal, Reply, act}
+use Rattle.histories.specs.Words.{Outcome, permission_denied, permits, request_of, step, traits, Asking, clocked}
 use Rattle.histories.proofs.OrderCases.{IsServed, IsTurnedAway, IsTurnedDown, order_cases}
 
 -- the code of its answer
@@ -31,11 +29,11 @@ cases a is = subst (λ (o : Outcome). IsTurnedAway (clocked a) (request_of a.ask
 
 -- a refusal is 400 or more
 pub refused_code : (why : Refusal) → 400 ≤ status_code (refused why).status
-refused_code (refusal.BadRequest r) = omega (arith)
-refused_code (refusal.Forbidden d) = omega (arith)
-refused_code refusal.NotFound = omega (arith)
-refused_code (refusal.MethodNotAllowed ms) = omega (arith)
-refused_code refusal.IdentifierUsed = omega (arith)
+refused_code (Refusal.BadRequest r) = omega (arith)
+refused_code (Refusal.Forbidden d) = omega (arith)
+refused_code Refusal.NotFound = omega (arith)
+refused_code (Refusal.MethodNotAllowed ms) = omega (arith)
+refused_code Refusal.IdentifierUsed = omega (arith)
 
 module _ (a : Asking) (is : a.outcome ≡ step a.broker a.moment a.words a.ask) (answered : code a < 400) where
   not_refused : (why : Refusal) → code a ≡ status_code (refused why).status → ⊥

@@ -4,11 +4,8 @@ use Rattle.broker_model.specs.Words.{false≢true, Text, same, get, valued_none,
 use Rattle.broker_model.specs.Words.{found_or_not, end_spent, one_less, Token, Tokens, ok_inj, act, Command, command_of}
 use Rattle.broker_model.specs.Words.{Outcome, Wrapped, counted, wrapped, permits, request_of, traits}
 use Rattle.histories.specs.Words.{Asking, clocked, spent_by, IsClient, left_by_caller}
-use Rattle.histories.proofs.OrderCases.{IsCaller, spent}
-use Rattle.histories.proofs.OrderKeeps.{wrapped_cases}
-use Rattle.histories.proofs.Requests.{means_at_clock}
+use Rattle.histories.proofs.Order.{IsCaller, spent, wrapped_cases, means_at_clock, Served}
 use Rattle.histories.proofs.Revoking.{end_spent_leaves}
-use Rattle.histories.proofs.Served.{Served}
 
 -- without a caller the command is not carried out
 abbrev pub NeedsCaller : Command → Type 0

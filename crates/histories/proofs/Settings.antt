@@ -1,41 +1,27 @@
 -- What becomes of roles, policies and mounts by a request.
-use Rattle.std.proofs.Common.{◌≡◌, ◌≢◌, ◌⊎◌, ◌==◌, ◌&&◌, ◌||◌, if◌then◌else◌, ℕ, [], Bool, true, false, not, cond, Some}
-use Rattle.broker_model.specs.Words.{is_some, nat_eq, Option, None, Ok, option_map, unwrap_or, codes, list_any}
-use Rattle.broker_model.specs.Words.{starts_with, option_map_or, refl, sym, ◌∙◌, ap, subst, inl, inr, arith, and_parts}
-use Rattle.broker_model.specs.Words.{eqb-true, false≢true, not-true, or_parts, none-some, same_Some, Text, same}
-use Rattle.broker_model.specs.Words.{same_self, same_true, Map, change, get, put, without, get-change, get-keep}
-use Rattle.broker_model.specs.Words.{get-put, get-put_self, get-without, get-without_self, same_map, Broker, Engine}
-use Rattle.broker_model.specs.Words.{Mount, Role, Waiting, issued, kv, is_name, reserved_names, nothing, Done, some_or}
-use Rattle.broker_model.specs.Words.{unless, no_ok, ok_step, unless_ok, status_code, Tokens, not_there, ok_inj}
-use Rattle.broker_model.specs.Words.{role_name, disabled, enabled, engine_asked, may_go, new_mount, plain_mount}
-use Rattle.broker_model.specs.Words.{RoleSettings, MountCreation, MountSettings, Command, command_of, on_cubbyhole}
-use Rattle.broker_model.specs.Words.{on_issued, on_lease, on_mount, on_policy, on_secret, on_token, on_wrapping}
-use Rattle.broker_model.specs.Words.{SameUnless, OperationsDoAsTold, Outcome, request_of, step, traits, may_change}
-use Rattle.broker_model.specs.Words.{without_kept, Place}
-use Rattle.broker_types.specs.declared.refusal.Reason.TheVariants as reason
-use Rattle.broker_types.specs.declared.refusal.Refusal.TheVariants as refusal
-use Rattle.broker_types.specs.declared.status.Status.TheVariants as status
-use Rattle.records.specs.declared.kind.Kind.TheVariants as kind
+use Rattle.broker_model.specs.Words.{same_map, new_mount, RoleSettings, MountSettings}
 use Rattle.leases.specs.Roles as roles
-use Rattle.kv2.specs.Secrets.{with_settings}
 use Rattle.policies.specs.Policies as policies
-use Rattle.broker_model.specs.declared.commands.CubbyholeCommand.TheVariants as of_cubbyhole
+use Rattle.histories.specs.Words.{◌≡◌, ◌≢◌, ◌⊎◌, ◌==◌, ◌&&◌, ◌||◌, if◌then◌else◌, ℕ, [], Bool, true, false, not, cond}
+use Rattle.histories.specs.Words.{Some, is_some, nat_eq, Option, None, Ok, option_map, unwrap_or, codes, list_any}
+use Rattle.histories.specs.Words.{starts_with, option_map_or, refl, sym, ◌∙◌, ap, subst, inl, inr, arith, and_parts}
+use Rattle.histories.specs.Words.{eqb-true, false≢true, not-true, or_parts, none-some, same_Some, Text, same, same_self}
+use Rattle.histories.specs.Words.{same_true, Map, change, get, put, without, get-change, get-keep, get-put}
+use Rattle.histories.specs.Words.{get-put_self, get-without, get-without_self, Broker, Engine, Mount, Role, Waiting}
+use Rattle.histories.specs.Words.{issued, kv, is_name, reserved_names, nothing, Done, some_or, unless, no_ok, ok_step}
+use Rattle.histories.specs.Words.{unless_ok, status_code, Tokens, not_there, ok_inj, role_name, disabled, enabled}
+use Rattle.histories.specs.Words.{engine_asked, may_go, plain_mount, MountCreation, Command, command_of, on_cubbyhole}
+use Rattle.histories.specs.Words.{on_issued, on_lease, on_mount, on_policy, on_secret, on_token, on_wrapping}
+use Rattle.histories.specs.Words.{SameUnless, OperationsDoAsTold, Outcome, request_of, step, traits, may_change}
+use Rattle.histories.specs.Words.{without_kept, Place, Reason, Refusal, Status, Kind, with_settings, CubbyholeCommand}
 use Rattle.histories.specs.Words.{IssuedCommand, MountCommand, PolicyCommand, Asking, clocked, spent_by}
 use Rattle.histories.specs.Words.{AllSettingsFollow, Enables, IsEnabled, MeansEngine, MountBecomes, MountIsSet, OnMount}
 use Rattle.histories.specs.Words.{OnPolicy, OnRole, PolicyBecomes, RoleBecomes, Sets, SetsMount, role_given}
-use Rattle.broker_model.specs.declared.commands.IssuedCommand.TheVariants as of_issued
-use Rattle.broker_model.specs.declared.commands.LeaseCommand.TheVariants as of_lease
-use Rattle.broker_model.specs.declared.commands.MountCommand.TheVariants as of_mount
-use Rattle.broker_model.specs.declared.commands.PolicyCommand.TheVariants as of_policy
-use Rattle.broker_model.specs.declared.commands.SecretCommand.TheVariants as of_secret
-use Rattle.broker_model.specs.declared.commands.TokenCommand.TheVariants as of_token
-use Rattle.broker_model.specs.declared.commands.WrappingCommand.TheVariants as of_response
+use Rattle.histories.specs.Words.{LeaseCommand, SecretCommand, TokenCommand, WrappingCommand}
 use Rattle.histories.proofs.Disabled.{left}
 use Rattle.histories.proofs.EventSecrets.{is_204}
-use Rattle.histories.proofs.OrderCases.{IsTurnedAway, IsTurnedDown, some_ok, spent}
-use Rattle.histories.proofs.OrderKeeps.{end_spent_same}
-use Rattle.histories.proofs.Requests.{asked_at, means_at_clock}
-use Rattle.histories.proofs.Served.{Served, cases, served}
+use Rattle.histories.proofs.Order.{IsTurnedAway, IsTurnedDown, some_ok, spent, end_spent_same, asked_at, means_at_clock}
+use Rattle.histories.proofs.Order.{Served, cases, served}
 use Rattle.histories.proofs.ServedFor.{NeedsCaller, ServedFor, served_for}
 
 -- ---- a map that no token, response or identifier is in
@@ -83,60 +69,60 @@ module _ (a : Asking) where
 
 -- ---- which commands may change these maps
 
-touches_roles : (command : Command) → may_change (traits command).changes kind.Role ≡ true
+touches_roles : (command : Command) → may_change (traits command).changes Kind.Role ≡ true
     → ((p : Place) × (k : IssuedCommand) × (command ≡ on_issued p k)) ⊎
-    ((name : Text) × (command ≡ on_mount name of_mount.Disable))
+    ((name : Text) × (command ≡ on_mount name MountCommand.Disable))
 touches_roles (on_issued p k) e = inl (p, k, refl)
-touches_roles (on_mount name of_mount.Disable) e = inr (name, refl)
+touches_roles (on_mount name MountCommand.Disable) e = inr (name, refl)
 touches_roles (on_mount name _) e = absurd (false≢true e)
-touches_roles (on_cubbyhole path (of_cubbyhole.Write full)) e = absurd (false≢true e)
+touches_roles (on_cubbyhole path (CubbyholeCommand.Write full)) e = absurd (false≢true e)
 touches_roles (on_cubbyhole path _) e = absurd (false≢true e)
-touches_roles (on_token (of_token.LookUp t)) e = absurd (false≢true e)
+touches_roles (on_token (TokenCommand.LookUp t)) e = absurd (false≢true e)
 touches_roles (on_token _) e = absurd (false≢true e)
-touches_roles (on_secret p of_secret.ShowSettings) e = absurd (false≢true e)
+touches_roles (on_secret p SecretCommand.ShowSettings) e = absurd (false≢true e)
 touches_roles (on_secret p _) e = absurd (false≢true e)
-touches_roles (on_policy name (of_policy.Set text)) e = absurd (false≢true e)
+touches_roles (on_policy name (PolicyCommand.Set text)) e = absurd (false≢true e)
 touches_roles (on_policy name _) e = absurd (false≢true e)
-touches_roles (on_lease prefix (of_lease.LookUp id)) e = absurd (false≢true e)
+touches_roles (on_lease prefix (LeaseCommand.LookUp id)) e = absurd (false≢true e)
 touches_roles (on_lease prefix _) e = absurd (false≢true e)
-touches_roles (on_wrapping (of_response.Unwrap t)) e = absurd (false≢true e)
+touches_roles (on_wrapping (WrappingCommand.Unwrap t)) e = absurd (false≢true e)
 touches_roles (on_wrapping _) e = absurd (false≢true e)
 
-touches_policies : (command : Command) → may_change (traits command).changes kind.Policy ≡ true
+touches_policies : (command : Command) → may_change (traits command).changes Kind.Policy ≡ true
     → (name : Text) × (k : PolicyCommand) × (command ≡ on_policy name k)
 touches_policies (on_policy name k) e = (name, k, refl)
-touches_policies (on_issued p of_issued.Issue) e = absurd (false≢true e)
+touches_policies (on_issued p IssuedCommand.Issue) e = absurd (false≢true e)
 touches_policies (on_issued p _) e = absurd (false≢true e)
-touches_policies (on_mount name of_mount.Disable) e = absurd (false≢true e)
+touches_policies (on_mount name MountCommand.Disable) e = absurd (false≢true e)
 touches_policies (on_mount name _) e = absurd (false≢true e)
-touches_policies (on_cubbyhole path (of_cubbyhole.Write full)) e = absurd (false≢true e)
+touches_policies (on_cubbyhole path (CubbyholeCommand.Write full)) e = absurd (false≢true e)
 touches_policies (on_cubbyhole path _) e = absurd (false≢true e)
-touches_policies (on_token (of_token.LookUp t)) e = absurd (false≢true e)
+touches_policies (on_token (TokenCommand.LookUp t)) e = absurd (false≢true e)
 touches_policies (on_token _) e = absurd (false≢true e)
-touches_policies (on_secret p of_secret.ShowSettings) e = absurd (false≢true e)
+touches_policies (on_secret p SecretCommand.ShowSettings) e = absurd (false≢true e)
 touches_policies (on_secret p _) e = absurd (false≢true e)
-touches_policies (on_lease prefix (of_lease.LookUp id)) e = absurd (false≢true e)
+touches_policies (on_lease prefix (LeaseCommand.LookUp id)) e = absurd (false≢true e)
 touches_policies (on_lease prefix _) e = absurd (false≢true e)
-touches_policies (on_wrapping (of_response.Unwrap t)) e = absurd (false≢true e)
+touches_policies (on_wrapping (WrappingCommand.Unwrap t)) e = absurd (false≢true e)
 touches_policies (on_wrapping _) e = absurd (false≢true e)
 
-touches_mounts : (command : Command) → may_change (traits command).changes kind.Mount ≡ true
+touches_mounts : (command : Command) → may_change (traits command).changes Kind.Mount ≡ true
     → ((name : Text) × (k : MountCommand) × (command ≡ on_mount name k)) ⊎
-    ((p : Place) × (asked : MountSettings) × (command ≡ on_secret p (of_secret.SetSettings asked)))
+    ((p : Place) × (asked : MountSettings) × (command ≡ on_secret p (SecretCommand.SetSettings asked)))
 touches_mounts (on_mount name k) e = inl (name, k, refl)
-touches_mounts (on_secret p (of_secret.SetSettings asked)) e = inr (p, asked, refl)
+touches_mounts (on_secret p (SecretCommand.SetSettings asked)) e = inr (p, asked, refl)
 touches_mounts (on_secret p _) e = absurd (false≢true e)
-touches_mounts (on_policy name (of_policy.Set text)) e = absurd (false≢true e)
+touches_mounts (on_policy name (PolicyCommand.Set text)) e = absurd (false≢true e)
 touches_mounts (on_policy name _) e = absurd (false≢true e)
-touches_mounts (on_issued p of_issued.Issue) e = absurd (false≢true e)
+touches_mounts (on_issued p IssuedCommand.Issue) e = absurd (false≢true e)
 touches_mounts (on_issued p _) e = absurd (false≢true e)
-touches_mounts (on_cubbyhole path (of_cubbyhole.Write full)) e = absurd (false≢true e)
+touches_mounts (on_cubbyhole path (CubbyholeCommand.Write full)) e = absurd (false≢true e)
 touches_mounts (on_cubbyhole path _) e = absurd (false≢true e)
-touches_mounts (on_token (of_token.LookUp t)) e = absurd (false≢true e)
+touches_mounts (on_token (TokenCommand.LookUp t)) e = absurd (false≢true e)
 touches_mounts (on_token _) e = absurd (false≢true e)
-touches_mounts (on_lease prefix (of_lease.LookUp id)) e = absurd (false≢true e)
+touches_mounts (on_lease prefix (LeaseCommand.LookUp id)) e = absurd (false≢true e)
 touches_mounts (on_lease prefix _) e = absurd (false≢true e)
-touches_mounts (on_wrapping (of_response.Unwrap t)) e = absurd (false≢true e)
+touches_mounts (on_wrapping (WrappingCommand.Unwrap t)) e = absurd (false≢true e)
 touches_mounts (on_wrapping _) e = absurd (false≢true e)
 
 -- ---- roles
@@ -145,18 +131,18 @@ module _ (a : Asking) (p : Place) where
   abbrev role : Text
   role = role_name p.mount p.path
 
-  role_set_by : (asked : RoleSettings) (s : ServedFor a (on_issued p (of_issued.SetRole asked)))
+  role_set_by : (asked : RoleSettings) (s : ServedFor a (on_issued p (IssuedCommand.SetRole asked)))
       → (a.outcome.next.roles ≡ put (clocked a).roles role (role_given asked)) × (s.it.done.answered ≡ nothing)
   role_set_by asked s =
       let d = s.it.done in
       let next = ok_step (roles.set_role (spent_by a s.caller) p.mount p.path (role_given asked)) _ d s.acted in
-      let free = ok_step (unless (is_name p.path) (refusal.BadRequest reason.InvalidName)) _ next.0 next.1 in (
+      let free = ok_step (unless (is_name p.path) (Refusal.BadRequest Reason.InvalidName)) _ next.0 next.1 in (
         roles_left a s.it ∙ ap (λ (z : Done). z.next.roles) (sym (ok_inj next.2))
             ∙ ap (λ (b : Broker). b.roles) (sym (ok_inj free.2)),
         ap (λ (z : Done). z.answered) (sym (ok_inj next.2)),
       )
 
-  role_removed_by : (s : ServedFor a (on_issued p of_issued.RemoveRole))
+  role_removed_by : (s : ServedFor a (on_issued p IssuedCommand.RemoveRole))
       → (a.outcome.next.roles ≡ without (clocked a).roles role) × (s.it.done.answered ≡ nothing)
   role_removed_by s = (
     roles_left a s.it ∙ ap (λ (z : Done). z.next.roles) (sym (ok_inj s.acted)),
@@ -174,27 +160,27 @@ module _ (a : Asking) (p : Place) where
 
     -- by a command that may change it
     role_becomes : (k : IssuedCommand) → s.command ≡ on_issued p k
-        → may_change (traits (on_issued p k)).changes kind.Role ≡ true → Becomes (get a.outcome.next.roles q)
-    role_becomes (of_issued.SetRole asked) is may =
-        let means = means_it a s (on_issued p (of_issued.SetRole asked)) is in
-        let f = served_for a s (on_issued p (of_issued.SetRole asked)) means (λ b names d e. no_ok e) in
+        → may_change (traits (on_issued p k)).changes Kind.Role ≡ true → Becomes (get a.outcome.next.roles q)
+    role_becomes (IssuedCommand.SetRole asked) is may =
+        let means = means_it a s (on_issued p (IssuedCommand.SetRole asked)) is in
+        let f = served_for a s (on_issued p (IssuedCommand.SetRole asked)) means (λ b names d e. no_ok e) in
         let left = role_set_by asked f in
         subst Becomes
         (sym (ap (λ (m : Map Role). get m q) left.0 ∙ get-put (clocked a).roles role (role_given asked) q))
-        (by (same q role) refl (λ at. on_role (of_issued.SetRole asked) f left.1 means at))
+        (by (same q role) refl (λ at. on_role (IssuedCommand.SetRole asked) f left.1 means at))
       where
-        by : (v : Bool) → same q role ≡ v → (q ≡ role → OnRole a q (of_issued.SetRole asked))
+        by : (v : Bool) → same q role ≡ v → (q ≡ role → OnRole a q (IssuedCommand.SetRole asked))
             → Becomes (cond v (Some (role_given asked)) (get (clocked a).roles q))
         by true at on = inr (inl (asked, on (same_true q role at), refl))
         by false apart on = inl refl
-    role_becomes of_issued.RemoveRole is may =
-        let means = means_it a s (on_issued p of_issued.RemoveRole) is in
-        let f = served_for a s (on_issued p of_issued.RemoveRole) means (λ b names d e. no_ok e) in
+    role_becomes IssuedCommand.RemoveRole is may =
+        let means = means_it a s (on_issued p IssuedCommand.RemoveRole) is in
+        let f = served_for a s (on_issued p IssuedCommand.RemoveRole) means (λ b names d e. no_ok e) in
         let left = role_removed_by f in
         subst Becomes (sym (ap (λ (m : Map Role). get m q) left.0 ∙ get-without (clocked a).roles role q))
-        (by (same q role) refl (λ at. on_role of_issued.RemoveRole f left.1 means at))
+        (by (same q role) refl (λ at. on_role IssuedCommand.RemoveRole f left.1 means at))
       where
-        by : (v : Bool) → same q role ≡ v → (q ≡ role → OnRole a q of_issued.RemoveRole)
+        by : (v : Bool) → same q role ≡ v → (q ≡ role → OnRole a q IssuedCommand.RemoveRole)
             → Becomes (cond v None (get (clocked a).roles q))
         by true at on = inr (inr (refl, inl (on (same_true q role at))))
         by false apart on = inl refl
@@ -215,7 +201,7 @@ without_none m k none =
 abbrev disabled_left : Broker → Map Mount → Text → Option Mount → Broker
 disabled_left b next name o = if is_some o then without_kept (record b { mounts = next }) name else b
 
-module _ (a : Asking) (name : Text) (s : ServedFor a (on_mount name of_mount.Disable)) where
+module _ (a : Asking) (name : Text) (s : ServedFor a (on_mount name MountCommand.Disable)) where
   pub record DidDisable : Type 0 where
     pub next : (s.it.done).next
         ≡ disabled_left (spent_by a s.caller) (without (clocked a).mounts name) name (get (clocked a).mounts name)
@@ -232,7 +218,7 @@ module _ (a : Asking) (name : Text) (s : ServedFor a (on_mount name of_mount.Dis
         answered = ap (λ (z : Done). z.answered) (sym (ok_inj next.2));
       }
 
-  module _ (means : command_of (clocked a).mounts a.ask ≡ Ok (on_mount name of_mount.Disable)) (q : Text) where
+  module _ (means : command_of (clocked a).mounts a.ask ≡ Ok (on_mount name MountCommand.Disable)) (q : Text) where
     abbrev RoleIs : Option Role → Type 0
     RoleIs new = RoleBecomes a q (get (clocked a).roles q) new
 
@@ -289,7 +275,7 @@ module _ (a : Asking) (name : Text) (s : ServedFor a (on_mount name of_mount.Dis
         by true at = inr (inr (inr (
           refl,
           record {
-            means = means ∙ ap (λ u. Ok (on_mount u of_mount.Disable)) (sym (same_true q name at));
+            means = means ∙ ap (λ u. Ok (on_mount u MountCommand.Disable)) (sym (same_true q name at));
             answered = is_204 a s.it did_disable.answered;
           },
         )))
@@ -302,21 +288,21 @@ apart_from : (name other : Text) → same name other ≡ false → name ≢ othe
 apart_from name other apart is = false≢true (sym apart ∙ ap (λ u. same u other) is ∙ same_self other)
 
 module _ (a : Asking) (name : Text) where
-  policy_set_by : (text : Text) (s : ServedFor a (on_policy name (of_policy.Set text)))
+  policy_set_by : (text : Text) (s : ServedFor a (on_policy name (PolicyCommand.Set text)))
       → (a.outcome.next.policies ≡ put (clocked a).policies name text) × (s.it.done.answered ≡ nothing)
       × (name ≢ codes "root")
   policy_set_by text s =
       let d = s.it.done in
       let next = ok_step (policies.set (clocked a).policies name text) _ d s.acted in
       let may = ok_step (policies.may_set name text) _ next.0 next.1 in
-      let named = ok_step (unless (is_name name) (refusal.BadRequest reason.InvalidName)) _ may.0 may.1 in
+      let named = ok_step (unless (is_name name) (Refusal.BadRequest Reason.InvalidName)) _ may.0 may.1 in
       let free = ok_step (unless (not (policies.is_root name)) policies.fixed) _ may.0 named.2 in (
         policies_left a s.it ∙ ap (λ (z : Done). z.next.policies) (sym (ok_inj next.2)) ∙ sym (ok_inj may.2),
         ap (λ (z : Done). z.answered) (sym (ok_inj next.2)),
         apart_from name (codes "root") (not-true _ (unless_ok _ _ free.0 free.1)),
       )
 
-  policy_removed_by : (s : ServedFor a (on_policy name of_policy.Remove))
+  policy_removed_by : (s : ServedFor a (on_policy name PolicyCommand.Remove))
       → (a.outcome.next.policies ≡ without (clocked a).policies name) × (s.it.done.answered ≡ nothing)
       × (name ≢ codes "root") × (name ≢ codes "default")
   policy_removed_by s =
@@ -336,41 +322,41 @@ module _ (a : Asking) (name : Text) where
     PolicyIs new = PolicyBecomes a q (get (clocked a).policies q) new
 
     policy_becomes : (k : PolicyCommand) → s.command ≡ on_policy name k
-        → may_change (traits (on_policy name k)).changes kind.Policy ≡ true
+        → may_change (traits (on_policy name k)).changes Kind.Policy ≡ true
         → PolicyIs (get a.outcome.next.policies q)
-    policy_becomes (of_policy.Set text) is may =
-        let means = means_it a s (on_policy name (of_policy.Set text)) is in
-        let f = served_for a s (on_policy name (of_policy.Set text)) means (λ b names d e. no_ok e) in
+    policy_becomes (PolicyCommand.Set text) is may =
+        let means = means_it a s (on_policy name (PolicyCommand.Set text)) is in
+        let f = served_for a s (on_policy name (PolicyCommand.Set text)) means (λ b names d e. no_ok e) in
         let left = policy_set_by text f in
         subst PolicyIs
         (sym (ap (λ (m : Map Text). get m q) left.0 ∙ get-put (clocked a).policies name text q))
         (by (same q name) refl (record { means = means; answered = is_204 a f.it left.1 }) left.2)
       where
-        by : (v : Bool) → same q name ≡ v → OnPolicy a name (of_policy.Set text) → name ≢ codes "root"
+        by : (v : Bool) → same q name ≡ v → OnPolicy a name (PolicyCommand.Set text) → name ≢ codes "root"
             → PolicyIs (cond v (Some text) (get (clocked a).policies q))
         by true at on free =
             let is_q = sym (same_true q name at) in
             inr (inl (
               text,
-              subst (λ u. OnPolicy a u (of_policy.Set text)) is_q on,
+              subst (λ u. OnPolicy a u (PolicyCommand.Set text)) is_q on,
               refl,
               subst (λ u. u ≢ codes "root") is_q free,
             ))
         by false apart on free = inl refl
-    policy_becomes of_policy.Remove is may =
-        let means = means_it a s (on_policy name of_policy.Remove) is in
-        let f = served_for a s (on_policy name of_policy.Remove) means (λ b names d e. no_ok e) in
+    policy_becomes PolicyCommand.Remove is may =
+        let means = means_it a s (on_policy name PolicyCommand.Remove) is in
+        let f = served_for a s (on_policy name PolicyCommand.Remove) means (λ b names d e. no_ok e) in
         let left = policy_removed_by f in
         subst PolicyIs (sym (ap (λ (m : Map Text). get m q) left.0 ∙ get-without (clocked a).policies name q))
         (by (same q name) refl (record { means = means; answered = is_204 a f.it left.1 }) left.2 left.3)
       where
-        by : (v : Bool) → same q name ≡ v → OnPolicy a name of_policy.Remove → name ≢ codes "root"
+        by : (v : Bool) → same q name ≡ v → OnPolicy a name PolicyCommand.Remove → name ≢ codes "root"
             → name ≢ codes "default" → PolicyIs (cond v None (get (clocked a).policies q))
         by true at on free other =
             let is_q = sym (same_true q name at) in
             inr (inr (
               refl,
-              subst (λ u. OnPolicy a u of_policy.Remove) is_q on,
+              subst (λ u. OnPolicy a u PolicyCommand.Remove) is_q on,
               subst (λ u. u ≢ codes "root") is_q free,
               subst (λ u. u ≢ codes "default") is_q other,
             ))
@@ -417,7 +403,7 @@ not_reserved name other free taken is =
     false≢true (sym free ∙ ap (λ u. list_any (same u) reserved_names) is ∙ taken)
 
 module _ (a : Asking) (name : Text) (asked : MountCreation)
-    (s : ServedFor a (on_mount name (of_mount.Enable asked))) where
+    (s : ServedFor a (on_mount name (MountCommand.Enable asked))) where
   pub record DidEnable : Type 0 where
     pub after : Mount
     pub next : a.outcome.next.mounts ≡ put (clocked a).mounts name after
@@ -432,10 +418,10 @@ module _ (a : Asking) (name : Text) (asked : MountCreation)
       let here = (clocked a).mounts in
       let next = ok_step (enabled here name asked.type_name asked.version) _ d s.acted in
       let m = ok_step (new_mount (is_some (get here name)) name asked.type_name asked.version) _ next.0 next.1 in
-      let named = ok_step (unless (is_name name) (refusal.BadRequest reason.InvalidName)) _ m.0 m.1 in
+      let named = ok_step (unless (is_name name) (Refusal.BadRequest Reason.InvalidName)) _ m.0 m.1 in
       let free = ok_step (unless (not (is_some (get here name) || list_any (same name) reserved_names))
-      (refusal.BadRequest reason.PathInUse)) _ m.0 named.2 in
-      let engine = ok_step (some_or (refusal.BadRequest reason.UnsupportedMount)
+      (Refusal.BadRequest Reason.PathInUse)) _ m.0 named.2 in
+      let engine = ok_step (some_or (Refusal.BadRequest Reason.UnsupportedMount)
       (engine_asked asked.type_name asked.version)) _ m.0 free.2 in
       let apart = or_parts (is_some (get here name)) (list_any (same name) reserved_names)
       (not-true _ (unless_ok _ _ free.0 free.1)) in
@@ -453,7 +439,7 @@ module _ (a : Asking) (name : Text) (asked : MountCreation)
         });
       }
 
-  mount_enabled_by : command_of (clocked a).mounts a.ask ≡ Ok (on_mount name (of_mount.Enable asked))
+  mount_enabled_by : command_of (clocked a).mounts a.ask ≡ Ok (on_mount name (MountCommand.Enable asked))
       → Enables a name asked (get (clocked a).mounts name) (get a.outcome.next.mounts name)
   mount_enabled_by means =
       let did = did_enable in
@@ -484,8 +470,9 @@ settings_set asked m = record {
   same_max_versions = λ e. ap (λ (o : Option ℕ). unwrap_or o m.max_versions) e;
 }
 
-module _ (a : Asking) (p : Place) (asked : MountSettings) (s : ServedFor a (on_secret p (of_secret.SetSettings asked)))
-    (means : command_of (clocked a).mounts a.ask ≡ Ok (on_secret p (of_secret.SetSettings asked))) where
+module _ (a : Asking) (p : Place) (asked : MountSettings) (s : ServedFor a
+    (on_secret p (SecretCommand.SetSettings asked)))
+    (means : command_of (clocked a).mounts a.ask ≡ Ok (on_secret p (SecretCommand.SetSettings asked))) where
   abbrev set : Mount → Mount
   set m = with_settings asked.cas_required asked.max_versions m
 
@@ -551,15 +538,16 @@ module _ (told : OperationsDoAsTold) (a : Asking) (is : a.outcome ≡ step a.bro
 
   role_served : (s : Served a) → RoleIs_
   role_served s =
-      elim (may_change (traits s.command).changes kind.Role) as
-      (λ v. may_change (traits s.command).changes kind.Role ≡ v
+      elim (may_change (traits s.command).changes Kind.Role) as
+      (λ v. may_change (traits s.command).changes Kind.Role ≡ v
       → SameUnless v (spent (clocked a) s.caller).roles s.done.next.roles → RoleIs_) [
         | true ↦ λ may _. elim (touches_roles s.command may) [
           | inl (p, k, is_k) ↦ role_becomes a p s q k is_k
-              (subst (λ (x : Command). may_change (traits x).changes kind.Role ≡ true) is_k may)
+              (subst (λ (x : Command). may_change (traits x).changes Kind.Role ≡ true) is_k may)
           | inr (name, is_k) ↦
-              let means = means_it a s (on_mount name of_mount.Disable) is_k in
-              role_goes a name (served_for a s (on_mount name of_mount.Disable) means (λ b names d e. no_ok e)) means q
+              let means = means_it a s (on_mount name MountCommand.Disable) is_k in
+              role_goes a name (served_for a s (on_mount name MountCommand.Disable) means (λ b names d e. no_ok e))
+              means q
         ]
         | false ↦ λ _ same_. inl (ap (λ (m : Map Role). get m q)
             (roles_left a s ∙ same_ ∙ spent_same (λ (b : Broker). b.roles) (λ _ _. refl) (λ _ _. refl) a is s.caller))
@@ -567,23 +555,23 @@ module _ (told : OperationsDoAsTold) (a : Asking) (is : a.outcome ≡ step a.bro
 
   policy_served : (s : Served a) → PolicyIs_
   policy_served s =
-      elim (may_change (traits s.command).changes kind.Policy) as
-      (λ v. may_change (traits s.command).changes kind.Policy ≡ v
+      elim (may_change (traits s.command).changes Kind.Policy) as
+      (λ v. may_change (traits s.command).changes Kind.Policy ≡ v
       → SameUnless v (spent (clocked a) s.caller).policies s.done.next.policies → PolicyIs_) [
         | true ↦ λ may _.
             let k = touches_policies s.command may in
             policy_becomes a k.0 s q k.1 k.2
-            (subst (λ (x : Command). may_change (traits x).changes kind.Policy ≡ true) k.2 may)
+            (subst (λ (x : Command). may_change (traits x).changes Kind.Policy ≡ true) k.2 may)
         | false ↦ λ _ same_. inl (ap (λ (m : Map Text). get m q)
             (policies_left a s ∙ same_
             ∙ spent_same (λ (b : Broker). b.policies) (λ _ _. refl) (λ _ _. refl) a is s.caller))
       ] refl (told (spent (clocked a) s.caller) s.caller a.words s.command s.done s.acted).keeps.policies
 
   mount_by : (s : Served a) (name : Text) (k : MountCommand) → s.command ≡ on_mount name k
-      → may_change (traits (on_mount name k)).changes kind.Mount ≡ true → MountIs_
-  mount_by s name (of_mount.Enable asked) is_k may =
-      let means = means_it a s (on_mount name (of_mount.Enable asked)) is_k in
-      let f = served_for a s (on_mount name (of_mount.Enable asked)) means (λ b names d e. no_ok e) in
+      → may_change (traits (on_mount name k)).changes Kind.Mount ≡ true → MountIs_
+  mount_by s name (MountCommand.Enable asked) is_k may =
+      let means = means_it a s (on_mount name (MountCommand.Enable asked)) is_k in
+      let f = served_for a s (on_mount name (MountCommand.Enable asked)) means (λ b names d e. no_ok e) in
       let did = did_enable a name asked f in
       subst (MountBecomes a q (get (clocked a).mounts q))
       (sym (ap (λ (m : Map Mount). get m q) did.next ∙ get-put (clocked a).mounts name did.after q))
@@ -602,23 +590,23 @@ module _ (told : OperationsDoAsTold) (a : Asking) (is : a.outcome ≡ step a.bro
                 (subst (Enables a name asked (get (clocked a).mounts name)) is_m enables),
           ))
       by false apart m is_m enables = inl refl
-  mount_by s name of_mount.Disable is_k may =
-      let means = means_it a s (on_mount name of_mount.Disable) is_k in
-      mount_goes a name (served_for a s (on_mount name of_mount.Disable) means (λ b names d e. no_ok e)) means q
+  mount_by s name MountCommand.Disable is_k may =
+      let means = means_it a s (on_mount name MountCommand.Disable) is_k in
+      mount_goes a name (served_for a s (on_mount name MountCommand.Disable) means (λ b names d e. no_ok e)) means q
   mount_by s name _ is_k may = absurd (false≢true may)
 
   mount_served : (s : Served a) → MountIs_
   mount_served s =
-      elim (may_change (traits s.command).changes kind.Mount) as
-      (λ v. may_change (traits s.command).changes kind.Mount ≡ v
+      elim (may_change (traits s.command).changes Kind.Mount) as
+      (λ v. may_change (traits s.command).changes Kind.Mount ≡ v
       → SameUnless v (spent (clocked a) s.caller).mounts s.done.next.mounts → MountIs_) [
         | true ↦ λ may _. elim (touches_mounts s.command may) [
           | inl (name, k, is_k) ↦ mount_by s name k is_k
-              (subst (λ (x : Command). may_change (traits x).changes kind.Mount ≡ true) is_k may)
+              (subst (λ (x : Command). may_change (traits x).changes Kind.Mount ≡ true) is_k may)
           | inr (p, asked, is_k) ↦
-              let means = means_it a s (on_secret p (of_secret.SetSettings asked)) is_k in
+              let means = means_it a s (on_secret p (SecretCommand.SetSettings asked)) is_k in
               mount_set_at a p asked
-              (served_for a s (on_secret p (of_secret.SetSettings asked)) means (λ b names d e. no_ok e)) means q
+              (served_for a s (on_secret p (SecretCommand.SetSettings asked)) means (λ b names d e. no_ok e)) means q
         ]
         | false ↦ λ _ same_. inl (ap (λ (m : Map Mount). get m q)
             (mounts_left a s ∙ same_ ∙ spent_same (λ (b : Broker). b.mounts) (λ _ _. refl) (λ _ _. refl) a is s.caller))
@@ -645,54 +633,55 @@ module _ (told : OperationsDoAsTold) (a : Asking) (is : a.outcome ≡ step a.bro
 -- ---- what a 204 did
 
 module _ (a : Asking) (is : a.outcome ≡ step a.broker a.moment a.words a.ask) where
-  was_204 : a.outcome.response.status ≡ status.NoContent → Served a
+  was_204 : a.outcome.response.status ≡ Status.NoContent → Served a
   was_204 answered = served a is (omega (arith, ap status_code answered))
 
   for_it : (k : Command) → command_of (clocked a).mounts a.ask ≡ Ok k → NeedsCaller k
-      → a.outcome.response.status ≡ status.NoContent → ServedFor a k
+      → a.outcome.response.status ≡ Status.NoContent → ServedFor a k
   for_it k means needs answered = served_for a (was_204 answered) k means needs
 
-  role_was_set : (q : Text) (asked : RoleSettings) → OnRole a q (of_issued.SetRole asked)
+  role_was_set : (q : Text) (asked : RoleSettings) → OnRole a q (IssuedCommand.SetRole asked)
       → get a.outcome.next.roles q ≡ Some (role_given asked)
   role_was_set q asked on =
-      let f = for_it (on_issued on.place (of_issued.SetRole asked)) on.means (λ b names d e. no_ok e) on.answered in
+      let f = for_it (on_issued on.place (IssuedCommand.SetRole asked)) on.means (λ b names d e. no_ok e) on.answered in
       ap (λ (m : Map Role). get m q) (role_set_by a on.place asked f).0
       ∙ ap (get (put (clocked a).roles (role_name on.place.mount on.place.path) (role_given asked))) on.name
       ∙ get-put_self (clocked a).roles (role_name on.place.mount on.place.path) (role_given asked)
 
-  role_was_removed : (q : Text) → OnRole a q of_issued.RemoveRole → get a.outcome.next.roles q ≡ None
+  role_was_removed : (q : Text) → OnRole a q IssuedCommand.RemoveRole → get a.outcome.next.roles q ≡ None
   role_was_removed q on =
-      let f = for_it (on_issued on.place of_issued.RemoveRole) on.means (λ b names d e. no_ok e) on.answered in
+      let f = for_it (on_issued on.place IssuedCommand.RemoveRole) on.means (λ b names d e. no_ok e) on.answered in
       ap (λ (m : Map Role). get m q) (role_removed_by a on.place f).0
       ∙ ap (get (without (clocked a).roles (role_name on.place.mount on.place.path))) on.name
       ∙ get-without_self (clocked a).roles (role_name on.place.mount on.place.path)
 
-  policy_was_set : (name text : Text) → OnPolicy a name (of_policy.Set text)
+  policy_was_set : (name text : Text) → OnPolicy a name (PolicyCommand.Set text)
       → get a.outcome.next.policies name ≡ Some text
   policy_was_set name text on =
-      let f = for_it (on_policy name (of_policy.Set text)) on.means (λ b names d e. no_ok e) on.answered in
+      let f = for_it (on_policy name (PolicyCommand.Set text)) on.means (λ b names d e. no_ok e) on.answered in
       ap (λ (m : Map Text). get m name) (policy_set_by a name text f).0 ∙ get-put_self (clocked a).policies name text
 
-  policy_was_removed : (name : Text) → OnPolicy a name of_policy.Remove → get a.outcome.next.policies name ≡ None
+  policy_was_removed : (name : Text) → OnPolicy a name PolicyCommand.Remove → get a.outcome.next.policies name ≡ None
   policy_was_removed name on =
-      let f = for_it (on_policy name of_policy.Remove) on.means (λ b names d e. no_ok e) on.answered in
+      let f = for_it (on_policy name PolicyCommand.Remove) on.means (λ b names d e. no_ok e) on.answered in
       ap (λ (m : Map Text). get m name) (policy_removed_by a name f).0 ∙ get-without_self (clocked a).policies name
 
-  mount_was_enabled : (name : Text) (asked : MountCreation) → OnMount a name (of_mount.Enable asked)
+  mount_was_enabled : (name : Text) (asked : MountCreation) → OnMount a name (MountCommand.Enable asked)
       → Enables a name asked (get (clocked a).mounts name) (get a.outcome.next.mounts name)
   mount_was_enabled name asked on =
-      let f = for_it (on_mount name (of_mount.Enable asked)) on.means (λ b names d e. no_ok e) on.answered in
+      let f = for_it (on_mount name (MountCommand.Enable asked)) on.means (λ b names d e. no_ok e) on.answered in
       mount_enabled_by a name asked f on.means
 
   mount_was_set : (name : Text) (asked : MountSettings) (m : Mount) → SetsMount a name asked
       → get (clocked a).mounts name ≡ Some m → Sets a name asked (Some m) (get a.outcome.next.mounts name)
   mount_was_set name asked m on was =
-      let f = for_it (on_secret on.place (of_secret.SetSettings asked)) on.means (λ b names d e. no_ok e) on.answered in
+      let f = for_it (on_secret on.place (SecretCommand.SetSettings asked)) on.means (λ b names d e. no_ok e)
+      on.answered in
       mount_set_by a on.place asked f on.means name on.name_is m was
 
-  mount_was_disabled : (name : Text) → OnMount a name of_mount.Disable → get a.outcome.next.mounts name ≡ None
+  mount_was_disabled : (name : Text) → OnMount a name MountCommand.Disable → get a.outcome.next.mounts name ≡ None
   mount_was_disabled name on =
-      let f = for_it (on_mount name of_mount.Disable) on.means (λ b names d e. no_ok e) on.answered in
+      let f = for_it (on_mount name MountCommand.Disable) on.means (λ b names d e. no_ok e) on.answered in
       ap (λ (m : Map Mount). get m name) (mounts_after a name f on.means name)
       ∙ get-without_self (clocked a).mounts name
 

@@ -1,42 +1,33 @@
 -- What look-ups answer.
-use Rattle.std.proofs.Common.{◌≡◌, ◌≢◌, ◌⊎◌, ◌<◌, ◌≤◌, ◌∷◌, if◌then◌else◌, ℕ, nat_lt, List, [], map, Bool, true, false}
-use Rattle.broker_model.specs.Words.{not, is_none, is_some, Some, None, Result, Ok, option_and_then, option_map, codes}
-use Rattle.broker_model.specs.Words.{refl, sym, ◌∙◌, ap, subst, inl, inr, arith, false≢true, ltb-false, ltb-true}
-use Rattle.broker_model.specs.Words.{none-some, same_Some, Text, same, same_self, same_true, first_where, get, put}
-use Rattle.broker_model.specs.Words.{get-change, Response, Broker, Names, names_of, reply, Done, found_or_not, mapped}
-use Rattle.broker_model.specs.Words.{OnePlaceEach, lease_of, put_filled, put_keeps, put_there, some_or, unless, no_ok}
-use Rattle.broker_model.specs.Words.{ok_step, first_where_is, first_where_none, Version, one_less, status_code, Lease}
-use Rattle.broker_model.specs.Words.{Token, Refusal, Reply, credential_is, has_lease, lease_of_credential, ok_inj}
-use Rattle.broker_model.specs.Words.{metadata_of, oldest_of, version_metadata, AccessorsNameTheirTokens}
-use Rattle.broker_model.specs.Words.{NamedTokensHaveTheirAccessors, key_object, keys_object, mounts_object, plain_reply}
-use Rattle.broker_model.specs.Words.{reply_text, Command, command_of, on_issued, on_lease, on_mount, on_policy}
-use Rattle.broker_model.specs.Words.{on_secret, on_token, on_wrapping, chained, OperationsDoAsTold, Outcome, step}
-use Rattle.broker_model.specs.Words.{unwrapped_ask, are_none, Place, secret_told, version_told, known, look_up, named}
-use Rattle.std.specs.FinMap as fin
-use Rattle.broker_types.specs.declared.refusal.Refusal.TheVariants as refusal
+use Rattle.broker_model.specs.Words.{put_filled, credential_is, lease_of_credential, oldest_of, version_metadata}
+use Rattle.broker_model.specs.Words.{NamedTokensHaveTheirAccessors, key_object, mounts_object, secret_told}
+use Rattle.broker_model.specs.Words.{version_told, look_up, named}
 use Rattle.leases.specs.Leases as leases
 use Rattle.leases.specs.Roles as roles
 use Rattle.kv2.specs.Secrets as secrets
 use Rattle.policies.specs.Policies as policies
-use Rattle.token_tree.specs.Tokens as tree
-use Rattle.broker_model.specs.declared.commands.IssuedCommand.TheVariants as of_issued
-use Rattle.broker_model.specs.declared.commands.LeaseCommand.TheVariants as of_lease
-use Rattle.broker_model.specs.declared.commands.MountCommand.TheVariants as of_mount
-use Rattle.broker_model.specs.declared.commands.PolicyCommand.TheVariants as of_policy
-use Rattle.broker_model.specs.declared.commands.SecretCommand.TheVariants as of_secret
-use Rattle.broker_model.specs.declared.commands.TokenCommand.TheVariants as of_token
-use Rattle.broker_model.specs.declared.commands.WrappingCommand.TheVariants as of_response
-use Rattle.histories.specs.Words.{Asking, clocked, spent_by, AllAnswersShow, IsAccessorOf, IsPolicyName, IsValid, Lists}
-use Rattle.histories.specs.Words.{ListsMounts, SaysValid, ShowsHolder, ShowsLease, ShowsPolicy, ShowsRole, ShowsSecret}
-use Rattle.histories.specs.Words.{ShowsSettings, ShowsToken, Succeeds, version_shown, answer_by, unwrapped_answer}
-use Rattle.histories.specs.Words.{unwrapped_body, IsClient, named as named_secret}
+use Rattle.histories.specs.Words.{entries, by_accessor, find_accessor, ◌≡◌, ◌≢◌, ◌⊎◌, ◌<◌, ◌≤◌, ◌∷◌, if◌then◌else◌, ℕ}
+use Rattle.histories.specs.Words.{nat_lt, List, [], map, Bool, true, false, not, is_none, is_some, Some, None, Result}
+use Rattle.histories.specs.Words.{Ok, option_and_then, option_map, codes, refl, sym, ◌∙◌, ap, subst, inl, inr, arith}
+use Rattle.histories.specs.Words.{false≢true, ltb-false, ltb-true, none-some, same_Some, Text, same, same_self}
+use Rattle.histories.specs.Words.{same_true, first_where, get, put, get-change, Response, Broker, Names, names_of}
+use Rattle.histories.specs.Words.{reply, Done, found_or_not, mapped, OnePlaceEach, lease_of, put_keeps, put_there}
+use Rattle.histories.specs.Words.{some_or, unless, no_ok, ok_step, first_where_is, first_where_none, Version, one_less}
+use Rattle.histories.specs.Words.{status_code, Lease, Token, Refusal, Reply, has_lease, ok_inj, metadata_of}
+use Rattle.histories.specs.Words.{AccessorsNameTheirTokens, keys_object, plain_reply, reply_text, Command, command_of}
+use Rattle.histories.specs.Words.{on_issued, on_lease, on_mount, on_policy, on_secret, on_token, on_wrapping, chained}
+use Rattle.histories.specs.Words.{OperationsDoAsTold, Outcome, step, unwrapped_ask, are_none, Place, known}
+use Rattle.histories.specs.Words.{IssuedCommand, LeaseCommand, MountCommand, PolicyCommand, SecretCommand, TokenCommand}
+use Rattle.histories.specs.Words.{WrappingCommand, Asking, clocked, spent_by, AllAnswersShow, IsAccessorOf}
+use Rattle.histories.specs.Words.{IsPolicyName, IsValid, Lists, ListsMounts, SaysValid, ShowsHolder, ShowsLease}
+use Rattle.histories.specs.Words.{ShowsPolicy, ShowsRole, ShowsSecret, ShowsSettings, ShowsToken, Succeeds}
+use Rattle.histories.specs.Words.{version_shown, answer_by, unwrapped_answer, unwrapped_body, IsClient}
+use Rattle.histories.specs.Words.{named as named_secret}
 use Rattle.histories.proofs.Clients.{from_clock}
 use Rattle.histories.proofs.MountsListed.{cubbyhole_shown, in_order, objects, only_shown, own_shown, system_shown}
-use Rattle.histories.proofs.OrderCases.{some_ok}
+use Rattle.histories.proofs.Order.{some_ok, asked_at, tells_body, served}
 use Rattle.histories.proofs.Placed.{one_place_still}
 use Rattle.histories.proofs.Renewals.{tells_renewed, tells_renewed_lease}
-use Rattle.histories.proofs.Requests.{asked_at, tells_body}
-use Rattle.histories.proofs.Served.{served}
 use Rattle.histories.proofs.ServedFor.{NeedsCaller, ServedFor, served_for}
 
 module _ (told : OperationsDoAsTold) (a : Asking) (is : a.outcome ≡ step a.broker a.moment a.words a.ask) where
@@ -49,7 +40,7 @@ module _ (told : OperationsDoAsTold) (a : Asking) (is : a.outcome ≡ step a.bro
 
   -- without a wrap TTL
   plain_answer : a.ask.wrap_ttl ≡ 0
-      → ((text : Text) → command_of (clocked a).mounts a.ask ≡ Ok (on_wrapping (of_response.Wrap text)) → ⊥)
+      → ((text : Text) → command_of (clocked a).mounts a.ask ≡ Ok (on_wrapping (WrappingCommand.Wrap text)) → ⊥)
       → a.outcome.response ≡ unwrapped_answer a
   plain_answer none no_wrap =
       ap (λ (o : Outcome). o.response) is
@@ -58,7 +49,7 @@ module _ (told : OperationsDoAsTold) (a : Asking) (is : a.outcome ≡ step a.bro
     where
       by : (r : Result Command Refusal) → command_of (clocked a).mounts a.ask ≡ r
           → answer_by names a.ask.body answer r ≡ answer
-      by (Ok (on_wrapping (of_response.Wrap text))) e = absurd (no_wrap text e)
+      by (Ok (on_wrapping (WrappingCommand.Wrap text))) e = absurd (no_wrap text e)
       by _ e = refl
 
   -- the command was carried out for its client token
@@ -87,26 +78,26 @@ module _ (told : OperationsDoAsTold) (a : Asking) (is : a.outcome ≡ step a.bro
         shows = tells k s _ _ x.2 refl;
       }
 
-  pub token_shown : (t : Text) → Succeeds a (on_token (of_token.LookUp t)) → ShowsToken a t t
+  pub token_shown : (t : Text) → Succeeds a (on_token (TokenCommand.LookUp t)) → ShowsToken a t t
   token_shown t h =
-      let s = for (on_token (of_token.LookUp t)) h (λ b names d e. no_ok e) in
-      shows_token (on_token (of_token.LookUp t)) s t t s.acted
+      let s = for (on_token (TokenCommand.LookUp t)) h (λ b names d e. no_ok e) in
+      shows_token (on_token (TokenCommand.LookUp t)) s t t s.acted
 
-  pub self_shown : Succeeds a (on_token of_token.LookUpSelf) → (c : Text) × IsClient a c × ShowsToken a c c
+  pub self_shown : Succeeds a (on_token TokenCommand.LookUpSelf) → (c : Text) × IsClient a c × ShowsToken a c c
   self_shown h =
-      let s = for (on_token of_token.LookUpSelf) h (λ b names d e. no_ok e) in
-      (s.caller, s.client, shows_token (on_token of_token.LookUpSelf) s s.caller s.caller s.acted)
+      let s = for (on_token TokenCommand.LookUpSelf) h (λ b names d e. no_ok e) in
+      (s.caller, s.client, shows_token (on_token TokenCommand.LookUpSelf) s s.caller s.caller s.acted)
 
   pub holder_shown : NamedTokensHaveTheirAccessors → (accessor : Text)
-      → Succeeds a (on_token (of_token.LookUpAccessor accessor)) → ShowsHolder a accessor
+      → Succeeds a (on_token (TokenCommand.LookUpAccessor accessor)) → ShowsHolder a accessor
   holder_shown theirs accessor h =
-      let k = on_token (of_token.LookUpAccessor accessor) in
+      let k = on_token (TokenCommand.LookUpAccessor accessor) in
       let s = for k h (λ b names d e. no_ok e) in
       let t = ok_step (named (spent_by a s.caller) accessor) _ s.it.done s.acted in
       let x = ok_step (known (spent_by a s.caller) t.0) _ s.it.done t.2 in
       let there = some_ok _ (get (spent_by a s.caller).tokens t.0) x.1 in
       let its = theirs (spent_by a s.caller) t.0 accessor
-      (some_ok _ (tree.find_accessor (spent_by a s.caller) accessor) t.1) in
+      (some_ok _ (find_accessor (spent_by a s.caller) accessor) t.1) in
       record {
         text = t.0;
         shown = record {
@@ -130,10 +121,10 @@ module _ (told : OperationsDoAsTold) (a : Asking) (is : a.outcome ≡ step a.bro
       ap (option_and_then (λ (z : Token). get z.leases lease_id)) from.there
       ∙ ap (λ (z : Token). get z.leases lease_id) (sym from.rest) ∙ has
 
-  pub lease_shown : (prefix lease_id : Text) → Succeeds a (on_lease prefix (of_lease.LookUp lease_id))
+  pub lease_shown : (prefix lease_id : Text) → Succeeds a (on_lease prefix (LeaseCommand.LookUp lease_id))
       → ShowsLease a lease_id
   lease_shown prefix lease_id h =
-      let k = on_lease prefix (of_lease.LookUp lease_id) in
+      let k = on_lease prefix (LeaseCommand.LookUp lease_id) in
       let s = for k h (λ b names d e. no_ok e) in
       let b = spent_by a s.caller in
       let l = ok_step (leases.lookup b lease_id) _ s.it.done s.acted in
@@ -208,10 +199,10 @@ module _ (told : OperationsDoAsTold) (a : Asking) (is : a.outcome ≡ step a.bro
             by true x = refl
             by false x = refl
 
-  pub valid_said : (p : Place) (credential : Text) → Succeeds a (on_issued p (of_issued.Verify credential))
+  pub valid_said : (p : Place) (credential : Text) → Succeeds a (on_issued p (IssuedCommand.Verify credential))
       → SaysValid a credential
   valid_said p credential h =
-      let k = on_issued p (of_issued.Verify credential) in
+      let k = on_issued p (IssuedCommand.Verify credential) in
       let s = for k h (λ b names d e. no_ok e) in
       record {
         valid = leases.verify (spent_by a s.caller) credential;
@@ -222,37 +213,37 @@ module _ (told : OperationsDoAsTold) (a : Asking) (is : a.outcome ≡ step a.bro
 
   -- ---- settings
 
-  pub role_shown : (p : Place) → Succeeds a (on_issued p of_issued.ShowRole) → ShowsRole a (named_secret p)
+  pub role_shown : (p : Place) → Succeeds a (on_issued p IssuedCommand.ShowRole) → ShowsRole a (named_secret p)
   role_shown p h =
-      let k = on_issued p of_issued.ShowRole in
+      let k = on_issued p IssuedCommand.ShowRole in
       let s = for k h (λ b names d e. no_ok e) in
-      let r = ok_step (some_or refusal.NotFound (roles.role (clocked a) p.mount p.path)) _ s.it.done s.acted in
+      let r = ok_step (some_or Refusal.NotFound (roles.role (clocked a) p.mount p.path)) _ s.it.done s.acted in
       record {
         found = r.0;
-        there = some_ok refusal.NotFound (roles.role (clocked a) p.mount p.path) r.1;
+        there = some_ok Refusal.NotFound (roles.role (clocked a) p.mount p.path) r.1;
         shows = tells k s _ _ r.2 refl;
       }
 
-  pub settings_shown : (p : Place) → Succeeds a (on_secret p of_secret.ShowSettings) → ShowsSettings a p.mount
+  pub settings_shown : (p : Place) → Succeeds a (on_secret p SecretCommand.ShowSettings) → ShowsSettings a p.mount
   settings_shown p h =
-      let k = on_secret p of_secret.ShowSettings in
+      let k = on_secret p SecretCommand.ShowSettings in
       let s = for k h (λ b names d e. no_ok e) in
-      let m = ok_step (some_or refusal.NotFound (secrets.config (clocked a) p.mount)) _ s.it.done s.acted in
+      let m = ok_step (some_or Refusal.NotFound (secrets.config (clocked a) p.mount)) _ s.it.done s.acted in
       record {
         found = m.0;
-        there = some_ok refusal.NotFound (secrets.config (clocked a) p.mount) m.1;
+        there = some_ok Refusal.NotFound (secrets.config (clocked a) p.mount) m.1;
         shows = tells k s _ _ m.2 refl;
       }
 
-  pub policy_shown : (name : Text) → Succeeds a (on_policy name of_policy.Show) → ShowsPolicy a name
+  pub policy_shown : (name : Text) → Succeeds a (on_policy name PolicyCommand.Show) → ShowsPolicy a name
   policy_shown name h =
-      let k = on_policy name of_policy.Show in
+      let k = on_policy name PolicyCommand.Show in
       let s = for k h (λ b names d e. no_ok e) in
-      let text = ok_step (some_or refusal.NotFound (policies.text_of (clocked a).policies name)) _ s.it.done s.acted in
+      let text = ok_step (some_or Refusal.NotFound (policies.text_of (clocked a).policies name)) _ s.it.done s.acted in
       record {
         text = text.0;
         is = by text.0 (policies.is_root name) refl
-            (some_ok refusal.NotFound (policies.text_of (clocked a).policies name) text.1);
+            (some_ok Refusal.NotFound (policies.text_of (clocked a).policies name) text.1);
         shows = tells k s _ _ text.2 refl;
       }
     where
@@ -262,13 +253,13 @@ module _ (told : OperationsDoAsTold) (a : Asking) (is : a.outcome ≡ step a.bro
       by text true at e = inl (same_true name (codes "root") at, same_Some _ _ (sym e))
       by text false at e = inr e
 
-  pub secrets_listed : (p : Place) → Succeeds a (on_secret p of_secret.List)
+  pub secrets_listed : (p : Place) → Succeeds a (on_secret p SecretCommand.List)
       → unwrapped_body a
       ≡ reply_text (plain_reply names.request (keys_object (secrets.list (clocked a) p.mount p.path)))
   secrets_listed p h =
-      let k = on_secret p of_secret.List in
+      let k = on_secret p SecretCommand.List in
       let s = for k h (λ b names d e. no_ok e) in
-      let some = ok_step (unless (not (are_none (secrets.list (clocked a) p.mount p.path))) refusal.NotFound) _
+      let some = ok_step (unless (not (are_none (secrets.list (clocked a) p.mount p.path))) Refusal.NotFound) _
       s.it.done s.acted in
       tells k s _ _ some.2 refl
 
@@ -294,14 +285,14 @@ module _ (told : OperationsDoAsTold) (a : Asking) (is : a.outcome ≡ step a.bro
       by true above = inr (ltb-true 1 n above, ap (λ w. if w then n else 0) above)
       by false low = inl (ltb-false 1 n low, ap (λ w. if w then n else 0) low)
 
-  pub secret_shown : (p : Place) → Succeeds a (on_secret p of_secret.ShowMetadata) → ShowsSecret a (named_secret p)
+  pub secret_shown : (p : Place) → Succeeds a (on_secret p SecretCommand.ShowMetadata) → ShowsSecret a (named_secret p)
   secret_shown p h =
-      let k = on_secret p of_secret.ShowMetadata in
+      let k = on_secret p SecretCommand.ShowMetadata in
       let s = for k h (λ b names d e. no_ok e) in
-      let m = ok_step (some_or refusal.NotFound (secrets.metadata (clocked a) p.mount p.path)) _ s.it.done s.acted in
+      let m = ok_step (some_or Refusal.NotFound (secrets.metadata (clocked a) p.mount p.path)) _ s.it.done s.acted in
       let x = mapped metadata_of (secrets.key_at (clocked a) p.mount p.path) m.0
-      (some_ok refusal.NotFound (secrets.metadata (clocked a) p.mount p.path) m.1) in
-      let versions = fin.entries (x.0).versions in
+      (some_ok Refusal.NotFound (secrets.metadata (clocked a) p.mount p.path) m.1) in
+      let versions = entries (x.0).versions in
       record {
         found = x.0;
         there = x.1;
@@ -318,9 +309,9 @@ module _ (told : OperationsDoAsTold) (a : Asking) (is : a.outcome ≡ step a.bro
 
   -- ---- lists
 
-  pub policies_listed : (name : Text) → Succeeds a (on_policy name of_policy.List) → Lists a (IsPolicyName a)
+  pub policies_listed : (name : Text) → Succeeds a (on_policy name PolicyCommand.List) → Lists a (IsPolicyName a)
   policies_listed name h =
-      let k = on_policy name of_policy.List in
+      let k = on_policy name PolicyCommand.List in
       let s = for k h (λ b names d e. no_ok e) in
       let with_default = put (clocked a).policies policies.default [] in
       record {
@@ -346,9 +337,9 @@ module _ (told : OperationsDoAsTold) (a : Asking) (is : a.outcome ≡ step a.bro
           subst (λ u. get (put (put (clocked a).policies policies.default []) policies.root []) u ≢ None) (sym root)
           (put_there (put (clocked a).policies policies.default []) policies.root [])
 
-  pub mounts_listed : (name : Text) → Succeeds a (on_mount name of_mount.List) → ListsMounts a
+  pub mounts_listed : (name : Text) → Succeeds a (on_mount name MountCommand.List) → ListsMounts a
   mounts_listed name h =
-      let k = on_mount name of_mount.List in
+      let k = on_mount name MountCommand.List in
       let s = for k h (λ b names d e. no_ok e) in
       let all = (clocked a).mounts in
       record {
@@ -362,14 +353,14 @@ module _ (told : OperationsDoAsTold) (a : Asking) (is : a.outcome ≡ step a.bro
       }
 
   pub accessors_listed : AccessorsNameTheirTokens → NamedTokensHaveTheirAccessors → OnePlaceEach a.broker
-      → Succeeds a (on_token of_token.ListAccessors) → Lists a (IsAccessorOf a)
+      → Succeeds a (on_token TokenCommand.ListAccessors) → Lists a (IsAccessorOf a)
   accessors_listed name theirs one h =
-      let k = on_token of_token.ListAccessors in
+      let k = on_token TokenCommand.ListAccessors in
       let s = for k h (λ b names d e. no_ok e) in
       let b = spent_by a s.caller in
       record {
-        names = tree.by_accessor b;
-        only = λ accessor there. elim (found_or_not (tree.find_accessor b accessor)) [
+        names = by_accessor b;
+        only = λ accessor there. elim (found_or_not (find_accessor b accessor)) [
           | inl none ↦ absurd (there none)
           | inr t ↦
               let x = theirs b t.0 accessor t.1 in
@@ -381,7 +372,7 @@ module _ (told : OperationsDoAsTold) (a : Asking) (is : a.outcome ≡ step a.bro
             get-change (clocked a).tokens s.caller one_less passes.0
             ∙ ap (option_map (λ z. if same passes.0 s.caller then one_less z else z)) passes.2 in
             none-some _ (sym none
-            ∙ ap (tree.find_accessor b) (sym (same_accessor (same passes.0 s.caller) passes.1 ∙ passes.3))
+            ∙ ap (find_accessor b) (sym (same_accessor (same passes.0 s.caller) passes.1 ∙ passes.3))
             ∙ name b passes.0 (if same passes.0 s.caller then one_less passes.1 else passes.1)
             (one_place_still a.broker a.moment s.caller one) y);
         shows = tells k s _ _ s.acted refl;

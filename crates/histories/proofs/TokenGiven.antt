@@ -1,33 +1,29 @@
 -- Who makes which token, and what a 200 to a creation made.
-use Rattle.std.proofs.Common.{◌≡◌, ◌<◌, ◌==◌, ◌&&◌, if◌then◌else◌, true, false, cond, Option, Some, None, Ok, refl, sym}
-use Rattle.broker_model.specs.Words.{option_map_or, ◌∙◌, ap, inl, inr, arith, lt-ltb, Text, same, get, put, get-put}
-use Rattle.broker_model.specs.Words.{get-put_self, Broker, is_under, Names, names_of, reply, Done, no_ok, ok_step}
-use Rattle.broker_model.specs.Words.{is_spent, status_code, Token, Tokens, token_text, token_entry, ok_inj}
-use Rattle.broker_model.specs.Words.{AllThatIsGranted, OnlyWhatIsGranted, RootMayDoAll, wrap_object, reply_text}
-use Rattle.broker_model.specs.Words.{wrap_reply, TokenCreation, act, Command, command_of, on_token, allowed}
-use Rattle.broker_model.specs.Words.{OperationsDoAsTold, Outcome, response_to, unwrapped, wrap_200, wraps, permits, ok}
-use Rattle.broker_model.specs.Words.{request_of, step, traits, is_privileged, making_path, may_make, new_parent}
-use Rattle.broker_model.specs.Words.{new_policies, new_token, auth_reply, known}
-use Rattle.broker_types.specs.declared.status.Status.TheVariants as status
-use Rattle.broker_model.specs.declared.commands.TokenCommand.TheVariants as token
-use Rattle.histories.specs.Words.{Making, GivesToken, Asking, clocked, spent_by, telling_body, unwrapped_body}
-use Rattle.histories.specs.Words.{AllMadeAsAllowed, CreatesAtPath, has_no_use}
+use Rattle.histories.specs.Words.{true, false, cond, Option, Some, None, Ok, refl, sym, option_map_or, ◌∙◌, ap, inl}
+use Rattle.histories.specs.Words.{inr, arith, lt-ltb, Text, same, get, put, get-put, get-put_self, Broker, is_under}
+use Rattle.histories.specs.Words.{Names, names_of, reply, Done, no_ok, ok_step, is_spent, status_code, Token, Tokens}
+use Rattle.histories.specs.Words.{token_text, token_entry, ok_inj, AllThatIsGranted, OnlyWhatIsGranted, RootMayDoAll}
+use Rattle.histories.specs.Words.{wrap_object, reply_text, wrap_reply, TokenCreation, act, Command, command_of}
+use Rattle.histories.specs.Words.{on_token, allowed, OperationsDoAsTold, Outcome, response_to, unwrapped, wrap_200}
+use Rattle.histories.specs.Words.{wraps, permits, ok, request_of, step, traits, is_privileged, making_path, may_make}
+use Rattle.histories.specs.Words.{new_parent, new_policies, new_token, auth_reply, known, Status, Making, ◌≡◌, ◌<◌}
+use Rattle.histories.specs.Words.{◌==◌, ◌&&◌, if◌then◌else◌, TokenCommand, GivesToken, Asking, clocked, spent_by}
+use Rattle.histories.specs.Words.{telling_body, unwrapped_body, AllMadeAsAllowed, CreatesAtPath, has_no_use}
 use Rattle.histories.proofs.Created.{new_unspent}
 use Rattle.histories.proofs.Descent.{Makes, follows, parent_is}
-use Rattle.histories.proofs.OrderCases.{some_ok, spent}
-use Rattle.histories.proofs.OrderKeeps.{spent_clock}
-use Rattle.histories.proofs.Requests.{asked_at, means_at_clock, tells_body}
-use Rattle.histories.proofs.Served.{served}
+use Rattle.histories.proofs.Order.{some_ok, spent, spent_clock, asked_at, means_at_clock, tells_body, served}
 use Rattle.histories.proofs.ServedFor.{ServedFor, served_for, tokens_left}
 use Rattle.histories.proofs.TokenLaws.{asked_course, might}
 
 module _ (told : OperationsDoAsTold) (only : OnlyWhatIsGranted) (all : AllThatIsGranted) (root_all : RootMayDoAll)
     (creates : CreatesAtPath) where
   module _ (a : Asking) (is : a.outcome ≡ step a.broker a.moment a.words a.ask) (making : Making)
-      (asked : TokenCreation) (means : command_of (clocked a).mounts a.ask ≡ Ok (on_token (token.Create making asked)))
-      (success : a.outcome.response.status ≡ status.Success) where
-    pub s : ServedFor a (on_token (token.Create making asked))
-    s = served_for a (served a is (omega (arith, ap status_code success))) (on_token (token.Create making asked)) means
+      (asked : TokenCreation) (means : command_of (clocked a).mounts a.ask ≡ Ok
+      (on_token (TokenCommand.Create making asked)))
+      (success : a.outcome.response.status ≡ Status.Success) where
+    pub s : ServedFor a (on_token (TokenCommand.Create making asked))
+    s = served_for a (served a is (omega (arith, ap status_code success))) (on_token (TokenCommand.Create making asked))
+        means
         (λ b names d e. no_ok e)
 
     abbrev c : Text
@@ -99,7 +95,7 @@ module _ (told : OperationsDoAsTold) (only : OnlyWhatIsGranted) (all : AllThatIs
             | false ↦ did.caller_unspent
           ]
 
-      is_command : (s.it).command ≡ on_token (token.Create making asked)
+      is_command : (s.it).command ≡ on_token (TokenCommand.Create making asked)
       is_command = ok_inj (sym (means_at_clock a (s.it).caller (s.it).command (s.it).means) ∙ means)
 
       -- with a wrap TTL its reply is wrapped, and tells the accessor of the token

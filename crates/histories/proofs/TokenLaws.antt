@@ -1,26 +1,94 @@
 -- The laws of who makes which token, how long it lives, and whose each lease is.
-use Rattle.std.proofs.Common.{◌≡◌, ◌≢◌, ◌≤◌, ◌⊎◌, ◌+◌, ◌-◌, ◌==◌, ◌||◌, ◌∷◌, if◌then◌else◌, ℕ, List, [], codes, Bool}
-use Rattle.broker_model.specs.Words.{true, false, min, not, Option, Some, None, is_none, zero, suc, max}
-use Rattle.broker_model.specs.Words.{option_and_then, list_all, list_any, refl, sym, ◌∙◌, ap, subst, inl, inr, arith}
-use Rattle.broker_model.specs.Words.{min-le_left, min-le_right, false≢true, and_parts, eqb-true, false_from_ne_true}
-use Rattle.broker_model.specs.Words.{or_cases, or_right, none-some, same_Some, longest_ttl, Map, get, is_nothing}
-use Rattle.broker_model.specs.Words.{mapped_none, Text, same, same_self, same_true, Token, Lease, no_entry, one_entry}
-use Rattle.broker_model.specs.Words.{Broker, WasBefore, root_token, lease_of, id, token_text, alive_is, has}
-use Rattle.broker_model.specs.Words.{token_entry, grants, AllThatIsGranted, IsGranted, OnlyWhatIsGranted, RootMayDoAll}
-use Rattle.broker_model.specs.Words.{is_root, Sudo, TokenCreation, allowed, no_more_policies, root_is_own, asked_time}
-use Rattle.broker_model.specs.Words.{asked_ttl, has_no_end, have_root, is_privileged, makes_orphans, making_path}
-use Rattle.broker_model.specs.Words.{new_parent, new_policies, new_token, or_longest, use_limit, new_end, prolonged_end}
-use Rattle.broker_model.specs.Words.{chained, OperationsDoAsTold}
-use Rattle.broker_types.specs.declared.ask.Verb.TheVariants as verb
-use Rattle.histories.specs.Words.{Making, OfCaller, WithoutParent, HasRoot, HasSudo, IsWithin, MightMake, AreAsked}
-use Rattle.histories.specs.Words.{AskedAt, Asking, History, clocked, Beginning, IsAsked, begun, EndsInTime}
-use Rattle.histories.specs.Words.{AllEndInTime, EndInTimeAt, with_changed, CreatesAtPath, path_of, IsIssuedTo}
-use Rattle.histories.specs.Words.{AllLeasesAreOfCallers, AllTokensEndInTime, TokensEndInTimeSinceStart}
+use Rattle.broker_model.specs.Words.{min-le_left, min-le_right, one_entry, WasBefore, root_token, IsGranted}
+use Rattle.broker_model.specs.Words.{no_more_policies, root_is_own, use_limit}
+use Rattle.leases.specs.Leases as leases
+use Rattle.histories.specs.Words.{◌≡◌, ◌≢◌, ◌≤◌, ◌⊎◌, ◌+◌, ◌-◌, ◌==◌, ◌||◌, ◌∷◌, if◌then◌else◌, ℕ, List, [], codes}
+use Rattle.histories.specs.Words.{Bool, true, false, min, not, Option, Some, None, is_none, zero, suc, max}
+use Rattle.histories.specs.Words.{option_and_then, list_all, list_any, refl, sym, ◌∙◌, ap, subst, inl, inr, arith}
+use Rattle.histories.specs.Words.{false≢true, and_parts, eqb-true, false_from_ne_true, or_cases, or_right, none-some}
+use Rattle.histories.specs.Words.{same_Some, longest_ttl, Map, get, is_nothing, mapped_none, Text, same, same_self}
+use Rattle.histories.specs.Words.{same_true, Token, Lease, no_entry, Broker, lease_of, id, token_text, alive_is, has}
+use Rattle.histories.specs.Words.{token_entry, grants, AllThatIsGranted, OnlyWhatIsGranted, RootMayDoAll, is_root, Sudo}
+use Rattle.histories.specs.Words.{TokenCreation, allowed, asked_time, asked_ttl, has_no_end, have_root, is_privileged}
+use Rattle.histories.specs.Words.{makes_orphans, making_path, new_parent, new_policies, new_token, or_longest, new_end}
+use Rattle.histories.specs.Words.{prolonged_end, chained, OperationsDoAsTold, Verb, Making, OfCaller, WithoutParent}
+use Rattle.histories.specs.Words.{HasRoot, HasSudo, IsWithin, MightMake, AreAsked, AskedAt, Asking, History, clocked}
+use Rattle.histories.specs.Words.{Beginning, IsAsked, begun, EndsInTime, AllEndInTime, EndInTimeAt, with_changed}
+use Rattle.histories.specs.Words.{CreatesAtPath, path_of, IsIssuedTo, AllLeasesAreOfCallers, AllTokensEndInTime}
+use Rattle.histories.specs.Words.{TokensEndInTimeSinceStart, ◌&&◌, Ok, option_map, option_map_or, put, get-map_values}
+use Rattle.histories.specs.Words.{get-put_self, is_under, Names, names_of, Done, no_ok, is_spent, status_code, Tokens}
+use Rattle.histories.specs.Words.{credential_object, lease_reply, reply_text, command_of, on_issued, step, Place}
+use Rattle.histories.specs.Words.{Status, IssuedCommand, spent_by, GivesLease, has_no_use}
 use Rattle.histories.proofs.Clients.{from_clock, Course, course}
 use Rattle.histories.proofs.Created.{has_no_end_, has_policies, lasts}
 use Rattle.histories.proofs.Descent.{Makes, follows}
-use Rattle.histories.proofs.LeaseGiven.{gives_lease}
 use Rattle.histories.proofs.Requests.{asked_at}
+use Rattle.histories.proofs.LeaseChanges.{DidIssue, did_issue, issued_at, issued_to}
+use Rattle.histories.proofs.Order.{tells_body, served}
+use Rattle.histories.proofs.ServedFor.{ServedFor, served_for, tokens_left}
+
+-- ---- what a 200 to `creds` gave its client token
+
+module _ (told : OperationsDoAsTold) (a : Asking) (is : a.outcome ≡ step a.broker a.moment a.words a.ask) (p : Place)
+    (means : command_of (clocked a).mounts a.ask ≡ Ok (on_issued p IssuedCommand.Issue))
+    (success : a.outcome.response.status ≡ Status.Success) where
+  s : ServedFor a (on_issued p IssuedCommand.Issue)
+  s = served_for a (served a is (omega (arith, ap status_code success))) (on_issued p IssuedCommand.Issue) means
+      (λ b names d e. no_ok e)
+
+  abbrev c : Text
+  c = s.caller
+
+  abbrev b : Broker
+  b = spent_by a s.caller
+
+  abbrev names : Names
+  names = names_of a.words
+
+  abbrev d : Done
+  d = s.it.done
+
+  i : DidIssue a s.caller p s.it.done
+  i = did_issue a s.caller p s.it.done s.acted
+
+  -- the caller, with the lease
+  abbrev holder : Token
+  holder = leases.with_leases (put s.own.leases i.made.lease_id i.made.lease) s.own
+
+  holds : get d.next.tokens c ≡ Some holder
+  holds =
+      let with_it : Bool → Token → Token =
+      λ v x. leases.with_leases (if v then put x.leases i.made.lease_id i.made.lease else x.leases) x in
+      ap (λ (ts : Tokens). get ts c) i.next
+      ∙ get-map_values (λ t. with_it (same t c)) b.tokens c
+      ∙ ap (option_map (with_it (same c c))) s.there
+      ∙ ap (λ v. Some (with_it v s.own)) (same_self c)
+
+  -- this was not its last use
+  has_use : has_no_use d.next.tokens c ≡ false
+  has_use =
+      ap (λ (o : Option Token). option_map_or is_spent o false) holds
+      ∙ ap (λ (o : Option Token). option_map_or is_spent o false) (sym s.there) ∙ i.lasts
+
+  stays : get a.outcome.next.tokens c ≡ Some holder
+  stays =
+      tokens_left a s.it c c s.is_caller
+      ∙ ap (λ v. if v && is_under d.next.tokens c c then None else get d.next.tokens c) has_use
+      ∙ holds
+
+  pub gives_lease : GivesLease a p
+  gives_lease = record {
+    caller = c;
+    lease_id = i.made.lease_id;
+    lease = i.made.lease;
+    there = ap (option_and_then (λ (x : Token). get x.leases i.made.lease_id)) stays
+        ∙ get-put_self s.own.leases i.made.lease_id i.made.lease;
+    issued = issued_to a c p d i s.client means success s.own s.there;
+    place = issued_at a c p d i s.client means success s.own s.there;
+    told = sym (tells_body told a s.it _ None i.answered).0
+        ∙ ap (λ u. reply_text (lease_reply names.request i.made.lease_id i.made.lease.ttl
+        (Some (credential_object u)))) (sym i.credential);
+  }
 
 -- ---- privileges
 
@@ -38,14 +106,14 @@ any_root (name ∷ names) e = elim (or_cases (same name (codes "root")) (list_an
 
 -- what is granted, is so to `root`, or by what policies say
 root_or_granted : OnlyWhatIsGranted → (policies : Map Text) (names : List Text) (path : Text)
-    → grants policies names verb.Write path Sudo ≡ true
-    → (has names (codes "root") ≡ true) ⊎ IsGranted policies names verb.Write path Sudo
+    → grants policies names Verb.Write path Sudo ≡ true
+    → (has names (codes "root") ≡ true) ⊎ IsGranted policies names Verb.Write path Sudo
 root_or_granted only policies names path granted =
     elim (list_any is_root names) as
     (λ v. list_any is_root names ≡ v → (has names (codes "root") ≡ true)
-    ⊎ IsGranted policies names verb.Write path Sudo) [
+    ⊎ IsGranted policies names Verb.Write path Sudo) [
       | true ↦ λ root. inl (any_root names root)
-      | false ↦ λ none. inr (only policies names verb.Write path Sudo none granted)
+      | false ↦ λ none. inr (only policies names Verb.Write path Sudo none granted)
     ] refl
 
 -- without privileges, a token is its maker's child, but on the path that makes none
@@ -104,10 +172,10 @@ has_any_root (name ∷ names) e = elim (or_cases (same (codes "root") name) (has
 ]
 
 pub granted_so : AllThatIsGranted → RootMayDoAll → (policies : Map Text) (names : List Text) (path : Text)
-    → (has names (codes "root") ≡ true) ⊎ IsGranted policies names verb.Write path Sudo
-    → grants policies names verb.Write path Sudo ≡ true
-granted_so all root policies names path (inl is) = root policies names verb.Write path Sudo (has_any_root names is)
-granted_so all root policies names path (inr is) = all policies names verb.Write path Sudo is
+    → (has names (codes "root") ≡ true) ⊎ IsGranted policies names Verb.Write path Sudo
+    → grants policies names Verb.Write path Sudo ≡ true
+granted_so all root policies names path (inl is) = root policies names Verb.Write path Sudo (has_any_root names is)
+granted_so all root policies names path (inr is) = all policies names Verb.Write path Sudo is
 
 module _ (only : OnlyWhatIsGranted) (all : AllThatIsGranted) (root_all : RootMayDoAll) (creates : CreatesAtPath)
     (a : Asking) (q : Text) (y : Token) (m : Makes a q y) where
@@ -125,8 +193,8 @@ module _ (only : OnlyWhatIsGranted) (all : AllThatIsGranted) (root_all : RootMay
       let are_chosen : y.policies ≡ chosen = ap (λ (z : Token). z.policies) m.is in
       let granted : privileged ≡ true → HasRoot own ⊎ HasSudo (clocked a) own (path_of m.made.making) = λ is.
       root_or_granted only (clocked a).policies own.policies (path_of m.made.making)
-      (ap (λ ps. grants (clocked a).policies ps verb.Write (path_of m.made.making) Sudo) (sym same_policies)
-      ∙ ap (λ p. grants (clocked a).policies m.own.policies verb.Write p Sudo) (sym (path_is m.made.making)) ∙ is) in
+      (ap (λ ps. grants (clocked a).policies ps Verb.Write (path_of m.made.making) Sudo) (sym same_policies)
+      ∙ ap (λ p. grants (clocked a).policies m.own.policies Verb.Write p Sudo) (sym (path_is m.made.making)) ∙ is) in
       let within : privileged ≡ false → IsWithin m.made.caller m.made.making own y = λ not_. record {
         policies = λ p h.
             ap (λ ps. has ps p) (sym same_policies)
@@ -176,8 +244,8 @@ module _ (only : OnlyWhatIsGranted) (all : AllThatIsGranted) (root_all : RootMay
         no_end = has_no_end_ (clocked a).clock chosen asked y (ap (λ (z : Token). z.ends) m.is)
             (ap (λ (z : Token). z.ttl) m.is) are_chosen;
         policies = has_policies privileged own asked (HasRoot own ⊎ HasSudo (clocked a) own (path_of m.made.making))
-            (λ p. ap (λ u. grants (clocked a).policies m.own.policies verb.Write u Sudo) (path_is m.made.making)
-            ∙ ap (λ ps. grants (clocked a).policies ps verb.Write (path_of m.made.making) Sudo) same_policies
+            (λ p. ap (λ u. grants (clocked a).policies m.own.policies Verb.Write u Sudo) (path_is m.made.making)
+            ∙ ap (λ ps. grants (clocked a).policies ps Verb.Write (path_of m.made.making) Sudo) same_policies
             ∙ granted_so all root_all (clocked a).policies own.policies (path_of m.made.making) p)
             granted y (are_chosen ∙ ap (λ (z : Token). new_policies privileged z asked) from.rest);
         meta = ap (λ (z : Token). z.meta) m.is;

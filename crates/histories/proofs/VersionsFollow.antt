@@ -1,35 +1,28 @@
 -- Versions follow the writes, deletions and destructions that were asked for: each part of the law.
-use Rattle.std.proofs.Common.{◌≡◌, ◌≢◌, ◌⊎◌, ◌+◌, ◌==◌, ◌||◌, ◌∷◌, if◌then◌else◌, ℕ, zero, suc, List, [], Bool, true}
-use Rattle.broker_model.specs.Words.{false, not, cond, is_none, is_some, Contains, nat_eq, nat_lt, Option, option_map}
-use Rattle.broker_model.specs.Words.{unwrap_or, Some, None, Ok, starts_with, option_map_or, nat_cmp, refl, sym, ◌∙◌, ap}
-use Rattle.broker_model.specs.Words.{subst, inl, inr, arith, eq-eqb, eqb-false, eqb-true, false≢true, ltb-false}
-use Rattle.broker_model.specs.Words.{ltb-true, none-some, same_Some, any_contained, Text, same, same_self, Map, entries}
-use Rattle.broker_model.specs.Words.{get, get-keep, get-put_self, get-without_self, valued_is, Broker, Mount, Names}
-use Rattle.broker_model.specs.Words.{names_of, missing, nothing, plainly, reply, Done, found_or_not, mapped, some_or}
-use Rattle.broker_model.specs.Words.{no_ok, ok_step, Key, Version, spend, status_code, Status, ok_inj, Written}
-use Rattle.broker_model.specs.Words.{secret_name, with_key, written, get-change_versions, Found, asked_number, checked}
-use Rattle.broker_model.specs.Words.{described, destroyed, is_among, numbered, key_or_new, restored, soft_deleted}
-use Rattle.broker_model.specs.Words.{versions_kept, with_changed, with_version, disabled, secret_object, plain_reply}
-use Rattle.broker_model.specs.Words.{reply_text, KeySettings, SecretWrite, VersionObject, act, Command, command_of}
-use Rattle.broker_model.specs.Words.{on_mount, on_secret, chained, OperationsDoAsTold, step, without_kept, Place}
-use Rattle.broker_model.specs.Words.{object_left, version_answered, version_made, version_reply, version_shown}
-use Rattle.broker_model.specs.Words.{written_reply, act_on_secrets, given_settings}
-use Rattle.std.specs.FinMap as fin
-use Rattle.broker_types.specs.declared.refusal.Refusal.TheVariants as refusal
-use Rattle.broker_types.specs.declared.status.Status.TheVariants as status
+use Rattle.broker_model.specs.Words.{eqb-false, with_key, with_changed, VersionObject, version_made, version_shown}
+use Rattle.std.specs.FinMap.{from_entries, get-empty}
 use Rattle.kv2.specs.Secrets as secrets
-use Rattle.broker_model.specs.declared.commands.MountCommand.TheVariants as of_mount
-use Rattle.histories.specs.Words.{SecretCommand, AreAsked, Asking, IsAsked, AskedAt, History, clocked}
-use Rattle.histories.specs.Words.{AllVersionsFollow, AreSet, Commands, Deletes, DidSet, DidWrite, DisablesAbove}
-use Rattle.histories.specs.Words.{SecretGoes, Holds, IsAsAsked, IsNewKey, ReadsVersion, StandsUnwritten, WroteBefore}
-use Rattle.histories.specs.Words.{Writes, named}
-use Rattle.broker_model.specs.declared.commands.SecretCommand.TheVariants as secret
+use Rattle.histories.specs.Words.{◌≡◌, ◌≢◌, ◌⊎◌, ◌+◌, ◌==◌, ◌||◌, ◌∷◌, if◌then◌else◌, ℕ, zero, suc, List, [], Bool}
+use Rattle.histories.specs.Words.{true, false, not, cond, is_none, is_some, Contains, nat_eq, nat_lt, Option}
+use Rattle.histories.specs.Words.{option_map, unwrap_or, Some, None, Ok, starts_with, option_map_or, nat_cmp, refl, sym}
+use Rattle.histories.specs.Words.{◌∙◌, ap, subst, inl, inr, arith, eq-eqb, eqb-true, false≢true, ltb-false, ltb-true}
+use Rattle.histories.specs.Words.{none-some, same_Some, any_contained, Text, same, same_self, Map, entries, get}
+use Rattle.histories.specs.Words.{get-keep, get-put_self, get-without_self, valued_is, Broker, Mount, Names, names_of}
+use Rattle.histories.specs.Words.{missing, nothing, plainly, reply, Done, found_or_not, mapped, some_or, no_ok, ok_step}
+use Rattle.histories.specs.Words.{Key, Version, spend, status_code, Status, ok_inj, Written, secret_name, written}
+use Rattle.histories.specs.Words.{get-change_versions, Found, asked_number, checked, described, destroyed, is_among}
+use Rattle.histories.specs.Words.{numbered, key_or_new, restored, soft_deleted, versions_kept, with_version, disabled}
+use Rattle.histories.specs.Words.{secret_object, plain_reply, reply_text, KeySettings, SecretWrite, act, Command}
+use Rattle.histories.specs.Words.{command_of, on_mount, on_secret, chained, OperationsDoAsTold, step, without_kept}
+use Rattle.histories.specs.Words.{Place, object_left, version_answered, version_reply, written_reply, act_on_secrets}
+use Rattle.histories.specs.Words.{given_settings, Refusal, MountCommand, SecretCommand, AreAsked, Asking, IsAsked}
+use Rattle.histories.specs.Words.{AskedAt, History, clocked, AllVersionsFollow, AreSet, Commands, Deletes, DidSet}
+use Rattle.histories.specs.Words.{DidWrite, DisablesAbove, SecretGoes, Holds, IsAsAsked, IsNewKey, ReadsVersion}
+use Rattle.histories.specs.Words.{StandsUnwritten, WroteBefore, Writes, named}
 use Rattle.histories.proofs.EventSecrets.{is_404, served_left}
-use Rattle.histories.proofs.OrderCases.{some_ok, spent}
+use Rattle.histories.proofs.Order.{some_ok, spent, asked_at, means_at_clock, tells_body, Served, served}
 use Rattle.histories.proofs.ReadsEnded.{read_404}
-use Rattle.histories.proofs.Requests.{asked_at, means_at_clock, tells_body}
 use Rattle.histories.proofs.SecretsFollow.{Moves, is_written, secrets_moved}
-use Rattle.histories.proofs.Served.{Served, served}
 
 -- ---- a request that succeeded
 
@@ -48,10 +41,10 @@ module _ (a : Asking) (is : a.outcome ≡ step a.broker a.moment a.words a.ask) 
     acted : act (spent now s.caller) s.caller names command ≡ Ok s.done
     acted = subst (λ (x : Command). act (spent now s.caller) s.caller names x ≡ Ok s.done) is_command s.acted
 
-  was_200 : a.outcome.response.status ≡ status.Success → Served a
+  was_200 : a.outcome.response.status ≡ Status.Success → Served a
   was_200 success = served a is (omega (arith, ap status_code success))
 
-  was_204 : a.outcome.response.status ≡ status.NoContent → Served a
+  was_204 : a.outcome.response.status ≡ Status.NoContent → Served a
   was_204 success = served a is (omega (arith, ap status_code success))
 
 -- a command on a secret has a caller
@@ -73,7 +66,7 @@ was_there a q None none = inr (
   record {
     created = refl;
     current = refl;
-    empty = λ n. fin.get-empty nat_cmp n;
+    empty = λ n. get-empty nat_cmp n;
     free = refl;
     unlimited = refl;
   },
@@ -100,12 +93,12 @@ module _ (told : OperationsDoAsTold) (a : Asking) (is : a.outcome ≡ step a.bro
   over = key_or_new here.clock (get here.secrets (secret_name w.place.mount w.place.path))
 
   module _ (s : Served a) (c : Text) (e : act_on_secrets (spend here c) (names_of a.words) w.place
-      (secret.Write asked) ≡ Ok s.done) where
+      (SecretCommand.Write asked) ≡ Ok s.done) where
     wrote_it : DidWrite a q asked
     wrote_it =
         let name = secret_name w.place.mount w.place.path in
         let x = ok_step (secrets.write (spend here c) w.place.mount w.place.path asked.cas asked.object) _ s.done e in
-        let m = ok_step (some_or refusal.NotFound (get here.mounts w.place.mount)) _ x.0 x.1 in
+        let m = ok_step (some_or Refusal.NotFound (get here.mounts w.place.mount)) _ x.0 x.1 in
         let passed = ok_step (checked (over.cas_required || m.0.cas_required) over.current asked.cas) _ x.0 m.2 in
         let after = with_version here.clock (versions_kept m.0 over) asked.object over in
         let left : a.outcome.next.secrets ≡ (written (spend here c) m.0 name asked.object over).next.secrets =
@@ -115,7 +108,7 @@ module _ (told : OperationsDoAsTold) (a : Asking) (is : a.outcome ≡ step a.bro
           place = w.place;
           name = w.name;
           of_mount = m.0;
-          in_mount = some_ok refusal.NotFound (get here.mounts w.place.mount) m.1;
+          in_mount = some_ok Refusal.NotFound (get here.mounts w.place.mount) m.1;
           before = over;
           was = was_named a q w.place w.name;
           after = after;
@@ -132,9 +125,9 @@ module _ (told : OperationsDoAsTold) (a : Asking) (is : a.outcome ≡ step a.bro
 
   pub did_write : DidWrite a q asked
   did_write =
-      let s = was_200 a is (on_secret w.place (secret.Write asked)) w.means w.answered in
-      secret_caller here (names_of a.words) w.place (secret.Write asked) s.caller s.done
-      (acted a is (on_secret w.place (secret.Write asked)) w.means s) (wrote_it s)
+      let s = was_200 a is (on_secret w.place (SecretCommand.Write asked)) w.means w.answered in
+      secret_caller here (names_of a.words) w.place (SecretCommand.Write asked) s.caller s.done
+      (acted a is (on_secret w.place (SecretCommand.Write asked)) w.means s) (wrote_it s)
 
 -- ---- settings
 
@@ -151,17 +144,17 @@ are_set now asked k = record {
 }
   where
     pairs_left : Option (List (Text × Text)) → Map Text
-    pairs_left o = option_map_or fin.from_entries o k.custom_metadata
+    pairs_left o = option_map_or from_entries o k.custom_metadata
 
 module _ (a : Asking) (is : a.outcome ≡ step a.broker a.moment a.words a.ask) (q : Text) (asked : KeySettings)
-    (w : Commands a q (secret.SetMetadata asked)) where
+    (w : Commands a q (SecretCommand.SetMetadata asked)) where
   did_set : DidSet a q asked
   did_set =
-      let k = on_secret w.place (secret.SetMetadata asked) in
+      let k = on_secret w.place (SecretCommand.SetMetadata asked) in
       let s = was_204 a is k w.means w.answered in
       let old = get (clocked a).secrets (named w.place) in
       let after = described (clocked a).clock (given_settings asked) (key_or_new (clocked a).clock old) in
-      secret_caller (clocked a) (names_of a.words) w.place (secret.SetMetadata asked) s.caller s.done
+      secret_caller (clocked a) (names_of a.words) w.place (SecretCommand.SetMetadata asked) s.caller s.done
       (acted a is k w.means s) (λ c e. record {
         before = key_or_new (clocked a).clock old;
         was = was_named a q w.place w.name;
@@ -176,12 +169,12 @@ module _ (a : Asking) (is : a.outcome ≡ step a.broker a.moment a.words a.ask) 
 -- ---- what goes
 
 module _ (a : Asking) (is : a.outcome ≡ step a.broker a.moment a.words a.ask) (q : Text) where
-  removed : Commands a q secret.Remove → get a.outcome.next.secrets q ≡ None
+  removed : Commands a q SecretCommand.Remove → get a.outcome.next.secrets q ≡ None
   removed w =
-      let k = on_secret w.place secret.Remove in
+      let k = on_secret w.place SecretCommand.Remove in
       let s = was_204 a is k w.means w.answered in
       let name = secret_name w.place.mount w.place.path in
-      secret_caller (clocked a) (names_of a.words) w.place secret.Remove s.caller s.done (acted a is k w.means s)
+      secret_caller (clocked a) (names_of a.words) w.place SecretCommand.Remove s.caller s.done (acted a is k w.means s)
       (λ c e.
       ap (get a.outcome.next.secrets) w.name
       ∙ ap (λ (z : Map Key). get z name) (served_left a s ∙ ap (λ (d : Done). d.next.secrets) (sym (ok_inj e)))
@@ -189,8 +182,8 @@ module _ (a : Asking) (is : a.outcome ≡ step a.broker a.moment a.words a.ask) 
 
   disabled_below : DisablesAbove a q → get a.outcome.next.secrets q ≡ None
   disabled_below w =
-      let s = was_204 a is (on_mount w.name of_mount.Disable) w.means w.answered in
-      by s s.caller (acted a is (on_mount w.name of_mount.Disable) w.means s)
+      let s = was_204 a is (on_mount w.name MountCommand.Disable) w.means w.answered in
+      by s s.caller (acted a is (on_mount w.name MountCommand.Disable) w.means s)
     where
       bare : (next : Map Mount) (c : Text) (o : Option Mount) → o ≢ None
           → get (if is_some o then without_kept (record (spend (clocked a) c) { mounts = next }) w.name
@@ -201,7 +194,7 @@ module _ (a : Asking) (is : a.outcome ≡ step a.broker a.moment a.words a.ask) 
           ∙ ap (λ v. cond (not v) (get (clocked a).secrets q) None) w.below
 
       by : (s : Served a) (caller : Option Text)
-          → act (spent (clocked a) caller) caller (names_of a.words) (on_mount w.name of_mount.Disable) ≡ Ok s.done
+          → act (spent (clocked a) caller) caller (names_of a.words) (on_mount w.name MountCommand.Disable) ≡ Ok s.done
           → get a.outcome.next.secrets q ≡ None
       by s None e = no_ok e
       by s (Some c) e =
@@ -252,28 +245,28 @@ module _ (a : Asking) (is : a.outcome ≡ step a.broker a.moment a.words a.ask) 
       (ap (λ (z : Map Key). get z name) (sym left) ∙ ap (get a.outcome.next.secrets) (sym w.name) ∙ there) in
       (x.0, x.2 ∙ ap (λ v. if v then f x.0 else x.0) (same_self name)))
 
-  module _ (n : ℕ) (v : Version) (kept : fin.get m.versions n ≡ Some v) where
+  module _ (n : ℕ) (v : Version) (kept : get m.versions n ≡ Some v) where
     -- and each version that was named is a changed one
     named_changed : (g : Version → Version) (ns : List ℕ) (k : Key) → m ≡ with_changed g ns k → Contains ns n
         → (u : Version) × (v ≡ g u)
     named_changed g ns k at one =
         let among = any_contained (λ k. k == n) ns n one (eq-eqb n n refl) in
-        let u = mapped (λ (z : Version). if is_among ns n then g z else z) (fin.get k.versions n) v
+        let u = mapped (λ (z : Version). if is_among ns n then g z else z) (get k.versions n) v
         (sym (get-change_versions g (is_among ns) k.versions n)
-        ∙ ap (λ (z : Key). fin.get z.versions n) (sym at) ∙ kept) in
+        ∙ ap (λ (z : Key). get z.versions n) (sym at) ∙ kept) in
         (u.0, u.2 ∙ ap (λ b. if b then g u.0 else u.0) among)
 
     is_deleted : Deletes a q m.current n → v.deleted ≢ None
     is_deleted (inl (it, current)) =
         let f = soft_deleted (clocked a).clock in
-        let k = was_changed secret.DeleteCurrent it (λ z. with_changed f (z.current ∷ []) z)
+        let k = was_changed SecretCommand.DeleteCurrent it (λ z. with_changed f (z.current ∷ []) z)
         (λ c d e. sym (ok_inj e)) in
         let number = sym (current ∙ ap (λ (z : Key). z.current) k.1) in
         let u = named_changed f ((k.0).current ∷ []) k.0 k.1 (0, omega (arith), number) in
         left_deleted (clocked a).clock u.0 v u.1
     is_deleted (inr (ns, it, one)) =
         let f = soft_deleted (clocked a).clock in
-        let k = was_changed (secret.Delete ns) it (with_changed f ns) (λ c d e. sym (ok_inj e)) in
+        let k = was_changed (SecretCommand.Delete ns) it (with_changed f ns) (λ c d e. sym (ok_inj e)) in
         let u = named_changed f ns k.0 k.1 one in
         left_deleted (clocked a).clock u.0 v u.1
 
@@ -281,11 +274,11 @@ module _ (a : Asking) (is : a.outcome ≡ step a.broker a.moment a.words a.ask) 
     as_asked = record {
       deleted = is_deleted;
       taken_back = λ ns it one.
-          let k = was_changed (secret.Undelete ns) it (with_changed restored ns) (λ c d e. sym (ok_inj e)) in
+          let k = was_changed (SecretCommand.Undelete ns) it (with_changed restored ns) (λ c d e. sym (ok_inj e)) in
           let u = named_changed restored ns k.0 k.1 one in
           left_restored u.0 v u.1;
       destroyed = λ ns it one.
-          let k = was_changed (secret.Destroy ns) it (with_changed destroyed ns) (λ c d e. sym (ok_inj e)) in
+          let k = was_changed (SecretCommand.Destroy ns) it (with_changed destroyed ns) (λ c d e. sym (ok_inj e)) in
           let u = named_changed destroyed ns k.0 k.1 one in
           ap (λ (z : Version). z.secret) u.1;
     }
@@ -306,16 +299,16 @@ left_is v h = by v.deleted refl v.secret refl h
 
 module _ (told : OperationsDoAsTold) (a : Asking) (is : a.outcome ≡ step a.broker a.moment a.words a.ask) (p : Place)
     (n : ℕ)
-    (means : command_of (clocked a).mounts a.ask ≡ Ok (on_secret p (secret.Read n)))
-    (success : a.outcome.response.status ≡ status.Success) where
+    (means : command_of (clocked a).mounts a.ask ≡ Ok (on_secret p (SecretCommand.Read n)))
+    (success : a.outcome.response.status ≡ Status.Success) where
   abbrev request : Text
   request = (names_of a.words).request
 
   it : Served a
-  it = was_200 a is (on_secret p (secret.Read n)) means success
+  it = was_200 a is (on_secret p (SecretCommand.Read n)) means success
 
   module _ (k : Key) (there : get (clocked a).secrets (secret_name p.mount p.path) ≡ Some k) (v : Version)
-      (kept : fin.get k.versions (asked_number k.current n) ≡ Some v) where
+      (kept : get k.versions (asked_number k.current n) ≡ Some v) where
     abbrev number : ℕ
     number = asked_number k.current n
 
@@ -361,17 +354,17 @@ module _ (told : OperationsDoAsTold) (a : Asking) (is : a.outcome ≡ step a.bro
     by_left true left answered = let x = left_is v left in reads x.0 x.1 x.2 answered
     by_left false left answered = absurd (apart (sym success ∙ is_404 a it (version_reply request found) answered))
       where
-        apart : ◌≡◌ {A = Status} status.Success status.NotFound → ⊥
+        apart : ◌≡◌ {A = Status} Status.Success Status.NotFound → ⊥
         apart e = cc
 
   reads_version : ReadsVersion a p n
   reads_version =
-      secret_caller (clocked a) (names_of a.words) p (secret.Read n) it.caller it.done
-      (acted a is (on_secret p (secret.Read n)) means it) (λ c e.
-      let v = ok_step (some_or refusal.NotFound (secrets.read (spend (clocked a) c) p.mount p.path n)) _ it.done e in
+      secret_caller (clocked a) (names_of a.words) p (SecretCommand.Read n) it.caller it.done
+      (acted a is (on_secret p (SecretCommand.Read n)) means it) (λ c e.
+      let v = ok_step (some_or Refusal.NotFound (secrets.read (spend (clocked a) c) p.mount p.path n)) _ it.done e in
       let o = get (clocked a).secrets (secret_name p.mount p.path) in
       let k = chained (λ (k : Key). option_map (numbered (entries k.custom_metadata) (asked_number k.current n))
-      (fin.get k.versions (asked_number k.current n))) o v.0 (some_ok refusal.NotFound _ v.1) in
+      (get k.versions (asked_number k.current n))) o v.0 (some_ok Refusal.NotFound _ v.1) in
       let x = mapped (numbered (entries (k.0).custom_metadata) (asked_number (k.0).current n)) _ v.0 k.2 in
       by_left k.0 k.1 x.0 x.1 (is_some (object_left x.0)) refl
       (ap (λ (d : Done). d.answered) (sym (ok_inj v.2)) ∙ ap (version_answered request) x.2))
@@ -388,10 +381,10 @@ module _ (told : OperationsDoAsTold) (a : Asking) (is : a.outcome ≡ step a.bro
   From = Wrote ⊎ Holds (clocked a) q n object
 
   module _ (m : Key) (there : get a.outcome.next.secrets q ≡ Some m) (v : Version)
-      (kept : fin.get m.versions n ≡ Some v)
+      (kept : get m.versions n ≡ Some v)
       (holds : v.secret ≡ Some object) where
     -- a version that was there before the write
-    from_before : (asked : SecretWrite) (w : DidWrite a q asked) → fin.get w.before.versions n ≡ Some v → From
+    from_before : (asked : SecretWrite) (w : DidWrite a q asked) → get w.before.versions n ≡ Some v → From
     from_before asked w was = elim w.was [
       | inl k ↦ inr (record { key = w.before; there = k; version = v; is_kept = was; holds = holds })
       | inr new ↦ absurd (none-some v (sym (new.1.empty n) ∙ was))
@@ -400,13 +393,13 @@ module _ (told : OperationsDoAsTold) (a : Asking) (is : a.outcome ≡ step a.bro
     from_write : (asked : SecretWrite) → DidWrite a q asked → From
     from_write asked w =
         let one : w.after ≡ m = same_Some _ _ (sym w.there ∙ there) in
-        let at : fin.get w.after.versions n ≡ Some v = ap (λ (z : Key). fin.get z.versions n) one ∙ kept in
+        let at : get w.after.versions n ≡ Some v = ap (λ (z : Key). get z.versions n) one ∙ kept in
         by_number one at (n == w.after.current) refl
       where
-        by_number : w.after ≡ m → fin.get w.after.versions n ≡ Some v → (x : Bool) → (n == w.after.current) ≡ x → From
+        by_number : w.after ≡ m → get w.after.versions n ≡ Some v → (x : Bool) → (n == w.after.current) ≡ x → From
         by_number one at true same_ =
             let is_number = eqb-true n w.after.current same_ in
-            let new = same_Some _ _ (sym w.is.version ∙ ap (fin.get w.after.versions) (sym is_number) ∙ at) in
+            let new = same_Some _ _ (sym w.is.version ∙ ap (get w.after.versions) (sym is_number) ∙ at) in
             inl (asked, w, sym is_number, same_Some _ _ (ap (λ (z : Version). z.secret) new ∙ holds))
         by_number one at false other = by_age (nat_lt w.after.current (n + w.is.kept)) refl (n == 0) refl
           where
@@ -419,7 +412,7 @@ module _ (told : OperationsDoAsTold) (a : Asking) (is : a.outcome ≡ step a.bro
                 (ltb-true w.after.current (n + w.is.kept) young)) ∙ at)
 
     from_unwritten : (k : Key) → get (clocked a).secrets q ≡ Some k → StandsUnwritten a q k m → From
-    from_unwritten k was s = elim (found_or_not (fin.get k.versions n)) [
+    from_unwritten k was s = elim (found_or_not (get k.versions n)) [
       | inl none ↦ absurd (none-some v (sym (s.none n none) ∙ kept))
       | inr x ↦
           let w = s.versions n x.0 x.1 in

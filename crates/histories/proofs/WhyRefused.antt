@@ -1,33 +1,23 @@
 -- Why a request is refused that policies grant.
-use Rattle.std.proofs.Common.{◌≡◌, ◌≢◌, ◌⊎◌, ◌==◌, ◌||◌, ◌&&◌, ◌∷◌, if◌then◌else◌, ◌-◌, ℕ, [], Bool, true, false, not}
-use Rattle.broker_model.specs.Words.{nat_lt, is_some, Option, Some, None, Result, Ok, Err, option_and_then, option_map}
-use Rattle.broker_model.specs.Words.{⊤, codes, refl, sym, ◌∙◌, ap, inl, inr, eqb-true, false≢true, or_left, or_right}
-use Rattle.broker_model.specs.Words.{Text, same, greatest_version, are_new, same_true, entries, first_where, get}
-use Rattle.broker_model.specs.Words.{get-change, Broker, Mount, Role, Names, names_of, plainly, reply, Done, ◌>>=◌}
-use Rattle.broker_model.specs.Words.{some_or, unless, first_where_is, Key, one_less, Lease, Token, Refusal, has_lease}
-use Rattle.broker_model.specs.Words.{token_entry, metadata_of, Written, secret_name, write_over, written, Found}
-use Rattle.broker_model.specs.Words.{asked_number, check_and_set, key_or_new, numbered, text_of, lease_object}
-use Rattle.broker_model.specs.Words.{policy_object, role_object, lease_reply, plain_reply, SecretWrite, TokenRenewal}
-use Rattle.broker_model.specs.Words.{act, Command, on_cubbyhole, on_issued, on_lease, on_policy, on_secret, on_token}
-use Rattle.broker_model.specs.Words.{Outcome, Wrapped, finish, wrapped, wraps, permits, Request, operated, request_of}
-use Rattle.broker_model.specs.Words.{step, traits, shown_lease, Place, metadata_reply, version_answered, written_reply}
-use Rattle.broker_model.specs.Words.{auth_reply, token_reply, new_end}
-use Rattle.std.specs.FinMap as fin
-use Rattle.broker_types.specs.declared.refusal.Denial.TheVariants as denial
-use Rattle.broker_types.specs.declared.refusal.Field.TheVariants as field
-use Rattle.broker_types.specs.declared.refusal.Reason.TheVariants as reason
-use Rattle.broker_types.specs.declared.refusal.Refusal.TheVariants as refusal
 use Rattle.leases.specs.Leases as leases
 use Rattle.token_tree.specs.Tokens as tree
 use Rattle.kv2.specs.Secrets as secrets
-use Rattle.broker_model.specs.declared.commands.CubbyholeCommand.TheVariants as of_cubbyhole
-use Rattle.broker_model.specs.declared.commands.IssuedCommand.TheVariants as of_issued
-use Rattle.broker_model.specs.declared.commands.LeaseCommand.TheVariants as of_lease
-use Rattle.broker_model.specs.declared.commands.PolicyCommand.TheVariants as of_policy
-use Rattle.broker_model.specs.declared.commands.SecretCommand.TheVariants as of_secret
-use Rattle.broker_model.specs.declared.commands.TokenCommand.TheVariants as of_token
-use Rattle.histories.specs.Words.{Asking, clocked, spent_by, PoliciesDecide, LacksVersion, named, AllTellWhy, Asks}
-use Rattle.histories.specs.Words.{FailsCheck, IsRefusedBy, LacksCheck, LacksId}
+use Rattle.histories.specs.Words.{◌≡◌, ◌≢◌, ◌⊎◌, ◌==◌, ◌||◌, ◌&&◌, ◌∷◌, if◌then◌else◌, ◌-◌, ℕ, [], Bool, true, false}
+use Rattle.histories.specs.Words.{not, nat_lt, is_some, Option, Some, None, Result, Ok, Err, option_and_then}
+use Rattle.histories.specs.Words.{option_map, ⊤, codes, refl, sym, ◌∙◌, ap, inl, inr, eqb-true, false≢true, or_left}
+use Rattle.histories.specs.Words.{or_right, Text, same, greatest_version, are_new, same_true, entries, first_where, get}
+use Rattle.histories.specs.Words.{get-change, Broker, Mount, Role, Names, names_of, plainly, reply, Done, ◌>>=◌}
+use Rattle.histories.specs.Words.{some_or, unless, first_where_is, Key, one_less, Lease, Token, Refusal, has_lease}
+use Rattle.histories.specs.Words.{token_entry, metadata_of, Written, secret_name, write_over, written, Found}
+use Rattle.histories.specs.Words.{asked_number, check_and_set, key_or_new, numbered, text_of, lease_object}
+use Rattle.histories.specs.Words.{policy_object, role_object, lease_reply, plain_reply, SecretWrite, TokenRenewal, act}
+use Rattle.histories.specs.Words.{Command, on_cubbyhole, on_issued, on_lease, on_policy, on_secret, on_token, Outcome}
+use Rattle.histories.specs.Words.{Wrapped, finish, wrapped, wraps, permits, Request, operated, request_of, step, traits}
+use Rattle.histories.specs.Words.{shown_lease, Place, metadata_reply, version_answered, written_reply, auth_reply}
+use Rattle.histories.specs.Words.{token_reply, new_end, Denial, Field, Reason, CubbyholeCommand, IssuedCommand}
+use Rattle.histories.specs.Words.{LeaseCommand, PolicyCommand, SecretCommand, TokenCommand, Asking, clocked, spent_by}
+use Rattle.histories.specs.Words.{PoliciesDecide, LacksVersion, named, AllTellWhy, Asks, FailsCheck, IsRefusedBy}
+use Rattle.histories.specs.Words.{LacksCheck, LacksId}
 use Rattle.histories.proofs.Clients.{from_clock}
 use Rattle.histories.proofs.Requests.{asked_at}
 
@@ -52,7 +42,7 @@ module _ (decide : PoliciesDecide) (a : Asking) (is : a.outcome ≡ step a.broke
       let tried : Result Done Refusal → Result Wrapped Refusal =
       λ r. r >>= (λ d. Ok (wrapped permits traits act here q names command d)) in
       let asked : Bool → Result Wrapped Refusal =
-      λ v. unless (not v || nat_lt 0 q.wrap_ttl) (refusal.BadRequest reason.WrappingRequired)
+      λ v. unless (not v || nat_lt 0 q.wrap_ttl) (Refusal.BadRequest Reason.WrappingRequired)
       >>= (λ w. tried (act here (Some caller) names command)) in
       let no_wrap : wraps permits traits act q command ≡ false =
       ap (λ n. nat_lt 0 n && (traits command).may_wrap) h.no_ttl in
@@ -62,8 +52,8 @@ module _ (decide : PoliciesDecide) (a : Asking) (is : a.outcome ≡ step a.broke
       h.means
       ∙ ap (λ v. finish here (Some caller) (unless (are_new here.used
       (if v then names.wrapping_token ∷ names.wrapping_accessor ∷ (traits command).own names
-      else (traits command).own names)) refusal.IdentifierUsed >>= (λ u. asked (traits command).must_wrap))) no_wrap
-      ∙ ap (λ ns. finish here (Some caller) (unless (are_new here.used ns) refusal.IdentifierUsed
+      else (traits command).own names)) Refusal.IdentifierUsed >>= (λ u. asked (traits command).must_wrap))) no_wrap
+      ∙ ap (λ ns. finish here (Some caller) (unless (are_new here.used ns) Refusal.IdentifierUsed
       >>= (λ u. asked (traits command).must_wrap))) own
       ∙ ap (λ v. finish here (Some caller) (asked v)) free
       ∙ ap (λ r. finish here (Some caller) (tried r)) acted)
@@ -95,13 +85,13 @@ module _ (decide : PoliciesDecide) (a : Asking) (is : a.outcome ≡ step a.broke
   not_kept p n lacks_ = by (get (clocked a).secrets (named p)) refl
     where
       at : (key : Key) (v : Bool) → (n == 0) ≡ v → get (clocked a).secrets (named p) ≡ Some key
-          → fin.get key.versions (if v then key.current else n) ≡ None
+          → get key.versions (if v then key.current else n) ≡ None
       at key true zero_ there = lacks_.by_current key there (eqb-true n 0 zero_)
       at key false some there = lacks_.by_number key there (λ none. false≢true (sym some ∙ ap (λ m. m == 0) none))
 
       by : (o : Option Key) → get (clocked a).secrets (named p) ≡ o
           → option_and_then (λ (k : Key). option_map (numbered (entries k.custom_metadata) (asked_number k.current n))
-          (fin.get k.versions (asked_number k.current n))) o ≡ None
+          (get k.versions (asked_number k.current n))) o ≡ None
       by None e = refl
       by (Some key) e =
           ap (option_map (numbered (entries key.custom_metadata) (asked_number key.current n))) (at key (n == 0) refl e)
@@ -125,43 +115,44 @@ module _ (decide : PoliciesDecide) (a : Asking) (is : a.outcome ≡ step a.broke
 
     -- a write that does not pass
     unpassed : (r : Refusal) → check_and_set (over.cas_required || m.cas_required) over.current asked.cas ≡ Err r
-        → act here (Some caller) names (on_secret p (of_secret.Write asked)) ≡ Err r
+        → act here (Some caller) names (on_secret p (SecretCommand.Write asked)) ≡ Err r
     unpassed r fails =
         let answer : Result Written Refusal → Result Done Refusal =
         λ w. w >>= (λ w. Ok (plainly (reply (written_reply names.request here.clock w.custom_metadata w.number) None)
         w.next)) in
-        ap (λ (o : Option Mount). answer (some_or refusal.NotFound o
+        ap (λ (o : Option Mount). answer (some_or Refusal.NotFound o
         >>= (λ n. write_over here n name asked.cas asked.object over))) there
         ∙ ap (λ (x : Result ⊤ Refusal). answer (x
-        >>= (λ passed. unless (nat_lt over.current greatest_version) (refusal.BadRequest
-        (reason.InvalidField field.Version)))
+        >>= (λ passed. unless (nat_lt over.current greatest_version) (Refusal.BadRequest
+        (Reason.InvalidField Field.Version)))
         >>= (λ passed. Ok (written here m name asked.object over)))) fails
 
 -- the renewal of the token y, which may have no end
 abbrev renewal_by : Asking → Broker → TokenRenewal → Token → Bool → Result Done Refusal
 renewal_by a b asked y v =
-    unless v (refusal.BadRequest reason.TokenNotRenewable)
+    unless v (Refusal.BadRequest Reason.TokenNotRenewable)
     >>= (λ u. Ok (plainly (reply (auth_reply (names_of a.words).request b.clock asked.token (token_entry
     (tree.with_end (new_end b.clock (token_entry y) asked.increment) y))) None)
     (tree.renew b asked.token (new_end b.clock (token_entry y) asked.increment))))
 
 -- another number than the current one does not pass
 another_fails : (v : Bool) (current n : ℕ) → n ≢ current
-    → check_and_set v current (Some n) ≡ Err (refusal.BadRequest reason.CheckAndSetFailed)
+    → check_and_set v current (Some n) ≡ Err (Refusal.BadRequest Reason.CheckAndSetFailed)
 another_fails v current n apart = by v (n == current) refl
   where
     by : (v w : Bool) → (n == current) ≡ w
-        → check_and_set v current (Some n) ≡ Err (refusal.BadRequest reason.CheckAndSetFailed)
+        → check_and_set v current (Some n) ≡ Err (Refusal.BadRequest Reason.CheckAndSetFailed)
     by true true at = absurd (apart (eqb-true n current at))
     by false true at = absurd (apart (eqb-true n current at))
-    by true false other = ap (λ w. unless w (refusal.BadRequest reason.CheckAndSetFailed)) other
-    by false false other = ap (λ w. unless w (refusal.BadRequest reason.CheckAndSetFailed)) other
+    by true false other = ap (λ w. unless w (Refusal.BadRequest Reason.CheckAndSetFailed)) other
+    by false false other = ap (λ w. unless w (Refusal.BadRequest Reason.CheckAndSetFailed)) other
 
 module _ (decide : PoliciesDecide) (a : Asking) (is : a.outcome ≡ step a.broker a.moment a.words a.ask) where
-  fails_check : (p : Place) (asked : SecretWrite) → Asks a (on_secret p (of_secret.Write asked)) → FailsCheck a p asked
-      → IsRefusedBy a (refusal.BadRequest reason.CheckAndSetFailed)
+  fails_check : (p : Place) (asked : SecretWrite) → Asks a (on_secret p (SecretCommand.Write asked))
+      → FailsCheck a p asked
+      → IsRefusedBy a (Refusal.BadRequest Reason.CheckAndSetFailed)
   fails_check p asked h f =
-      let k = on_secret p (of_secret.Write asked) in
+      let k = on_secret p (SecretCommand.Write asked) in
       let now = (spent_by a (h.granted).caller).clock in
       let o = get (clocked a).secrets (named p) in
       why decide a is k h refl refl _
@@ -176,10 +167,11 @@ module _ (decide : PoliciesDecide) (a : Asking) (is : a.outcome ≡ step a.broke
       apart now None e = f.by_none e
       apart now (Some key) e = f.by_key key e
 
-  lacks_check : (p : Place) (asked : SecretWrite) → Asks a (on_secret p (of_secret.Write asked)) → LacksCheck a p asked
-      → IsRefusedBy a (refusal.BadRequest reason.CheckAndSetRequired)
+  lacks_check : (p : Place) (asked : SecretWrite) → Asks a (on_secret p (SecretCommand.Write asked))
+      → LacksCheck a p asked
+      → IsRefusedBy a (Refusal.BadRequest Reason.CheckAndSetRequired)
   lacks_check p asked h f =
-      let k = on_secret p (of_secret.Write asked) in
+      let k = on_secret p (SecretCommand.Write asked) in
       let now = (spent_by a (h.granted).caller).clock in
       let o = get (clocked a).secrets (named p) in
       why decide a is k h refl refl _
@@ -195,25 +187,25 @@ module _ (decide : PoliciesDecide) (a : Asking) (is : a.outcome ≡ step a.broke
           or_left (key_or_new now (get (clocked a).secrets (named p))).cas_required (f.of_mount).cas_required
           (ap (λ (o : Option Key). (key_or_new now o).cas_required) there ∙ own)
 
-  no_renewal : (asked : TokenRenewal) → Asks a (on_token (of_token.Renew asked))
-      → get (clocked a).tokens asked.token ≡ None → IsRefusedBy a (refusal.Forbidden denial.BadToken)
+  no_renewal : (asked : TokenRenewal) → Asks a (on_token (TokenCommand.Renew asked))
+      → get (clocked a).tokens asked.token ≡ None → IsRefusedBy a (Refusal.Forbidden Denial.BadToken)
   no_renewal asked h none =
-      let k = on_token (of_token.Renew asked) in
+      let k = on_token (TokenCommand.Renew asked) in
       let b = spent_by a (h.granted).caller in
       why decide a is k h refl refl _
-      (ap (λ (o : Option Token). some_or (refusal.Forbidden denial.BadToken) o
+      (ap (λ (o : Option Token). some_or (Refusal.Forbidden Denial.BadToken) o
       >>= (λ y. renewal_by a b asked y (is_some y.ends))) (no_token decide a is k h asked.token none))
 
-  ends_never : (asked : TokenRenewal) (x : Token) → Asks a (on_token (of_token.Renew asked))
+  ends_never : (asked : TokenRenewal) (x : Token) → Asks a (on_token (TokenCommand.Renew asked))
       → get (clocked a).tokens asked.token ≡ Some x → x.ends ≡ None
-      → IsRefusedBy a (refusal.BadRequest reason.TokenNotRenewable)
+      → IsRefusedBy a (Refusal.BadRequest Reason.TokenNotRenewable)
   ends_never asked x h there none =
-      let k = on_token (of_token.Renew asked) in
+      let k = on_token (TokenCommand.Renew asked) in
       let c = (h.granted).caller in
       let b = spent_by a c in
       let y = if same asked.token c then one_less x else x in
       why decide a is k h refl refl _
-      (ap (λ (o : Option Token). some_or (refusal.Forbidden denial.BadToken) o
+      (ap (λ (o : Option Token). some_or (Refusal.Forbidden Denial.BadToken) o
       >>= (λ y. renewal_by a b asked y (is_some y.ends)))
       (get-change (clocked a).tokens c one_less asked.token
       ∙ ap (option_map (λ z. if same asked.token c then one_less z else z)) there)
@@ -227,41 +219,41 @@ pub tell_why : PoliciesDecide → AllTellWhy
 tell_why decide b history h = record {
   version = λ i a p n at k lacks_.
       let is = (asked_at b history i a h at).outcome in
-      let c = on_secret p (of_secret.Read n) in
+      let c = on_secret p (SecretCommand.Read n) in
       why decide a is c k refl refl _
-      (ap (λ (o : Option Found). some_or refusal.NotFound o >>= (λ x. Ok (plainly
+      (ap (λ (o : Option Found). some_or Refusal.NotFound o >>= (λ x. Ok (plainly
       (version_answered (names_of a.words).request x) (spent_by a (k.granted).caller))))
       (not_kept decide a is c k p n lacks_));
   secret = λ i a p at k none.
       let is = (asked_at b history i a h at).outcome in
-      why decide a is (on_secret p of_secret.ShowMetadata) k refl refl _
-      (ap (λ (o : Option Key). some_or refusal.NotFound (option_map metadata_of o) >>= (λ m. Ok (plainly
+      why decide a is (on_secret p SecretCommand.ShowMetadata) k refl refl _
+      (ap (λ (o : Option Key). some_or Refusal.NotFound (option_map metadata_of o) >>= (λ m. Ok (plainly
       (reply (metadata_reply (names_of a.words).request m) None) (spent_by a (k.granted).caller)))) none);
   object = λ i a path at k none.
       let is = (asked_at b history i a h at).outcome in
-      why decide a is (on_cubbyhole path of_cubbyhole.Read) k refl refl _
-      (ap (λ (o : Option Text). some_or refusal.NotFound o >>= (λ kept. Ok (plainly
+      why decide a is (on_cubbyhole path CubbyholeCommand.Read) k refl refl _
+      (ap (λ (o : Option Text). some_or Refusal.NotFound o >>= (λ kept. Ok (plainly
       (reply (plain_reply (names_of a.words).request kept) None) (spent_by a (k.granted).caller))))
       (ap (option_and_then (λ (x : Token). get x.cubbyhole path)) ((k.granted).calls).there ∙ none));
   role = λ i a p at k none.
       let is = (asked_at b history i a h at).outcome in
-      why decide a is (on_issued p of_issued.ShowRole) k refl refl _
-      (ap (λ (o : Option Role). some_or refusal.NotFound o >>= (λ r. Ok (plainly
+      why decide a is (on_issued p IssuedCommand.ShowRole) k refl refl _
+      (ap (λ (o : Option Role). some_or Refusal.NotFound o >>= (λ r. Ok (plainly
       (reply (plain_reply (names_of a.words).request (role_object r.max_ttl r.ttl)) None)
       (spent_by a (k.granted).caller)))) none);
   policy = λ i a name at k apart none.
       let is = (asked_at b history i a h at).outcome in
-      let c = on_policy name of_policy.Show in
+      let c = on_policy name PolicyCommand.Show in
       why decide a is c k refl refl _
-      (ap (λ (o : Option Text). some_or refusal.NotFound o >>= (λ text. Ok (plainly
+      (ap (λ (o : Option Text). some_or Refusal.NotFound o >>= (λ text. Ok (plainly
       (reply (plain_reply (names_of a.words).request (policy_object name text)) None)
       (spent_by a (k.granted).caller)))) (no_text decide a is c k name apart none));
   token = λ i a t at k none.
       let is = (asked_at b history i a h at).outcome in
-      let c = on_token (of_token.LookUp t) in
+      let c = on_token (TokenCommand.LookUp t) in
       let here_ = spent_by a (k.granted).caller in
       why decide a is c k refl refl _
-      (ap (λ (o : Option Token). some_or (refusal.Forbidden denial.BadToken) o >>= (λ y. Ok (plainly
+      (ap (λ (o : Option Token). some_or (Refusal.Forbidden Denial.BadToken) o >>= (λ y. Ok (plainly
       (reply (token_reply (names_of a.words).request here_.clock t (token_entry y)) None) here_)))
       (no_token decide a is c k t none));
   renewed_token = λ i a asked at k none. no_renewal decide a (asked_at b history i a h at).outcome asked k none;
@@ -269,20 +261,20 @@ tell_why decide b history h = record {
       ends_never decide a (asked_at b history i a h at).outcome asked x k there none;
   lease = λ i a prefix lease_id at k lacks_.
       let is = (asked_at b history i a h at).outcome in
-      let c = on_lease prefix (of_lease.LookUp lease_id) in
+      let c = on_lease prefix (LeaseCommand.LookUp lease_id) in
       let here_ = spent_by a (k.granted).caller in
       why decide a is c k refl refl _
-      (ap (λ (o : Option Lease). some_or (refusal.BadRequest reason.InvalidLease) o >>= (λ l. Ok (plainly
+      (ap (λ (o : Option Lease). some_or (Refusal.BadRequest Reason.InvalidLease) o >>= (λ l. Ok (plainly
       (reply (plain_reply (names_of a.words).request
       (lease_object (shown_lease here_.clock lease_id (leases.times_of l))))
       None) here_))) (no_lease decide a is c k lease_id lacks_));
   renewed_lease = λ i a prefix asked at k lacks_.
       let is = (asked_at b history i a h at).outcome in
-      let c = on_lease prefix (of_lease.Renew asked) in
+      let c = on_lease prefix (LeaseCommand.Renew asked) in
       let here_ = spent_by a (k.granted).caller in
       let id = asked.lease_id in
       why decide a is c k refl refl _
-      (ap (λ (o : Option Lease). some_or (refusal.BadRequest reason.InvalidLease) o
+      (ap (λ (o : Option Lease). some_or (Refusal.BadRequest Reason.InvalidLease) o
       >>= (λ l. Ok (record {
         ends = leases.renewed_end here_.clock asked.increment l;
         next = leases.with_renewed here_ id asked.increment;

@@ -1,25 +1,18 @@
 -- What is answered with a wrap TTL, where the identifiers are new, has the status that it would have without.
-use Rattle.std.proofs.Common.{◌≡◌, ◌<◌, ◌||◌, ◌&&◌, ◌∷◌, if◌then◌else◌, [], List, Bool, true, false, not, nat_lt, Some}
-use Rattle.broker_model.specs.Words.{Option, None, Result, Ok, Err, is_none, ⊤, AllByRecursion, IsDistinct, list_any}
-use Rattle.broker_model.specs.Words.{refl, sym, ◌∙◌, ap, arith, lt-ltb, or_right, Text, same, same_self, Response}
-use Rattle.broker_model.specs.Words.{Broker, Map, get, Names, names_of, Answered, Done, nothing, reply, kept_text}
-use Rattle.broker_model.specs.Words.{missing, plainly, ◌>>=◌, unless, ok_step, status_code, are_new, Refusal, has}
-use Rattle.broker_model.specs.Words.{ok_inj, plain_reply, act, Command, command_of, on_cubbyhole, on_issued, on_lease}
-use Rattle.broker_model.specs.Words.{on_mount, on_policy, on_secret, on_token, on_wrapping, Outcome, Wrapped, finish}
-use Rattle.broker_model.specs.Words.{needed, response_to, unwrapped, wrap_200, permits, Request, is_wrapped, operated}
-use Rattle.broker_model.specs.Words.{request_of, step, traits, unwrapped_ask, names_needed}
-use Rattle.broker_types.specs.declared.refusal.Reason.TheVariants as reason
-use Rattle.broker_types.specs.declared.refusal.Refusal.TheVariants as refusal
-use Rattle.broker_model.specs.declared.commands.IssuedCommand.TheVariants as of_issued
-use Rattle.broker_model.specs.declared.commands.Needs.{Needs}
-use Rattle.broker_model.specs.declared.commands.Needs.TheVariants as needs
-use Rattle.broker_model.specs.declared.commands.TokenCommand.TheVariants as of_token
-use Rattle.broker_model.specs.declared.commands.WrappingCommand.TheVariants as of_responses
-use Rattle.histories.specs.Words.{AllNew, identifiers_made, IsAllowed, Asking, clocked, spent_by, answer_by}
-use Rattle.histories.specs.Words.{unwrapped_answer, PoliciesDecide}
+use Rattle.broker_model.specs.Words.{IsDistinct}
+use Rattle.histories.specs.Words.{◌≡◌, ◌<◌, ◌||◌, ◌&&◌, ◌∷◌, if◌then◌else◌, [], List, Bool, true, false, not, nat_lt}
+use Rattle.histories.specs.Words.{Some, Option, None, Result, Ok, Err, is_none, ⊤, AllByRecursion, list_any, refl, sym}
+use Rattle.histories.specs.Words.{◌∙◌, ap, arith, lt-ltb, or_right, Text, same, same_self, Response, Broker, Map, get}
+use Rattle.histories.specs.Words.{Names, names_of, Answered, Done, nothing, reply, kept_text, missing, plainly, ◌>>=◌}
+use Rattle.histories.specs.Words.{unless, ok_step, status_code, are_new, Refusal, has, ok_inj, plain_reply, act}
+use Rattle.histories.specs.Words.{Command, command_of, on_cubbyhole, on_issued, on_lease, on_mount, on_policy}
+use Rattle.histories.specs.Words.{on_secret, on_token, on_wrapping, Outcome, Wrapped, finish, needed, response_to}
+use Rattle.histories.specs.Words.{unwrapped, wrap_200, permits, Request, is_wrapped, operated, request_of, step, traits}
+use Rattle.histories.specs.Words.{unwrapped_ask, names_needed, Reason, IssuedCommand, Needs, TokenCommand}
+use Rattle.histories.specs.Words.{WrappingCommand, AllNew, identifiers_made, IsAllowed, Asking, clocked, spent_by}
+use Rattle.histories.specs.Words.{answer_by, unwrapped_answer, PoliciesDecide}
 use Rattle.histories.proofs.Carried.{carried_for, leads_to, never_wrapped}
-use Rattle.histories.proofs.Requests.{command_plain}
-use Rattle.histories.proofs.Served.{refused_code}
+use Rattle.histories.proofs.Order.{command_plain, refused_code}
 
 -- ---- new identifiers
 
@@ -55,78 +48,78 @@ module _ (a : Asking) (all : AllNew a) where
   -- those that a command needs are new
   own_new : (which : Needs) → are_new used (names_needed which names) ≡ true
   unfolding IsDistinct
-  own_new needs.Nothing = refl
-  own_new needs.Token =
+  own_new Needs.Nothing = refl
+  own_new Needs.Token =
       let token = all.differ.1.1.0 in
       one_more used names.token (names.accessor ∷ []) n.1.1.0 (token.0, tt)
       (one_more used names.accessor [] n.1.1.1.0 tt refl)
-  own_new needs.Lease =
+  own_new Needs.Lease =
       let lease = all.differ.1.1.1.1.0 in
       one_more used names.lease (names.credential ∷ []) n.1.1.1.1.0 (lease.0, tt)
       (one_more used names.credential [] n.1.1.1.1.1.0 tt refl)
-  own_new needs.WrappingToken =
+  own_new Needs.WrappingToken =
       let token = all.differ.0 in
       one_more used names.wrapping_token (names.wrapping_accessor ∷ []) n.0 (token.0, tt)
       (one_more used names.wrapping_accessor [] n.1.0 tt refl)
 
   -- also beside those of a wrapping token
-  both_new : (which : Needs) → (which ≡ needs.WrappingToken → ⊥)
+  both_new : (which : Needs) → (which ≡ Needs.WrappingToken → ⊥)
       → are_new used (names.wrapping_token ∷ names.wrapping_accessor ∷ names_needed which names) ≡ true
   unfolding IsDistinct
-  both_new needs.Nothing other = own_new needs.WrappingToken
-  both_new needs.Token other =
+  both_new Needs.Nothing other = own_new Needs.WrappingToken
+  both_new Needs.Token other =
       let token = all.differ.0 in
       let accessor = all.differ.1.0 in
       let its = names.token ∷ names.accessor ∷ [] in
       one_more used names.wrapping_token (names.wrapping_accessor ∷ its) n.0
       (token.0, (token.1.0, (token.1.1.0, tt)))
-      (one_more used names.wrapping_accessor its n.1.0 (accessor.0, (accessor.1.0, tt)) (own_new needs.Token))
-  both_new needs.Lease other =
+      (one_more used names.wrapping_accessor its n.1.0 (accessor.0, (accessor.1.0, tt)) (own_new Needs.Token))
+  both_new Needs.Lease other =
       let token = all.differ.0 in
       let accessor = all.differ.1.0 in
       let its = names.lease ∷ names.credential ∷ [] in
       one_more used names.wrapping_token (names.wrapping_accessor ∷ its) n.0
       (token.0, (token.1.1.1.0, (token.1.1.1.1.0, tt)))
-      (one_more used names.wrapping_accessor its n.1.0 (accessor.1.1.0, (accessor.1.1.1.0, tt)) (own_new needs.Lease))
-  both_new needs.WrappingToken other = absurd (other refl)
+      (one_more used names.wrapping_accessor its n.1.0 (accessor.1.1.0, (accessor.1.1.1.0, tt)) (own_new Needs.Lease))
+  both_new Needs.WrappingToken other = absurd (other refl)
 
   abbrev needed_if : Needs → Bool → List Text
   needed_if which v =
       if v then names.wrapping_token ∷ names.wrapping_accessor ∷ names_needed which names
       else names_needed which names
 
-  either : (which : Needs) → (which ≡ needs.WrappingToken → ⊥) → (v : Bool) → are_new used (needed_if which v) ≡ true
+  either : (which : Needs) → (which ≡ Needs.WrappingToken → ⊥) → (v : Bool) → are_new used (needed_if which v) ≡ true
   either which other true = both_new which other
   either which other false = own_new which
 
   abbrev q : Request Command
   q = request_of a.ask
 
-  not_nothing : needs.Nothing ≡ needs.WrappingToken → ⊥
+  not_nothing : Needs.Nothing ≡ Needs.WrappingToken → ⊥
   not_nothing e = cc
 
-  not_token : needs.Token ≡ needs.WrappingToken → ⊥
+  not_token : Needs.Token ≡ Needs.WrappingToken → ⊥
   not_token e = cc
 
-  not_lease : needs.Lease ≡ needs.WrappingToken → ⊥
+  not_lease : Needs.Lease ≡ Needs.WrappingToken → ⊥
   not_lease e = cc
 
   needed_new : (command : Command) → are_new used (needed permits traits act q names command) ≡ true
-  needed_new (on_token (of_token.Create making asked)) =
-      either needs.Token not_token (is_wrapped a.ask (on_token (of_token.Create making asked)))
-  needed_new (on_token k) = either needs.Nothing not_nothing (is_wrapped a.ask (on_token k))
-  needed_new (on_issued p of_issued.Issue) =
-      either needs.Lease not_lease (is_wrapped a.ask (on_issued p of_issued.Issue))
-  needed_new (on_issued p k) = either needs.Nothing not_nothing (is_wrapped a.ask (on_issued p k))
-  needed_new (on_wrapping (of_responses.Rewrap t)) =
-      ap (λ v. are_new used (needed_if needs.WrappingToken v))
-      (never_wrapped a (on_wrapping (of_responses.Rewrap t)) refl) ∙ own_new needs.WrappingToken
-  needed_new (on_wrapping k) = either needs.Nothing not_nothing (is_wrapped a.ask (on_wrapping k))
-  needed_new (on_cubbyhole path k) = either needs.Nothing not_nothing (is_wrapped a.ask (on_cubbyhole path k))
-  needed_new (on_secret p k) = either needs.Nothing not_nothing (is_wrapped a.ask (on_secret p k))
-  needed_new (on_policy name k) = either needs.Nothing not_nothing (is_wrapped a.ask (on_policy name k))
-  needed_new (on_mount name k) = either needs.Nothing not_nothing (is_wrapped a.ask (on_mount name k))
-  needed_new (on_lease prefix k) = either needs.Nothing not_nothing (is_wrapped a.ask (on_lease prefix k))
+  needed_new (on_token (TokenCommand.Create making asked)) =
+      either Needs.Token not_token (is_wrapped a.ask (on_token (TokenCommand.Create making asked)))
+  needed_new (on_token k) = either Needs.Nothing not_nothing (is_wrapped a.ask (on_token k))
+  needed_new (on_issued p IssuedCommand.Issue) =
+      either Needs.Lease not_lease (is_wrapped a.ask (on_issued p IssuedCommand.Issue))
+  needed_new (on_issued p k) = either Needs.Nothing not_nothing (is_wrapped a.ask (on_issued p k))
+  needed_new (on_wrapping (WrappingCommand.Rewrap t)) =
+      ap (λ v. are_new used (needed_if Needs.WrappingToken v))
+      (never_wrapped a (on_wrapping (WrappingCommand.Rewrap t)) refl) ∙ own_new Needs.WrappingToken
+  needed_new (on_wrapping k) = either Needs.Nothing not_nothing (is_wrapped a.ask (on_wrapping k))
+  needed_new (on_cubbyhole path k) = either Needs.Nothing not_nothing (is_wrapped a.ask (on_cubbyhole path k))
+  needed_new (on_secret p k) = either Needs.Nothing not_nothing (is_wrapped a.ask (on_secret p k))
+  needed_new (on_policy name k) = either Needs.Nothing not_nothing (is_wrapped a.ask (on_policy name k))
+  needed_new (on_mount name k) = either Needs.Nothing not_nothing (is_wrapped a.ask (on_mount name k))
+  needed_new (on_lease prefix k) = either Needs.Nothing not_nothing (is_wrapped a.ask (on_lease prefix k))
 
 -- ---- the status
 
@@ -204,10 +197,10 @@ module _ (decide : PoliciesDecide) (a : Asking) (is : a.outcome ≡ step a.broke
           absurd (refused_apart why bare.outcome.response (ap (λ (o : Outcome). o.response.status) left) low)
       by (Ok v) e left =
           let n = ok_step (unless (are_new here.used
-          (needed permits traits act (request_of (unwrapped_ask a.ask)) words_names command)) refusal.IdentifierUsed) _
+          (needed permits traits act (request_of (unwrapped_ask a.ask)) words_names command)) Refusal.IdentifierUsed) _
           v e in
           let m = ok_step (unless (not (traits command).must_wrap || nat_lt 0 0)
-          (refusal.BadRequest reason.WrappingRequired)) _ v n.2 in
+          (Refusal.BadRequest Reason.WrappingRequired)) _ v n.2 in
           let f = ok_step (act here who words_names command) _ v m.2 in
           by_operation command means f.0 f.1
           ∙ ap (λ (x : Wrapped). (response_to x.done.answered).status) (ok_inj f.2)
@@ -222,8 +215,8 @@ module _ (decide : PoliciesDecide) (a : Asking) (is : a.outcome ≡ step a.broke
       (decide.granted a.broker a.moment a.words (unwrapped_ask a.ask) k.caller k.own allowed_too.calls k.granted
       ∙ ap (λ (r : Result Command Refusal). finish here who
       (r >>= operated here who words_names (unwrapped_ask a.ask))) (means_too ∙ means))) low)
-  by_meaning (Ok (on_wrapping (of_responses.Wrap text))) means low =
-      by_operation (on_wrapping (of_responses.Wrap text)) means
+  by_meaning (Ok (on_wrapping (WrappingCommand.Wrap text))) means low =
+      by_operation (on_wrapping (WrappingCommand.Wrap text)) means
       (plainly (reply (plain_reply words_names.request text) None) here) refl
   by_meaning (Ok command) means low =
       by_result command means (operated here who words_names (unwrapped_ask a.ask) command) refl low

@@ -2,33 +2,17 @@
 -- the others only where what they ask for is not there or may not be made (Vault's documentation, "Tokens"; "Token auth
 -- method (API)"; "Lease, renew, and revoke"; "Response wrapping"; "/sys/policies"; "/sys/mounts"; "KV secrets engine -
 -- version 2 (API)"; "Cubbyhole secrets engine (API)"; the engine that issues credentials is this project's).
-use Rattle.std.specs.Prelude.{◌≡◌, ◌≢◌, ◌⊎◌, ◌<◌, ◌++◌, ◌∷◌, nat_eq, ℕ, List, [], Bool, true, false, Some, None, Ok, ⊤}
-use Rattle.broker_model.specs.Words.{codes, IsDistinct, starts_with, Text, same, get, Broker, Engine, Mount, Role}
-use Rattle.broker_model.specs.Words.{Waiting, IsNew, is_name, names_of, lease_of, Key, Version, status_code, Lease}
-use Rattle.broker_model.specs.Words.{Token, has, slash, is_policy, LeaseRenewal, MountCreation, SecretWrite}
-use Rattle.broker_model.specs.Words.{TokenCreation, TokenRenewal, Command, command_of, on_cubbyhole, on_issued}
-use Rattle.broker_model.specs.Words.{on_lease, on_secret, on_token, on_mount, on_policy, on_wrapping, no_content, ok}
-use Rattle.broker_model.specs.Words.{is_open, Place}
-use Rattle.std.specs.FinMap as fin
-use Rattle.broker_types.specs.declared.status.Status.TheVariants as status
-use Rattle.broker_model.specs.declared.commands.CubbyholeCommand.{CubbyholeCommand}
-use Rattle.broker_model.specs.declared.commands.CubbyholeCommand.TheVariants as cubbyhole
-use Rattle.broker_model.specs.declared.commands.IssuedCommand.{IssuedCommand}
-use Rattle.broker_model.specs.declared.commands.IssuedCommand.TheVariants as issued
-use Rattle.broker_model.specs.declared.commands.LeaseCommand.{LeaseCommand}
-use Rattle.broker_model.specs.declared.commands.LeaseCommand.TheVariants as lease
-use Rattle.broker_model.specs.declared.commands.MountCommand.TheVariants as mount
-use Rattle.broker_model.specs.declared.commands.PolicyCommand.TheVariants as policy
-use Rattle.broker_model.specs.declared.commands.SecretCommand.{SecretCommand}
-use Rattle.broker_model.specs.declared.commands.SecretCommand.TheVariants as secret
-use Rattle.broker_model.specs.declared.commands.TokenCommand.{TokenCommand}
-use Rattle.broker_model.specs.declared.commands.TokenCommand.TheVariants as token
-use Rattle.broker_model.specs.declared.commands.WrappingCommand.TheVariants as response
-use Rattle.broker_model.specs.declared.making.Making.{Making}
-use Rattle.broker_model.specs.declared.making.Making.TheVariants.{WithoutParent}
-use Rattle.histories.specs.Callers.{IsAllowed}
-use Rattle.histories.specs.Creations.{AsksNoEnd, HasRoot, HasSudo}
+use Rattle.histories.specs.Common.{◌≡◌, ◌≢◌, ◌⊎◌, ◌<◌, ◌++◌, ◌∷◌, nat_eq, ℕ, List, [], Bool, true, false, Some, None}
+use Rattle.histories.specs.Common.{Ok, ⊤, codes, IsDistinct, starts_with, Text, same, get, Broker, Engine, Mount, Role}
+use Rattle.histories.specs.Common.{Waiting, IsNew, is_name, names_of, lease_of, Key, Version, status_code, Lease, Token}
+use Rattle.histories.specs.Common.{has, slash, is_policy, LeaseRenewal, MountCreation, SecretWrite, TokenCreation}
+use Rattle.histories.specs.Common.{TokenRenewal, Command, command_of, on_cubbyhole, on_issued, on_lease, on_secret}
+use Rattle.histories.specs.Common.{on_token, on_mount, on_policy, on_wrapping, no_content, ok, is_open, Place, Status}
+use Rattle.histories.specs.Common.{WithoutParent, SecretCommand, TokenCommand, WrappingCommand, Making}
+use Rattle.histories.specs.Common.{CubbyholeCommand, IssuedCommand, LeaseCommand, MountCommand, PolicyCommand}
 use Rattle.histories.specs.History.{AreAsked, Asking, AskedAt, History, clocked}
+use Rattle.histories.specs.Creations.{AsksNoEnd, HasRoot, HasSudo}
+use Rattle.histories.specs.Callers.{IsAllowed}
 use Rattle.histories.specs.KeptResponses.{unwrapped_answer}
 use Rattle.histories.specs.Paths.{path_of}
 use Rattle.histories.specs.Settings.{MeansEngine}
@@ -39,34 +23,34 @@ use Rattle.histories.specs.Versions.{named}
 
 -- an object that has members, and a deletion
 abbrev pub cubbyhole_is_done : CubbyholeCommand → Bool
-cubbyhole_is_done (cubbyhole.Write (Some text)) = true
-cubbyhole_is_done cubbyhole.Delete = true
+cubbyhole_is_done (CubbyholeCommand.Write (Some text)) = true
+cubbyhole_is_done CubbyholeCommand.Delete = true
 cubbyhole_is_done _ = false
 
 -- a revocation by a text, or of the client token
 abbrev pub token_is_done : TokenCommand → Bool
-token_is_done (token.Revoke t) = true
-token_is_done (token.RevokeOrphan t) = true
-token_is_done token.RevokeSelf = true
+token_is_done (TokenCommand.Revoke t) = true
+token_is_done (TokenCommand.RevokeOrphan t) = true
+token_is_done TokenCommand.RevokeSelf = true
 token_is_done _ = false
 
 abbrev pub secret_is_done : SecretCommand → Bool
-secret_is_done (secret.SetSettings asked) = true
-secret_is_done secret.DeleteCurrent = true
-secret_is_done (secret.Delete ns) = true
-secret_is_done (secret.Undelete ns) = true
-secret_is_done (secret.Destroy ns) = true
-secret_is_done (secret.SetMetadata asked) = true
-secret_is_done secret.Remove = true
+secret_is_done (SecretCommand.SetSettings asked) = true
+secret_is_done SecretCommand.DeleteCurrent = true
+secret_is_done (SecretCommand.Delete ns) = true
+secret_is_done (SecretCommand.Undelete ns) = true
+secret_is_done (SecretCommand.Destroy ns) = true
+secret_is_done (SecretCommand.SetMetadata asked) = true
+secret_is_done SecretCommand.Remove = true
 secret_is_done _ = false
 
 abbrev pub lease_is_done : LeaseCommand → Bool
-lease_is_done (lease.Revoke id) = true
-lease_is_done lease.RevokeUnder = true
+lease_is_done (LeaseCommand.Revoke id) = true
+lease_is_done LeaseCommand.RevokeUnder = true
 lease_is_done _ = false
 
 abbrev pub issued_is_done : IssuedCommand → Bool
-issued_is_done issued.RemoveRole = true
+issued_is_done IssuedCommand.RemoveRole = true
 issued_is_done _ = false
 
 -- whether a command is carried out wherever it is allowed
@@ -88,7 +72,7 @@ pub record HasVersion (a : Asking) (p : Place) (asked : ℕ) : Type 0 where
   pub by_number : asked ≢ 0 → number ≡ asked
   pub by_current : asked ≡ 0 → number ≡ key.current
   pub version : Version
-  pub is_kept : fin.get key.versions number ≡ Some version
+  pub is_kept : get key.versions number ≡ Some version
   pub not_deleted : version.deleted ≡ None
   pub not_destroyed : version.secret ≢ None
 
@@ -123,19 +107,19 @@ pub record IsBelow (p : Place) (q : Text) : Type 0 where
 -- What the command shows is there: for the list of a folder, something below it. The client token and `root` always
 -- are, and so are the lists of accessors, of policies and of mounts, and whether a credential is valid.
 abbrev pub ShowsThere : Asking → Command → Type 0
-ShowsThere a (on_token token.LookUpSelf) = ⊤
-ShowsThere a (on_token (token.LookUpAccessor accessor)) = IsAccessorOf a accessor
-ShowsThere a (on_token token.ListAccessors) = ⊤
-ShowsThere a (on_lease prefix (lease.LookUp lease_id)) = HasLease a lease_id
-ShowsThere a (on_policy name policy.List) = ⊤
-ShowsThere a (on_policy name policy.Show) = (name ≡ codes "root") ⊎ (get (clocked a).policies name ≢ None)
-ShowsThere a (on_mount name mount.List) = ⊤
-ShowsThere a (on_issued place (issued.Verify credential)) = ⊤
-ShowsThere a (on_issued place issued.ShowRole) = get (clocked a).roles (named place) ≢ None
-ShowsThere a (on_secret place secret.ShowSettings) = get (clocked a).mounts place.mount ≢ None
-ShowsThere a (on_secret place secret.List) =
+ShowsThere a (on_token TokenCommand.LookUpSelf) = ⊤
+ShowsThere a (on_token (TokenCommand.LookUpAccessor accessor)) = IsAccessorOf a accessor
+ShowsThere a (on_token TokenCommand.ListAccessors) = ⊤
+ShowsThere a (on_lease prefix (LeaseCommand.LookUp lease_id)) = HasLease a lease_id
+ShowsThere a (on_policy name PolicyCommand.List) = ⊤
+ShowsThere a (on_policy name PolicyCommand.Show) = (name ≡ codes "root") ⊎ (get (clocked a).policies name ≢ None)
+ShowsThere a (on_mount name MountCommand.List) = ⊤
+ShowsThere a (on_issued place (IssuedCommand.Verify credential)) = ⊤
+ShowsThere a (on_issued place IssuedCommand.ShowRole) = get (clocked a).roles (named place) ≢ None
+ShowsThere a (on_secret place SecretCommand.ShowSettings) = get (clocked a).mounts place.mount ≢ None
+ShowsThere a (on_secret place SecretCommand.List) =
     (q : Text) × (get (clocked a).secrets q ≢ None) × IsBelow place q
-ShowsThere a (on_secret place secret.ShowMetadata) = get (clocked a).secrets (named place) ≢ None
+ShowsThere a (on_secret place SecretCommand.ShowMetadata) = get (clocked a).secrets (named place) ≢ None
 ShowsThere a _ = ⊥
 
 -- ---- what is new
@@ -170,12 +154,12 @@ pub record MayEnable (a : Asking) (name : Text) (asked : MountCreation) : Type 0
 
 -- The names and the text are of the right form, and what is fixed stays.
 abbrev pub MayChange : Asking → Command → Type 0
-MayChange a (on_policy name (policy.Set text)) =
+MayChange a (on_policy name (PolicyCommand.Set text)) =
     (is_name name ≡ true) × (name ≢ codes "root") × (is_policy text ≡ true)
-MayChange a (on_policy name policy.Remove) = (name ≢ codes "root") × (name ≢ codes "default")
-MayChange a (on_issued place (issued.SetRole asked)) = is_name place.path ≡ true
-MayChange a (on_mount name (mount.Enable asked)) = MayEnable a name asked
-MayChange a (on_mount name mount.Disable) =
+MayChange a (on_policy name PolicyCommand.Remove) = (name ≢ codes "root") × (name ≢ codes "default")
+MayChange a (on_issued place (IssuedCommand.SetRole asked)) = is_name place.path ≡ true
+MayChange a (on_mount name (MountCommand.Enable asked)) = MayEnable a name asked
+MayChange a (on_mount name MountCommand.Disable) =
     (name ≢ codes "sys") × (name ≢ codes "auth") × (name ≢ codes "cubbyhole")
 MayChange a _ = ⊥
 
@@ -209,7 +193,7 @@ pub record DoesAllowed (history : History) : Type 0 where
       → command_of (clocked a).mounts a.ask ≡ Ok command → is_done command ≡ true → a.outcome.response ≡ no_content
   -- So are a revocation by an accessor that is there, and a change of a policy, a role or a mount that may be made.
   pub revokes_accessor : (i : ℕ) (a : Asking) (accessor : Text) → AskedAt history i a → IsAllowed a
-      → a.ask.wrap_ttl ≡ 0 → command_of (clocked a).mounts a.ask ≡ Ok (on_token (token.RevokeAccessor accessor))
+      → a.ask.wrap_ttl ≡ 0 → command_of (clocked a).mounts a.ask ≡ Ok (on_token (TokenCommand.RevokeAccessor accessor))
       → HasAccessor a accessor → a.outcome.response ≡ no_content
   pub changes : (i : ℕ) (a : Asking) (command : Command) → AskedAt history i a → IsAllowed a → a.ask.wrap_ttl ≡ 0
       → command_of (clocked a).mounts a.ask ≡ Ok command → MayChange a command → a.outcome.response ≡ no_content
@@ -220,64 +204,67 @@ pub record DoesAllowed (history : History) : Type 0 where
   -- An unwrap of a response that waits, if it is allowed or needs no caller, hands it out, also with a wrap TTL.
   pub unwraps : (i : ℕ) (a : Asking) (t : Text) (w : Waiting) → AskedAt history i a
       → (is_open a.ask ≡ true) ⊎ IsAllowed a
-      → command_of (clocked a).mounts a.ask ≡ Ok (on_wrapping (response.Unwrap (Some t)))
+      → command_of (clocked a).mounts a.ask ≡ Ok (on_wrapping (WrappingCommand.Unwrap (Some t)))
       → get (clocked a).waiting t ≡ Some w → a.outcome.response ≡ ok w.reply
   -- So a look-up of it is a 200, and a rewrap with new identifiers.
   pub looks_up_response : (i : ℕ) (a : Asking) (t : Text) (w : Waiting) → AskedAt history i a
       → (is_open a.ask ≡ true) ⊎ IsAllowed a
-      → command_of (clocked a).mounts a.ask ≡ Ok (on_wrapping (response.LookUp (Some t)))
-      → get (clocked a).waiting t ≡ Some w → a.outcome.response.status ≡ status.Success
+      → command_of (clocked a).mounts a.ask ≡ Ok (on_wrapping (WrappingCommand.LookUp (Some t)))
+      → get (clocked a).waiting t ≡ Some w → a.outcome.response.status ≡ Status.Success
   pub rewraps : (i : ℕ) (a : Asking) (t : Text) (w : Waiting) → AskedAt history i a
       → (is_open a.ask ≡ true) ⊎ IsAllowed a
-      → command_of (clocked a).mounts a.ask ≡ Ok (on_wrapping (response.Rewrap (Some t)))
+      → command_of (clocked a).mounts a.ask ≡ Ok (on_wrapping (WrappingCommand.Rewrap (Some t)))
       → get (clocked a).waiting t ≡ Some w
       → AreNew a (names_of a.words).wrapping_token (names_of a.words).wrapping_accessor
-      → a.outcome.response.status ≡ status.Success
+      → a.outcome.response.status ≡ Status.Success
   -- A read of a version that is there is a 200.
   pub reads : (i : ℕ) (a : Asking) (p : Place) (n : ℕ) → AskedAt history i a → IsAllowed a → a.ask.wrap_ttl ≡ 0
-      → command_of (clocked a).mounts a.ask ≡ Ok (on_secret p (secret.Read n)) → HasVersion a p n
-      → a.outcome.response.status ≡ status.Success
+      → command_of (clocked a).mounts a.ask ≡ Ok (on_secret p (SecretCommand.Read n)) → HasVersion a p n
+      → a.outcome.response.status ≡ Status.Success
   -- So is a write that check-and-set lets pass.
   pub writes : (i : ℕ) (a : Asking) (p : Place) (asked : SecretWrite) → AskedAt history i a → IsAllowed a
-      → a.ask.wrap_ttl ≡ 0 → command_of (clocked a).mounts a.ask ≡ Ok (on_secret p (secret.Write asked))
-      → MayWrite a p asked → a.outcome.response.status ≡ status.Success
+      → a.ask.wrap_ttl ≡ 0 → command_of (clocked a).mounts a.ask ≡ Ok (on_secret p (SecretCommand.Write asked))
+      → MayWrite a p asked → a.outcome.response.status ≡ Status.Success
   -- So is a look-up of a token that is there, and a renewal of one that has an end.
   pub looks_up : (i : ℕ) (a : Asking) (t : Text) → AskedAt history i a → IsAllowed a → a.ask.wrap_ttl ≡ 0
-      → command_of (clocked a).mounts a.ask ≡ Ok (on_token (token.LookUp t)) → get (clocked a).tokens t ≢ None
-      → a.outcome.response.status ≡ status.Success
+      → command_of (clocked a).mounts a.ask ≡ Ok (on_token (TokenCommand.LookUp t)) → get (clocked a).tokens t ≢ None
+      → a.outcome.response.status ≡ Status.Success
   pub renews : (i : ℕ) (a : Asking) (asked : TokenRenewal) (x : Token) → AskedAt history i a → IsAllowed a
-      → a.ask.wrap_ttl ≡ 0 → command_of (clocked a).mounts a.ask ≡ Ok (on_token (token.Renew asked))
-      → get (clocked a).tokens asked.token ≡ Some x → x.ends ≢ None → a.outcome.response.status ≡ status.Success
+      → a.ask.wrap_ttl ≡ 0 → command_of (clocked a).mounts a.ask ≡ Ok (on_token (TokenCommand.Renew asked))
+      → get (clocked a).tokens asked.token ≡ Some x → x.ends ≢ None → a.outcome.response.status ≡ Status.Success
   -- So is a renewal of the client token, if it has an end, and one of a lease that a token has.
   pub renews_self : (i : ℕ) (a : Asking) (increment : ℕ) → AskedAt history i a → (k : IsAllowed a)
-      → a.ask.wrap_ttl ≡ 0 → command_of (clocked a).mounts a.ask ≡ Ok (on_token (token.RenewSelf increment))
-      → k.own.ends ≢ None → a.outcome.response.status ≡ status.Success
+      → a.ask.wrap_ttl ≡ 0 → command_of (clocked a).mounts a.ask ≡ Ok (on_token (TokenCommand.RenewSelf increment))
+      → k.own.ends ≢ None → a.outcome.response.status ≡ Status.Success
   pub renews_lease : (i : ℕ) (a : Asking) (prefix : Text) (asked : LeaseRenewal) → AskedAt history i a
       → IsAllowed a → a.ask.wrap_ttl ≡ 0
-      → command_of (clocked a).mounts a.ask ≡ Ok (on_lease prefix (lease.Renew asked)) → HasLease a asked.lease_id
-      → a.outcome.response.status ≡ status.Success
+      → command_of (clocked a).mounts a.ask ≡ Ok (on_lease prefix (LeaseCommand.Renew asked))
+      → HasLease a asked.lease_id
+      → a.outcome.response.status ≡ Status.Success
   -- So is a creation that may be made, with new identifiers.
   pub creates : (i : ℕ) (a : Asking) (making : Making) (asked : TokenCreation) → AskedAt history i a
       → (k : IsAllowed a) → a.ask.wrap_ttl ≡ 0
-      → command_of (clocked a).mounts a.ask ≡ Ok (on_token (token.Create making asked)) → MayCreate a k making asked
-      → AreNew a (names_of a.words).token (names_of a.words).accessor → a.outcome.response.status ≡ status.Success
+      → command_of (clocked a).mounts a.ask ≡ Ok (on_token (TokenCommand.Create making asked))
+      → MayCreate a k making asked
+      → AreNew a (names_of a.words).token (names_of a.words).accessor → a.outcome.response.status ≡ Status.Success
   -- So are `creds` of a role that is there, with new identifiers, unless the client token has spent its last use.
   pub issues : (i : ℕ) (a : Asking) (p : Place) (r : Role) → AskedAt history i a → (k : IsAllowed a)
-      → a.ask.wrap_ttl ≡ 0 → command_of (clocked a).mounts a.ask ≡ Ok (on_issued p issued.Issue)
+      → a.ask.wrap_ttl ≡ 0 → command_of (clocked a).mounts a.ask ≡ Ok (on_issued p IssuedCommand.Issue)
       → get (clocked a).roles (named p) ≡ Some r → k.own.uses_left ≢ Some 0
-      → AreNew a (names_of a.words).lease (names_of a.words).credential → a.outcome.response.status ≡ status.Success
+      → AreNew a (names_of a.words).lease (names_of a.words).credential → a.outcome.response.status ≡ Status.Success
   -- So are the lists and look-ups of what else is there.
   pub shows : (i : ℕ) (a : Asking) (command : Command) → AskedAt history i a → IsAllowed a → a.ask.wrap_ttl ≡ 0
       → command_of (clocked a).mounts a.ask ≡ Ok command → ShowsThere a command
-      → a.outcome.response.status ≡ status.Success
+      → a.outcome.response.status ≡ Status.Success
   -- And so are a read of an object that is in the cubbyhole of the client token, and a list of a folder there.
   pub reads_own : (i : ℕ) (a : Asking) (path : Text) → AskedAt history i a → (k : IsAllowed a) → a.ask.wrap_ttl ≡ 0
-      → command_of (clocked a).mounts a.ask ≡ Ok (on_cubbyhole path cubbyhole.Read)
-      → get k.own.cubbyhole path ≢ None → a.outcome.response.status ≡ status.Success
+      → command_of (clocked a).mounts a.ask ≡ Ok (on_cubbyhole path CubbyholeCommand.Read)
+      → get k.own.cubbyhole path ≢ None → a.outcome.response.status ≡ Status.Success
   pub lists_own : (i : ℕ) (a : Asking) (path q : Text) → AskedAt history i a → (k : IsAllowed a) → a.ask.wrap_ttl ≡ 0
-      → command_of (clocked a).mounts a.ask ≡ Ok (on_cubbyhole path cubbyhole.List) → get k.own.cubbyhole q ≢ None
+      → command_of (clocked a).mounts a.ask ≡ Ok (on_cubbyhole path CubbyholeCommand.List)
+      → get k.own.cubbyhole q ≢ None
       → (path ≡ []) ⊎ (starts_with nat_eq q (path ++ slash ∷ []) ≡ true)
-      → a.outcome.response.status ≡ status.Success
+      → a.outcome.response.status ≡ Status.Success
 
 -- whatever the first broker is
 abbrev pub AllDoAllowed : Type 0

@@ -1,6 +1,5 @@
 -- The law of who is served, as a statement (Vault's documentation, "Policies"; "Tokens"; "Response wrapping").
-use Rattle.std.specs.Prelude.{◌≡◌, ◌⊎◌, ℕ, true, false}
-use Rattle.broker_model.specs.Words.{Text, without, Broker, Token, is_open}
+use Rattle.histories.specs.Common.{◌≡◌, ◌⊎◌, ℕ, true, false, Text, without, Broker, Token, is_open}
 use Rattle.histories.specs.History.{AreAsked, Asking, AskedAt, History, clocked, spent_by}
 use Rattle.histories.specs.Refused.{Calls, HasNoCaller, HasResponse, IsDenial, IsDenied, is_granted}
 

@@ -1,18 +1,14 @@
 -- The law of who may make which token, as a statement (Vault's documentation, "Token auth method (API)", create token;
 -- "Tokens", token hierarchies and orphan tokens, root tokens, periodic tokens; what `sudo` allows is this project's).
-use Rattle.std.specs.Prelude.{◌≡◌, ◌≢◌, ◌⊎◌, ◌<◌, ◌+◌, ◌-◌, ◌∷◌, ℕ, min, [], true, false, Some, None, Ok, is_none}
-use Rattle.broker_model.specs.Words.{is_some, unwrap_or, codes, from_entries, option_map_or, Text, entries, get}
-use Rattle.broker_model.specs.Words.{names_of, Token, Broker, Reply, are_bytes, IsGranted, Sudo, has, auth_object}
-use Rattle.broker_model.specs.Words.{reply_text, TokenCreation, AuthObject, command_of, on_token, ok}
-use Rattle.broker_types.specs.declared.ask.Verb.TheVariants as verb
-use Rattle.broker_types.specs.declared.status.Status.TheVariants as status
-use Rattle.broker_model.specs.declared.commands.TokenCommand.TheVariants as token
-use Rattle.broker_model.specs.declared.making.Making.{Making}
-use Rattle.broker_model.specs.declared.making.Making.TheVariants.{WithoutParent}
+use Rattle.broker_model.specs.Words.{is_some, Reply, IsGranted, AuthObject}
+use Rattle.histories.specs.Common.{◌≡◌, ◌≢◌, ◌⊎◌, ◌<◌, ◌+◌, ◌-◌, ◌∷◌, ℕ, min, [], true, false, Some, None, Ok, is_none}
+use Rattle.histories.specs.Common.{unwrap_or, codes, from_entries, option_map_or, Text, entries, get, names_of, Token}
+use Rattle.histories.specs.Common.{Broker, are_bytes, Sudo, has, auth_object, reply_text, TokenCreation, command_of}
+use Rattle.histories.specs.Common.{on_token, ok, Verb, Status, WithoutParent, TokenCommand, Making}
 use Rattle.histories.specs.History.{Asking, AskedAt, History, clocked}
 use Rattle.histories.specs.KeptResponses.{telling_body, unwrapped_body}
-use Rattle.histories.specs.Paths.{path_of}
 use Rattle.histories.specs.Revocation.{IsMade, WasToken}
+use Rattle.histories.specs.Paths.{path_of}
 
 -- a token of the policy `root`
 abbrev pub HasRoot : Token → Type 0
@@ -20,7 +16,7 @@ HasRoot x = has x.policies (codes "root") ≡ true
 
 -- A policy of the token names `sudo` for POST and PUT of the path, and none denies it.
 abbrev pub HasSudo : Broker → Token → Text → Type 0
-HasSudo b x path = IsGranted b.policies x.policies verb.Write path Sudo
+HasSudo b x path = IsGranted b.policies x.policies Verb.Write path Sudo
 
 -- The token y has no policy that x has not, has no period, and is the child of the caller c, unless it was asked for at
 -- the path that makes tokens without parent.
@@ -75,7 +71,7 @@ pub record MightMake (a : Asking) (q : Text) (y : Token) : Type 0 where
   pub allowed : HasRoot own
       ⊎ (HasSudo (clocked a) own (path_of made.making) ⊎ IsWithin made.caller made.making own y)
   -- that path is the one that was asked, by POST or PUT, if that is of bytes
-  pub path : are_bytes a.ask.path ≡ true → (a.ask.verb ≡ verb.Write) × (a.ask.path ≡ path_of made.making)
+  pub path : are_bytes a.ask.path ≡ true → (a.ask.verb ≡ Verb.Write) × (a.ask.path ≡ path_of made.making)
   -- `root` comes from `root` alone
   pub root : HasRoot y → HasRoot own
   -- and a token without end from one without end
@@ -136,5 +132,5 @@ pub record MadeAsAllowed (history : History) : Type 0 where
       → get a.outcome.next.tokens q ≡ Some y → WasToken a q y ⊎ MightMake a q y
   -- And each 200 to a creation made one.
   pub given : (i : ℕ) (a : Asking) (making : Making) (asked : TokenCreation) → AskedAt history i a
-      → command_of (clocked a).mounts a.ask ≡ Ok (on_token (token.Create making asked))
-      → a.outcome.response.status ≡ status.Success → GivesToken a
+      → command_of (clocked a).mounts a.ask ≡ Ok (on_token (TokenCommand.Create making asked))
+      → a.outcome.response.status ≡ Status.Success → GivesToken a

@@ -1,16 +1,14 @@
 -- The law of a mount that is disabled, as a statement (Vault's documentation, "/sys/mounts", disable secrets engine).
-use Rattle.std.specs.Prelude.{◌≡◌, ◌≢◌, ◌⊎◌, ℕ, true, false, None, Ok}
-use Rattle.broker_model.specs.Words.{Text, get, Broker, lease_of, on_mount, command_of}
-use Rattle.broker_types.specs.declared.status.Status.TheVariants as status
-use Rattle.broker_model.specs.declared.commands.MountCommand.TheVariants as mount
+use Rattle.histories.specs.Common.{◌≡◌, ◌≢◌, ◌⊎◌, ℕ, true, false, None, Ok, Text, get, Broker, lease_of, on_mount}
+use Rattle.histories.specs.Common.{command_of, Status, MountCommand}
 use Rattle.histories.specs.History.{AreAsked, Asking, AskedAt, History, clocked}
 use Rattle.histories.specs.LeaseEnds.{is_below}
 
 -- the request was a 204 to the disabling of the mount, which was there
 pub record Disables (a : Asking) (name : Text) : Type 0 where
-  pub means : command_of (clocked a).mounts a.ask ≡ Ok (on_mount name mount.Disable)
+  pub means : command_of (clocked a).mounts a.ask ≡ Ok (on_mount name MountCommand.Disable)
   pub there : get (clocked a).mounts name ≢ None
-  pub answered : a.outcome.response.status ≡ status.NoContent
+  pub answered : a.outcome.response.status ≡ Status.NoContent
 
 -- Nothing is left of the mount: no secret, no role and no lease, whichever token had it.
 pub record LeavesNothing (b : Broker) (name : Text) : Type 0 where

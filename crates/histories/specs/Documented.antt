@@ -1,16 +1,12 @@
 -- What permission, look-ups and lists are to be by the documentation, in its words, as statements (Vault's
 -- documentation, "Policies", root policy, capabilities, root-protected API endpoints; "Token auth method (API)", look
 -- up by accessor; "KV secrets engine - version 2 (API)" and "Cubbyhole secrets engine (API)", list secrets).
-use Rattle.std.specs.Prelude.{◌≡◌, ◌⊎◌, ◌++◌, ◌∷◌, ℕ, List, [], Contains, true, codes, Some, None, Ok}
-use Rattle.broker_model.specs.Words.{lookup, Text, same, Map, empty, get, Broker, Names, Done, Token, Verb}
-use Rattle.broker_model.specs.Words.{is_ascending, children, has, lacks, slash, object_at, key_at, Route, asks_sudo}
-use Rattle.broker_model.specs.Words.{route_of, Cubbyholes, Secrets, grants, pattern_of, word_named, Capability, Word}
-use Rattle.broker_model.specs.Words.{Deny, Grant, Patch, Exact, Prefix, find_accessor, asked, permits, act_on_tokens}
-use Rattle.broker_types.specs.declared.ask.Verb.TheVariants as verb
-use Rattle.mounts.specs.declared.operation.CubbyholeOperation.TheVariants as cubbyhole
-use Rattle.mounts.specs.declared.operation.SecretOperation.TheVariants as secret
-use Rattle.policies.specs.declared.capability.Capability.TheVariants as capability
-use Rattle.broker_model.specs.declared.commands.TokenCommand.TheVariants as token
+use Rattle.broker_model.specs.Words.{lookup, empty, Done, is_ascending, key_at, Route, route_of, Cubbyholes, Secrets}
+use Rattle.broker_model.specs.Words.{pattern_of, word_named, Capability, Word, Deny, Grant, Patch, Exact, Prefix}
+use Rattle.broker_model.specs.Words.{find_accessor, permits, act_on_tokens, CubbyholeOperation}
+use Rattle.histories.specs.Common.{◌≡◌, ◌⊎◌, ◌++◌, ◌∷◌, ℕ, List, [], Contains, true, codes, Some, None, Ok, Text, same}
+use Rattle.histories.specs.Common.{Map, get, Broker, Names, Token, Verb, children, has, lacks, slash, object_at}
+use Rattle.histories.specs.Common.{asks_sudo, grants, asked, SecretOperation, TokenCommand}
 
 -- ---- root
 
@@ -27,20 +23,20 @@ pub record RootAlone : Type 0 where
 -- The path leads to a write of an object of a cubbyhole that is not there, by the caller c, or of a secret that is not.
 abbrev pub MakesAnew : Broker → Text → Text → Type 0
 MakesAnew b c path =
-    ((r : Route) × (route_of b.mounts verb.Write path ≡ Ok r) × (r.operation ≡ Cubbyholes cubbyhole.Write)
+    ((r : Route) × (route_of b.mounts Verb.Write path ≡ Ok r) × (r.operation ≡ Cubbyholes CubbyholeOperation.Write)
     × (object_at b c r.parameter ≡ None))
-    ⊎ ((r : Route) × (route_of b.mounts verb.Write path ≡ Ok r) × (r.operation ≡ Secrets secret.Write)
+    ⊎ ((r : Route) × (route_of b.mounts Verb.Write path ≡ Ok r) × (r.operation ≡ Secrets SecretOperation.Write)
     × (key_at b r.mount r.parameter ≡ None))
 
 -- What a caller asks for: GET for `read`, LIST for `list`, DELETE for `delete`; POST and PUT for `create` exactly where
 -- they make anew an object of a cubbyhole or a secret, and else for `update`.
 pub record AsksByVerb (b : Broker) (c path : Text) : Type 0 where
-  pub get : asked b c verb.Get path ≡ capability.Read
-  pub list : asked b c verb.List path ≡ capability.List
-  pub delete : asked b c verb.Delete path ≡ capability.Delete
-  pub write : (asked b c verb.Write path ≡ capability.Update) ⊎ (asked b c verb.Write path ≡ capability.Create)
-  pub anew : asked b c verb.Write path ≡ capability.Create → MakesAnew b c path
-  pub create : MakesAnew b c path → asked b c verb.Write path ≡ capability.Create
+  pub get : asked b c Verb.Get path ≡ Capability.Read
+  pub list : asked b c Verb.List path ≡ Capability.List
+  pub delete : asked b c Verb.Delete path ≡ Capability.Delete
+  pub write : (asked b c Verb.Write path ≡ Capability.Update) ⊎ (asked b c Verb.Write path ≡ Capability.Create)
+  pub anew : asked b c Verb.Write path ≡ Capability.Create → MakesAnew b c path
+  pub create : MakesAnew b c path → asked b c Verb.Write path ≡ Capability.Create
 
 -- ---- sudo
 
@@ -58,7 +54,7 @@ pub record SudoAlone : Type 0 where
 abbrev pub SudoIsNeeded : Type 0
 SudoIsNeeded =
     (b : Broker) (c : Text) (v : Verb) (path : Text) → permits b (Some c) v path ≡ true → asks_sudo path ≡ true
-    → (x : Token) × (get b.tokens c ≡ Some x) × (grants b.policies x.policies v path capability.Sudo ≡ true)
+    → (x : Token) × (get b.tokens c ≡ Some x) × (grants b.policies x.policies v path Capability.Sudo ≡ true)
 
 -- ---- words and patterns
 
@@ -66,9 +62,9 @@ SudoIsNeeded =
 abbrev pub capability_words : List (Text × Word)
 capability_words =
     (codes "deny", Deny) ∷ (codes "patch", Patch)
-    ∷ (codes "create", Grant capability.Create) ∷ (codes "read", Grant capability.Read)
-    ∷ (codes "update", Grant capability.Update) ∷ (codes "delete", Grant capability.Delete)
-    ∷ (codes "list", Grant capability.List) ∷ (codes "sudo", Grant capability.Sudo) ∷ []
+    ∷ (codes "create", Grant Capability.Create) ∷ (codes "read", Grant Capability.Read)
+    ∷ (codes "update", Grant Capability.Update) ∷ (codes "delete", Grant Capability.Delete)
+    ∷ (codes "list", Grant Capability.List) ∷ (codes "sudo", Grant Capability.Sudo) ∷ []
 
 -- These texts mean these words, and no other text is one. A path that ends in `*` is a prefix, and any other is itself.
 pub record PoliciesAreRead : Type 0 where
@@ -85,8 +81,8 @@ AccessorsHideTokens =
     (b d : Broker) (caller other : Text) (names : Names) (accessor t u : Text) (x : Token) (done next : Done)
     → b.clock ≡ d.clock → find_accessor b accessor ≡ Some t → find_accessor d accessor ≡ Some u
     → get b.tokens t ≡ Some x → get d.tokens u ≡ Some x
-    → act_on_tokens b caller names (token.LookUpAccessor accessor) ≡ Ok done
-    → act_on_tokens d other names (token.LookUpAccessor accessor) ≡ Ok next → done.answered ≡ next.answered
+    → act_on_tokens b caller names (TokenCommand.LookUpAccessor accessor) ≡ Ok done
+    → act_on_tokens d other names (TokenCommand.LookUpAccessor accessor) ≡ Ok next → done.answered ≡ next.answered
 
 -- ---- lists
 

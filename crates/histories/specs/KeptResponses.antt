@@ -1,14 +1,10 @@
 -- The laws of responses that were kept, as statements: each is handed out once, by an unwrap, and is the reply that was
 -- kept (Vault's documentation, "Response wrapping").
-use Rattle.std.specs.Prelude.{◌≡◌, ◌≢◌, ◌<◌, ◌≤◌, ◌⊎◌, ◌+◌, ℕ, max, List, [], Bool, true, false, Option, Some, None, Ok}
-use Rattle.broker_model.specs.Words.{Result, Err, Text, IsRefused, Response, get, Broker, Waiting, Names, names_of}
-use Rattle.broker_model.specs.Words.{token_text, Refusal, body_members, waiting_object, wrap_object, plain_reply}
-use Rattle.broker_model.specs.Words.{reply_text, wrap_reply, Command, on_wrapping, command_of, wrap_info, ok, is_open}
-use Rattle.broker_model.specs.Words.{step, unwrapped_ask}
-use Rattle.serde_json.specs.Data.{Members, object}
-use Rattle.serde_json.specs.Written.{compact_text}
-use Rattle.broker_types.specs.declared.status.Status.TheVariants as status
-use Rattle.broker_model.specs.declared.commands.WrappingCommand.TheVariants as response
+use Rattle.broker_model.specs.Words.{Err, waiting_object, wrap_object, wrap_reply, wrap_info, unwrapped_ask}
+use Rattle.histories.specs.Common.{◌≡◌, ◌≢◌, ◌<◌, ◌≤◌, ◌⊎◌, ◌+◌, Members, object, compact_text, ℕ, max, List, [], Bool}
+use Rattle.histories.specs.Common.{true, false, Option, Some, None, Ok, Result, Text, IsRefused, Response, get, Broker}
+use Rattle.histories.specs.Common.{Waiting, Names, names_of, token_text, Refusal, body_members, plain_reply, reply_text}
+use Rattle.histories.specs.Common.{Command, on_wrapping, command_of, ok, is_open, step, Status, WrappingCommand}
 use Rattle.histories.specs.History.{Asking, AskedAt, History, clocked}
 use Rattle.histories.specs.Revocation.{Revokes, RevokesAlone}
 
@@ -16,8 +12,8 @@ use Rattle.histories.specs.Revocation.{Revokes, RevokesAlone}
 
 -- The request was a 200 to an unwrap of the wrapping token t, and the response that waited there has the origin o.
 pub record Unwraps (a : Asking) (t o : Text) : Type 0 where
-  pub means : command_of (clocked a).mounts a.ask ≡ Ok (on_wrapping (response.Unwrap (Some t)))
-  pub success : a.outcome.response.status ≡ status.Success
+  pub means : command_of (clocked a).mounts a.ask ≡ Ok (on_wrapping (WrappingCommand.Unwrap (Some t)))
+  pub success : a.outcome.response.status ≡ Status.Success
   pub entry : Waiting
   pub waited : get (clocked a).waiting t ≡ Some entry
   pub origin : entry.origin ≡ o
@@ -29,8 +25,8 @@ pub record HasAsClient (a : Asking) (t : Text) : Type 0 where
 
 -- the request was a 200 to a rewrap of the wrapping token t
 pub record Rewraps (a : Asking) (t : Text) : Type 0 where
-  pub means : command_of (clocked a).mounts a.ask ≡ Ok (on_wrapping (response.Rewrap (Some t)))
-  pub success : a.outcome.response.status ≡ status.Success
+  pub means : command_of (clocked a).mounts a.ask ≡ Ok (on_wrapping (WrappingCommand.Rewrap (Some t)))
+  pub success : a.outcome.response.status ≡ Status.Success
 
 -- The request took the wrapping token t out, under which a response waited: it spent it as client token, revoked it by
 -- its text or its accessor, or rewrapped it.
@@ -78,8 +74,8 @@ pub record Tells (a : Asking) (meant : Option Text) (text : Waiting → Text) : 
 pub record HandedOutOnce (history : History) : Type 0 where
   -- Each 200 to an unwrap hands out a response that waited under the wrapping token that was meant.
   pub each : (i : ℕ) (a : Asking) (meant : Option Text) → AskedAt history i a
-      → command_of (clocked a).mounts a.ask ≡ Ok (on_wrapping (response.Unwrap meant))
-      → a.outcome.response.status ≡ status.Success
+      → command_of (clocked a).mounts a.ask ≡ Ok (on_wrapping (WrappingCommand.Unwrap meant))
+      → a.outcome.response.status ≡ Status.Success
       → (t : Text) × (o : Text) × (meant ≡ Some t) × Unwraps a t o
   -- For each origin at most one event hands out its response, whatever rewraps came between.
   pub once : (i j : ℕ) (a x : Asking) (t u o : Text) → AskedAt history i a → Unwraps a t o → AskedAt history j x
@@ -106,13 +102,13 @@ pub record HandedOutOnce (history : History) : Type 0 where
   -- byte for byte. Those to the two others have of what waited no more than its path, its TTL and, for a look-up, when
   -- its wrapping token was made. So they don't depend on the text.
   pub unwraps : (i : ℕ) (a : Asking) (meant : Option Text) → AskedAt history i a
-      → command_of (clocked a).mounts a.ask ≡ Ok (on_wrapping (response.Unwrap meant))
+      → command_of (clocked a).mounts a.ask ≡ Ok (on_wrapping (WrappingCommand.Unwrap meant))
       → IsRefused a.outcome.response ⊎ Tells a meant (λ w. w.reply)
   pub looks_up : (i : ℕ) (a : Asking) (meant : Option Text) → AskedAt history i a
-      → command_of (clocked a).mounts a.ask ≡ Ok (on_wrapping (response.LookUp meant))
+      → command_of (clocked a).mounts a.ask ≡ Ok (on_wrapping (WrappingCommand.LookUp meant))
       → IsRefused a.outcome.response ⊎ Tells a meant (looked_up_text a)
   pub rewraps : (i : ℕ) (a : Asking) (meant : Option Text) → AskedAt history i a
-      → command_of (clocked a).mounts a.ask ≡ Ok (on_wrapping (response.Rewrap meant))
+      → command_of (clocked a).mounts a.ask ≡ Ok (on_wrapping (WrappingCommand.Rewrap meant))
       → IsRefused a.outcome.response ⊎ Tells a meant (rewrapped_text a)
 
 -- ---- the same reply
@@ -125,7 +121,7 @@ object_text (Err r) = []
 -- The answer: that to an ask to wrap, whose step is refused, would be a 200 with the object of the ask's body as its
 -- data; that to another is what its step answers.
 abbrev pub answer_by : Names → List ℕ → Response → Result Command Refusal → Response
-answer_by names body answer (Ok (on_wrapping (response.Wrap wrapped))) =
+answer_by names body answer (Ok (on_wrapping (WrappingCommand.Wrap wrapped))) =
     ok (reply_text (plain_reply names.request (object_text (body_members body))))
 answer_by names body answer _ = answer
 
@@ -171,9 +167,9 @@ pub record KeepsReply (a : Asking) (text o : Text) : Type 0 where
 
 -- whether the reply to the command is never wrapped: that to a look-up, a rewrap or an unwrap
 abbrev pub stays_plain : Command → Bool
-stays_plain (on_wrapping (response.LookUp meant)) = true
-stays_plain (on_wrapping (response.Rewrap meant)) = true
-stays_plain (on_wrapping (response.Unwrap meant)) = true
+stays_plain (on_wrapping (WrappingCommand.LookUp meant)) = true
+stays_plain (on_wrapping (WrappingCommand.Rewrap meant)) = true
+stays_plain (on_wrapping (WrappingCommand.Unwrap meant)) = true
 stays_plain _ = false
 
 -- The answer of event j is 200 with the body that an earlier event would have been answered, as a 200 too; that event
@@ -208,7 +204,7 @@ pub record HandsOutKept (b : Broker) (history : History) : Type 0 where
   -- without the wrap TTL is kept as the reply, and the answer tells the wrapping token in its place.
   pub wraps : (i : ℕ) (a : Asking) (command : Command) → AskedAt history i a → 0 < a.ask.wrap_ttl
       → command_of (clocked a).mounts a.ask ≡ Ok command → stays_plain command ≡ false
-      → a.outcome.response.status ≡ status.Success
+      → a.outcome.response.status ≡ Status.Success
       → KeepsReply a (unwrapped_body a) (names_of a.words).wrapping_token
 
 -- From a start on, where nothing waits yet:
@@ -224,5 +220,5 @@ pub record SameReply (history : History) : Type 0 where
   -- without the wrap TTL is kept as the reply, and the answer tells the wrapping token in its place.
   pub wraps : (i : ℕ) (a : Asking) (command : Command) → AskedAt history i a → 0 < a.ask.wrap_ttl
       → command_of (clocked a).mounts a.ask ≡ Ok command → stays_plain command ≡ false
-      → a.outcome.response.status ≡ status.Success
+      → a.outcome.response.status ≡ Status.Success
       → KeepsReply a (unwrapped_body a) (names_of a.words).wrapping_token

@@ -1,6 +1,5 @@
 -- The laws over all histories, as statements (this project's).
-use Rattle.std.specs.Prelude.{◌<◌, ℕ}
-use Rattle.broker_model.specs.Words.{Broker, Evolves}
+use Rattle.histories.specs.Common.{◌<◌, ℕ, Broker, Evolves}
 use Rattle.histories.specs.Creations.{MadeAsAllowed}
 use Rattle.histories.specs.History.{AreAsked, AreSteps, Asking, AskedAt, Beginning, History, begun}
 use Rattle.histories.specs.Identifiers.{AreUsed, GivesOutNew, NoIdentifierTwice}

@@ -1,13 +1,8 @@
 -- The law that a revoked lease stays revoked, as a statement (Vault's documentation, "Lease, renew, and revoke",
 -- "/sys/leases", "/sys/mounts").
-use Rattle.std.specs.Prelude.{◌≡◌, ◌≢◌, ◌≤◌, ◌⊎◌, ◌++◌, ℕ, Bool, true, Some, None, Ok, nat_eq, codes}
-use Rattle.broker_model.specs.Words.{starts_with, IsRefused, Text, get, Lease, Broker, lease_of, Command, on_lease}
-use Rattle.broker_model.specs.Words.{on_mount, command_of, no_content}
-use Rattle.broker_types.specs.declared.status.Status.TheVariants as status
-use Rattle.broker_model.specs.declared.commands.LeaseCommand.{LeaseCommand}
-use Rattle.broker_model.specs.declared.commands.LeaseCommand.TheVariants as lease
-use Rattle.broker_model.specs.declared.commands.MountCommand.{MountCommand}
-use Rattle.broker_model.specs.declared.commands.MountCommand.TheVariants as mount
+use Rattle.histories.specs.Common.{◌≡◌, ◌≢◌, ◌≤◌, ◌⊎◌, ◌++◌, ℕ, Bool, true, Some, None, Ok, nat_eq, codes, starts_with}
+use Rattle.histories.specs.Common.{IsRefused, Text, get, Lease, Broker, lease_of, Command, on_lease, on_mount}
+use Rattle.histories.specs.Common.{command_of, no_content, Status, LeaseCommand, MountCommand}
 use Rattle.histories.specs.History.{AreAsked, Asking, AskedAt, History, clocked}
 use Rattle.histories.specs.Revocation.{LacksLease}
 
@@ -17,13 +12,13 @@ is_below prefix lease_id = starts_with nat_eq lease_id (prefix ++ codes "/")
 
 -- a command below a prefix names the lease: by its id, or by the prefix
 abbrev pub NamesBelow : Text → Text → LeaseCommand → Type 0
-NamesBelow lease_id prefix (lease.Revoke named) = named ≡ lease_id
-NamesBelow lease_id prefix lease.RevokeUnder = is_below prefix lease_id ≡ true
+NamesBelow lease_id prefix (LeaseCommand.Revoke named) = named ≡ lease_id
+NamesBelow lease_id prefix LeaseCommand.RevokeUnder = is_below prefix lease_id ≡ true
 NamesBelow lease_id prefix _ = ⊥
 
 -- a command on a mount that is there names the lease: the disabling of that below which it is
 abbrev pub NamesMount : Broker → Text → Text → MountCommand → Type 0
-NamesMount b lease_id name mount.Disable = (is_below name lease_id ≡ true) × (get b.mounts name ≢ None)
+NamesMount b lease_id name MountCommand.Disable = (is_below name lease_id ≡ true) × (get b.mounts name ≢ None)
 NamesMount b lease_id name _ = ⊥
 
 -- the command ends the lease of this id, whichever token has it
@@ -37,7 +32,7 @@ pub record RevokesLease (a : Asking) (lease_id : Text) : Type 0 where
   pub command : Command
   pub means : command_of (clocked a).mounts a.ask ≡ Ok command
   pub ends : EndsLease (clocked a) lease_id command
-  pub answered : a.outcome.response.status ≡ status.NoContent
+  pub answered : a.outcome.response.status ≡ Status.NoContent
 
 pub record LeasesStayRevoked (history : History) : Type 0 where
   -- A command that ends leases is answered with 204, or refused.

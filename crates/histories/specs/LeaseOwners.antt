@@ -1,10 +1,8 @@
 -- The law of whose each lease is, and how long it lasts, as a statement (Vault's documentation, "Lease, renew, and
 -- revoke"; "Tokens", use limits; the engine that issues credentials is this project's).
-use Rattle.std.specs.Prelude.{◌≡◌, ◌≢◌, ◌⊎◌, ◌<◌, ◌+◌, ◌++◌, ◌∷◌, ℕ, min, Some, None, Ok, codes}
-use Rattle.broker_model.specs.Words.{Text, get, Role, Token, Lease, WasBefore, names_of, lease_of, slash}
-use Rattle.broker_model.specs.Words.{credential_object, lease_reply, reply_text, on_issued, command_of, Place}
-use Rattle.broker_types.specs.declared.status.Status.TheVariants as status
-use Rattle.broker_model.specs.declared.commands.IssuedCommand.TheVariants as issued
+use Rattle.histories.specs.Common.{◌≡◌, ◌≢◌, ◌⊎◌, ◌<◌, ◌+◌, ◌++◌, ◌∷◌, ℕ, min, Some, None, Ok, codes, Text, get, Role}
+use Rattle.histories.specs.Common.{Token, Lease, WasBefore, names_of, lease_of, slash, credential_object, lease_reply}
+use Rattle.histories.specs.Common.{reply_text, on_issued, command_of, Place, Status, IssuedCommand}
 use Rattle.histories.specs.History.{Asking, AskedAt, History, clocked}
 use Rattle.histories.specs.KeptResponses.{unwrapped_body}
 use Rattle.histories.specs.Revocation.{IsClient}
@@ -26,8 +24,8 @@ pub record IsOfRole (now : ℕ) (r : Role) (l : Lease) : Type 0 where
 pub record IsIssuedTo (a : Asking) (q lease_id : Text) (l : Lease) : Type 0 where
   pub client : IsClient a q
   pub place : Place
-  pub means : command_of (clocked a).mounts a.ask ≡ Ok (on_issued place issued.Issue)
-  pub answered : a.outcome.response.status ≡ status.Success
+  pub means : command_of (clocked a).mounts a.ask ≡ Ok (on_issued place IssuedCommand.Issue)
+  pub answered : a.outcome.response.status ≡ Status.Success
   pub own : Token
   pub there : get (clocked a).tokens q ≡ Some own
   pub lasting : (n : ℕ) → own.uses_left ≡ Some n → 1 < n
@@ -56,5 +54,5 @@ pub record LeasesAreOfCallers (history : History) : Type 0 where
       → lease_of a.outcome.next q lease_id ≡ Some l → WasBefore (clocked a) q lease_id l ⊎ IsIssuedTo a q lease_id l
   -- And each 200 to `creds` issued one.
   pub given : (i : ℕ) (a : Asking) (p : Place) → AskedAt history i a
-      → command_of (clocked a).mounts a.ask ≡ Ok (on_issued p issued.Issue)
-      → a.outcome.response.status ≡ status.Success → GivesLease a p
+      → command_of (clocked a).mounts a.ask ≡ Ok (on_issued p IssuedCommand.Issue)
+      → a.outcome.response.status ≡ Status.Success → GivesLease a p

@@ -1,5 +1,6 @@
 pub mod Allowed
 pub mod Callers
+pub mod Common
 pub mod Creations
 pub mod Disabled
 pub mod Documented

@@ -1,21 +1,13 @@
 -- What the paths mean that lead to a mount which was enabled, and those of policies, of mounts and of cubbyholes that
 -- are not in the other lists (Vault's documentation, "KV secrets engine - version 2 (API)", "/sys/policies",
 -- "/sys/mounts", "Cubbyhole secrets engine (API)"; the engine that issues credentials is this project's).
-use Rattle.std.specs.Prelude.{◌≡◌, ◌++◌, ◌∷◌, ℕ, [], true, Result, Ok, Some, codes}
-use Rattle.broker_model.specs.Words.{Text, Map, get, is_mount_name, Engine, Mount, issued, kv, ◌>>=◌, Ask, Verb}
-use Rattle.broker_model.specs.Words.{Refusal, lacks, slash, are_bytes, body_members, Command, command_of, meant_by}
-use Rattle.broker_model.specs.Words.{on_cubbyhole, on_issued, on_mount, on_policy, on_secret, read_as, full_text, Place}
-use Rattle.broker_model.specs.Words.{at}
-use Rattle.broker_types.specs.declared.ask.Verb.TheVariants as verb
-use Rattle.serde_json.specs.Data.{Members}
+use Rattle.broker_model.specs.Words.{is_mount_name, full_text, at}
+use Rattle.histories.specs.Common.{◌≡◌, ◌++◌, ◌∷◌, Members, ℕ, [], true, Result, Ok, Some, codes, Text, Map, get}
+use Rattle.histories.specs.Common.{Engine, Mount, issued, kv, ◌>>=◌, Ask, Verb, Refusal, lacks, slash, are_bytes}
+use Rattle.histories.specs.Common.{body_members, Command, command_of, meant_by, on_cubbyhole, on_issued, on_mount}
+use Rattle.histories.specs.Common.{on_policy, on_secret, read_as, Place, CubbyholeCommand, IssuedCommand, MountCommand}
+use Rattle.histories.specs.Common.{PolicyCommand, SecretCommand}
 use Rattle.api_json.specs.Readers as reader
-use Rattle.broker_model.specs.declared.commands.CubbyholeCommand.TheVariants as cubbyhole
-use Rattle.broker_model.specs.declared.commands.IssuedCommand.{IssuedCommand}
-use Rattle.broker_model.specs.declared.commands.IssuedCommand.TheVariants as of_issued
-use Rattle.broker_model.specs.declared.commands.MountCommand.TheVariants as mount
-use Rattle.broker_model.specs.declared.commands.PolicyCommand.TheVariants as policy
-use Rattle.broker_model.specs.declared.commands.SecretCommand.{SecretCommand}
-use Rattle.broker_model.specs.declared.commands.SecretCommand.TheVariants as secret
 use Rattle.histories.specs.LeasePaths.{AskedMeans}
 
 -- ---- paths below the name of a mount
@@ -56,56 +48,59 @@ on_issued_found read command p a = meant_by (on_issued p) (read_as read command 
 
 -- a read of the version that the query asks for
 abbrev pub on_version : Place → Ask → Result Command Refusal
-on_version p a = meant_by (on_secret p) (reader.version_number a.version >>= (λ n. Ok (secret.Read n)))
+on_version p a = meant_by (on_secret p) (reader.version_number a.version >>= (λ n. Ok (SecretCommand.Read n)))
 
 -- the paths in a mount of versioned secrets
 pub record PathsOfSecrets : Type 0 where
-  pub show_settings : MeansIn kv verb.Get (codes "config") (λ name. on_secret_at secret.ShowSettings (at name []))
-  pub set_settings : MeansIn kv verb.Write (codes "config")
-      (λ name. on_secret_found reader.mount_settings secret.SetSettings (at name []))
-  pub read : AtPath verb.Get (codes "data/") on_version
-  pub write : AtPath verb.Write (codes "data/") (on_secret_found reader.secret_write secret.Write)
-  pub delete_current : AtPath verb.Delete (codes "data/") (on_secret_at secret.DeleteCurrent)
-  pub delete : AtPath verb.Write (codes "delete/") (on_secret_found reader.versions secret.Delete)
-  pub undelete : AtPath verb.Write (codes "undelete/") (on_secret_found reader.versions secret.Undelete)
-  pub destroy : AtPath verb.Write (codes "destroy/") (on_secret_found reader.versions secret.Destroy)
-  pub list_whole : MeansIn kv verb.List (codes "metadata") (λ name. on_secret_at secret.List (at name []))
-  pub list : AtPath verb.List (codes "metadata/") (on_secret_at secret.List)
-  pub show_metadata : AtPath verb.Get (codes "metadata/") (on_secret_at secret.ShowMetadata)
-  pub set_metadata : AtPath verb.Write (codes "metadata/") (on_secret_found reader.key_settings secret.SetMetadata)
-  pub remove : AtPath verb.Delete (codes "metadata/") (on_secret_at secret.Remove)
+  pub show_settings : MeansIn kv Verb.Get (codes "config") (λ name. on_secret_at SecretCommand.ShowSettings
+      (at name []))
+  pub set_settings : MeansIn kv Verb.Write (codes "config")
+      (λ name. on_secret_found reader.mount_settings SecretCommand.SetSettings (at name []))
+  pub read : AtPath Verb.Get (codes "data/") on_version
+  pub write : AtPath Verb.Write (codes "data/") (on_secret_found reader.secret_write SecretCommand.Write)
+  pub delete_current : AtPath Verb.Delete (codes "data/") (on_secret_at SecretCommand.DeleteCurrent)
+  pub delete : AtPath Verb.Write (codes "delete/") (on_secret_found reader.versions SecretCommand.Delete)
+  pub undelete : AtPath Verb.Write (codes "undelete/") (on_secret_found reader.versions SecretCommand.Undelete)
+  pub destroy : AtPath Verb.Write (codes "destroy/") (on_secret_found reader.versions SecretCommand.Destroy)
+  pub list_whole : MeansIn kv Verb.List (codes "metadata") (λ name. on_secret_at SecretCommand.List (at name []))
+  pub list : AtPath Verb.List (codes "metadata/") (on_secret_at SecretCommand.List)
+  pub show_metadata : AtPath Verb.Get (codes "metadata/") (on_secret_at SecretCommand.ShowMetadata)
+  pub set_metadata : AtPath Verb.Write (codes "metadata/") (on_secret_found reader.key_settings
+      SecretCommand.SetMetadata)
+  pub remove : AtPath Verb.Delete (codes "metadata/") (on_secret_at SecretCommand.Remove)
 
 -- those in a mount that issues credentials
 pub record PathsOfIssued : Type 0 where
-  pub show_role : AtName verb.Get (codes "roles/") (on_issued_at of_issued.ShowRole)
-  pub set_role : AtName verb.Write (codes "roles/") (on_issued_found reader.role_settings of_issued.SetRole)
-  pub remove_role : AtName verb.Delete (codes "roles/") (on_issued_at of_issued.RemoveRole)
-  pub issue : AtName verb.Get (codes "creds/") (on_issued_at of_issued.Issue)
-  pub verify : MeansIn issued verb.Write (codes "verify")
-      (λ name. on_issued_found reader.credential of_issued.Verify (at name []))
+  pub show_role : AtName Verb.Get (codes "roles/") (on_issued_at IssuedCommand.ShowRole)
+  pub set_role : AtName Verb.Write (codes "roles/") (on_issued_found reader.role_settings IssuedCommand.SetRole)
+  pub remove_role : AtName Verb.Delete (codes "roles/") (on_issued_at IssuedCommand.RemoveRole)
+  pub issue : AtName Verb.Get (codes "creds/") (on_issued_at IssuedCommand.Issue)
+  pub verify : MeansIn issued Verb.Write (codes "verify")
+      (λ name. on_issued_found reader.credential IssuedCommand.Verify (at name []))
 
 -- ---- paths that are always there
 
 -- a write of what the body is, at a path of the caller's cubbyhole
 abbrev pub on_written : Text → Ask → Result Command Refusal
 on_written path a =
-    meant_by (on_cubbyhole path) (body_members a.body >>= (λ members. Ok (cubbyhole.Write (full_text members))))
+    meant_by (on_cubbyhole path) (body_members a.body >>= (λ members. Ok (CubbyholeCommand.Write (full_text members))))
 
 pub record PathsOfSettings : Type 0 where
-  pub list_policies : AskedMeans verb.List (codes "sys/policies/acl") (λ a. Ok (on_policy [] policy.List))
+  pub list_policies : AskedMeans Verb.List (codes "sys/policies/acl") (λ a. Ok (on_policy [] PolicyCommand.List))
   pub show_policy : (c : ℕ) (name : Text) → are_bytes (c ∷ name) ≡ true → lacks slash (c ∷ name) ≡ true
-      → AskedMeans verb.Get (codes "sys/policies/acl/" ++ c ∷ name) (λ a. Ok (on_policy (c ∷ name) policy.Show))
+      → AskedMeans Verb.Get (codes "sys/policies/acl/" ++ c ∷ name) (λ a. Ok (on_policy (c ∷ name) PolicyCommand.Show))
   pub set_policy : (c : ℕ) (name : Text) → are_bytes (c ∷ name) ≡ true → lacks slash (c ∷ name) ≡ true
-      → AskedMeans verb.Write (codes "sys/policies/acl/" ++ c ∷ name)
-      (λ a. meant_by (on_policy (c ∷ name)) (read_as reader.policy_text policy.Set a.body))
+      → AskedMeans Verb.Write (codes "sys/policies/acl/" ++ c ∷ name)
+      (λ a. meant_by (on_policy (c ∷ name)) (read_as reader.policy_text PolicyCommand.Set a.body))
   pub remove_policy : (c : ℕ) (name : Text) → are_bytes (c ∷ name) ≡ true → lacks slash (c ∷ name) ≡ true
-      → AskedMeans verb.Delete (codes "sys/policies/acl/" ++ c ∷ name) (λ a. Ok (on_policy (c ∷ name) policy.Remove))
-  pub list_mounts : AskedMeans verb.Get (codes "sys/mounts") (λ a. Ok (on_mount [] mount.List))
+      → AskedMeans Verb.Delete (codes "sys/policies/acl/" ++ c ∷ name)
+      (λ a. Ok (on_policy (c ∷ name) PolicyCommand.Remove))
+  pub list_mounts : AskedMeans Verb.Get (codes "sys/mounts") (λ a. Ok (on_mount [] MountCommand.List))
   pub enable_mount : (c : ℕ) (name : Text) → are_bytes (c ∷ name) ≡ true → lacks slash (c ∷ name) ≡ true
-      → AskedMeans verb.Write (codes "sys/mounts/" ++ c ∷ name)
-      (λ a. meant_by (on_mount (c ∷ name)) (read_as reader.mount_creation mount.Enable a.body))
+      → AskedMeans Verb.Write (codes "sys/mounts/" ++ c ∷ name)
+      (λ a. meant_by (on_mount (c ∷ name)) (read_as reader.mount_creation MountCommand.Enable a.body))
   pub write_object : (c : ℕ) (path : Text) → are_bytes (c ∷ path) ≡ true
-      → AskedMeans verb.Write (codes "cubbyhole/" ++ c ∷ path) (on_written (c ∷ path))
+      → AskedMeans Verb.Write (codes "cubbyhole/" ++ c ∷ path) (on_written (c ∷ path))
   pub list_objects : (c : ℕ) (path : Text) → are_bytes (c ∷ path) ≡ true
-      → AskedMeans verb.List (codes "cubbyhole/" ++ c ∷ path) (λ a. Ok (on_cubbyhole (c ∷ path) cubbyhole.List))
-  pub list_cubbyhole : AskedMeans verb.List (codes "cubbyhole") (λ a. Ok (on_cubbyhole [] cubbyhole.List))
+      → AskedMeans Verb.List (codes "cubbyhole/" ++ c ∷ path) (λ a. Ok (on_cubbyhole (c ∷ path) CubbyholeCommand.List))
+  pub list_cubbyhole : AskedMeans Verb.List (codes "cubbyhole") (λ a. Ok (on_cubbyhole [] CubbyholeCommand.List))

@@ -1,20 +1,16 @@
 -- The law of open requests, which need no caller, as statements (Vault's documentation, "/sys/wrapping/lookup" and
 -- "/sys/wrapping/unwrap"; that a rewrap may be open is this project's).
-use Rattle.std.specs.Prelude.{◌≡◌, ℕ, true, Ok, ⊤, codes}
-use Rattle.broker_model.specs.Words.{Map, Broker, Mount, at_moment, Ask, Words, Command, on_wrapping, command_of}
-use Rattle.broker_model.specs.Words.{is_open, step}
-use Rattle.broker_types.specs.declared.ask.Verb.TheVariants as verb
-use Rattle.broker_model.specs.declared.commands.WrappingCommand.{WrappingCommand}
-use Rattle.broker_model.specs.declared.commands.WrappingCommand.TheVariants as response
+use Rattle.histories.specs.Common.{◌≡◌, ℕ, true, Ok, ⊤, codes, Map, Broker, Mount, at_moment, Ask, Words, Command}
+use Rattle.histories.specs.Common.{on_wrapping, command_of, is_open, step, Verb, WrappingCommand}
 
 -- ---- what an open ask means
 
 -- a look-up of any wrapping token, or a rewrap or an unwrap of the client token
 abbrev pub MeansItsOwn : Ask → WrappingCommand → Type 0
-MeansItsOwn a (response.Wrap text) = ⊥
-MeansItsOwn a (response.LookUp meant) = ⊤
-MeansItsOwn a (response.Rewrap meant) = meant ≡ a.token
-MeansItsOwn a (response.Unwrap meant) = meant ≡ a.token
+MeansItsOwn a (WrappingCommand.Wrap text) = ⊥
+MeansItsOwn a (WrappingCommand.LookUp meant) = ⊤
+MeansItsOwn a (WrappingCommand.Rewrap meant) = meant ≡ a.token
+MeansItsOwn a (WrappingCommand.Unwrap meant) = meant ≡ a.token
 
 -- An open ask means that and nothing else, whatever mounts there are.
 abbrev pub OpenMeansItsOwn : Type 0
@@ -24,11 +20,11 @@ OpenMeansItsOwn =
 
 -- These are open: a look-up, and an unwrap or a rewrap that means the client token.
 pub record TheseAreOpen : Type 0 where
-  pub look_up : (a : Ask) → a.verb ≡ verb.Write → a.path ≡ codes "sys/wrapping/lookup" → is_open a ≡ true
-  pub rewrap : (mounts : Map Mount) (a : Ask) → a.verb ≡ verb.Write → a.path ≡ codes "sys/wrapping/rewrap"
-      → command_of mounts a ≡ Ok (on_wrapping (response.Rewrap a.token)) → is_open a ≡ true
-  pub unwrap : (mounts : Map Mount) (a : Ask) → a.verb ≡ verb.Write → a.path ≡ codes "sys/wrapping/unwrap"
-      → command_of mounts a ≡ Ok (on_wrapping (response.Unwrap a.token)) → is_open a ≡ true
+  pub look_up : (a : Ask) → a.verb ≡ Verb.Write → a.path ≡ codes "sys/wrapping/lookup" → is_open a ≡ true
+  pub rewrap : (mounts : Map Mount) (a : Ask) → a.verb ≡ Verb.Write → a.path ≡ codes "sys/wrapping/rewrap"
+      → command_of mounts a ≡ Ok (on_wrapping (WrappingCommand.Rewrap a.token)) → is_open a ≡ true
+  pub unwrap : (mounts : Map Mount) (a : Ask) → a.verb ≡ Verb.Write → a.path ≡ codes "sys/wrapping/unwrap"
+      → command_of mounts a ≡ Ok (on_wrapping (WrappingCommand.Unwrap a.token)) → is_open a ≡ true
 
 -- ---- what it leaves
 

@@ -1,20 +1,14 @@
 -- The law that what is another's stays, as a statement: what makes a token go, what may change of one that stands, and
 -- who reads a cubbyhole (Vault's documentation, "Tokens"; "Lease, renew, and revoke"; "Cubbyhole secrets engine").
-use Rattle.std.specs.Prelude.{◌≡◌, ◌≢◌, ◌⊎◌, ◌≤◌, ◌+◌, ℕ, min, true, Option, Some, None, Ok, ⊤}
-use Rattle.broker_model.specs.Words.{Text, Map, get, keys, Token, Lease, is_under, names_of, lease_of, children, folder}
-use Rattle.broker_model.specs.Words.{keys_object, plain_reply, reply_text, LeaseRenewal, on_cubbyhole, on_lease}
-use Rattle.broker_model.specs.Words.{on_token, command_of, ok}
-use Rattle.broker_types.specs.declared.status.Status.TheVariants as status
-use Rattle.broker_model.specs.declared.commands.CubbyholeCommand.{CubbyholeCommand}
-use Rattle.broker_model.specs.declared.commands.CubbyholeCommand.TheVariants as cubbyhole
-use Rattle.broker_model.specs.declared.commands.LeaseCommand.TheVariants as lease
-use Rattle.broker_model.specs.declared.commands.TokenCommand.{TokenCommand}
-use Rattle.broker_model.specs.declared.commands.TokenCommand.TheVariants as token
+use Rattle.histories.specs.Common.{◌≡◌, ◌≢◌, ◌⊎◌, ◌≤◌, ◌+◌, ℕ, min, true, Option, Some, None, Ok, ⊤, Text, Map, get}
+use Rattle.histories.specs.Common.{keys, Token, Lease, is_under, names_of, lease_of, children, folder, keys_object}
+use Rattle.histories.specs.Common.{plain_reply, reply_text, LeaseRenewal, on_cubbyhole, on_lease, on_token, command_of}
+use Rattle.histories.specs.Common.{ok, Status, CubbyholeCommand, LeaseCommand, TokenCommand}
+use Rattle.histories.specs.Revocation.{IsClient, IsDue, IsMade, Revokes, RevokesAlone, WasToken}
 use Rattle.histories.specs.History.{Asking, AskedAt, History, clocked, spent_by}
 use Rattle.histories.specs.KeptResponses.{unwrapped_answer}
 use Rattle.histories.specs.LeaseEnds.{RevokesLease}
 use Rattle.histories.specs.LeaseOwners.{IsIssuedTo}
-use Rattle.histories.specs.Revocation.{IsClient, IsDue, IsMade, Revokes, RevokesAlone, WasToken}
 
 -- ---- what makes a token go
 
@@ -44,14 +38,14 @@ TokenGoes a q = IsDue a q ⊎ (IsRevoked a q ⊎ EndsWithClient a q)
 
 -- the command of the caller c renews the token q: it names it by its text, or is one to its own
 abbrev pub RenewalOf : Text → Text → TokenCommand → Type 0
-RenewalOf c q (token.Renew asked) = asked.token ≡ q
-RenewalOf c q (token.RenewSelf increment) = c ≡ q
+RenewalOf c q (TokenCommand.Renew asked) = asked.token ≡ q
+RenewalOf c q (TokenCommand.RenewSelf increment) = c ≡ q
 RenewalOf c q _ = ⊥
 
 -- for how long the command asks, and 0 if it does not say
 abbrev pub increment_of : TokenCommand → ℕ
-increment_of (token.Renew asked) = asked.increment
-increment_of (token.RenewSelf increment) = increment
+increment_of (TokenCommand.Renew asked) = asked.increment
+increment_of (TokenCommand.RenewSelf increment) = increment
 increment_of _ = 0
 
 -- the request was a 200 to a renewal of the token q
@@ -61,7 +55,7 @@ pub record RenewsToken (a : Asking) (q : Text) : Type 0 where
   pub command : TokenCommand
   pub means : command_of (clocked a).mounts a.ask ≡ Ok (on_token command)
   pub names : RenewalOf caller q command
-  pub answered : a.outcome.response.status ≡ status.Success
+  pub answered : a.outcome.response.status ≡ Status.Success
 
 -- The end of the token x that is renewed now by an increment. It is as far ahead as the increment, or if that is 0, as
 -- the time that the token was made for; that of a periodic token, as its period. But it is no later than its own
@@ -88,14 +82,14 @@ pub record IsRenewedTo (a : Asking) (q : Text) (x : Token) (ends : Option ℕ) :
 
 -- a write leaves the object of its body, and a deletion none
 abbrev pub Edits : Option Text → CubbyholeCommand → Type 0
-Edits new (cubbyhole.Write full) = new ≡ full
-Edits new cubbyhole.Delete = new ≡ None
+Edits new (CubbyholeCommand.Write full) = new ≡ full
+Edits new CubbyholeCommand.Delete = new ≡ None
 Edits new _ = ⊥
 
 -- the same, of the commands that leave something
 abbrev pub LeavesAt : Option Text → CubbyholeCommand → Type 0
-LeavesAt new (cubbyhole.Write full) = new ≡ full
-LeavesAt new cubbyhole.Delete = new ≡ None
+LeavesAt new (CubbyholeCommand.Write full) = new ≡ full
+LeavesAt new CubbyholeCommand.Delete = new ≡ None
 LeavesAt new _ = ⊤
 
 -- The request, whose client token is q, was a 204 to a write or a deletion at this path of its cubbyhole, which has
@@ -105,15 +99,15 @@ pub record EditsCubbyhole (a : Asking) (q path : Text) (new : Option Text) : Typ
   pub command : CubbyholeCommand
   pub means : command_of (clocked a).mounts a.ask ≡ Ok (on_cubbyhole path command)
   pub edits : Edits new command
-  pub answered : a.outcome.response.status ≡ status.NoContent
+  pub answered : a.outcome.response.status ≡ Status.NoContent
 
 -- the request, of any caller, was a 200 to a renewal of the lease of this id
 pub record RenewsLease (a : Asking) (lease_id : Text) : Type 0 where
   pub prefix : Text
   pub asked : LeaseRenewal
-  pub means : command_of (clocked a).mounts a.ask ≡ Ok (on_lease prefix (lease.Renew asked))
+  pub means : command_of (clocked a).mounts a.ask ≡ Ok (on_lease prefix (LeaseCommand.Renew asked))
   pub names : asked.lease_id ≡ lease_id
-  pub answered : a.outcome.response.status ≡ status.Success
+  pub answered : a.outcome.response.status ≡ Status.Success
 
 -- The lease was renewed now: only its end, and when it was renewed last, are others. The end is as far ahead as was
 -- asked for, or if 0 was, as the time that it was made for, but no later than its longest time after its issue.
@@ -209,13 +203,13 @@ pub record OwnStays (history : History) : Type 0 where
   -- after a 204 to a write or a deletion the client token's cubbyhole has there what that leaves
   pub edited : (i : ℕ) (a : Asking) (q path : Text) (command : CubbyholeCommand) (y : Token) → AskedAt history i a
       → IsClient a q → command_of (clocked a).mounts a.ask ≡ Ok (on_cubbyhole path command)
-      → a.outcome.response.status ≡ status.NoContent → get a.outcome.next.tokens q ≡ Some y
+      → a.outcome.response.status ≡ Status.NoContent → get a.outcome.next.tokens q ≡ Some y
       → LeavesAt (get y.cubbyhole path) command
   -- a 200 to a read of a cubbyhole has the object of the client token's own
   pub reads : (i : ℕ) (a : Asking) (path : Text) → AskedAt history i a
-      → command_of (clocked a).mounts a.ask ≡ Ok (on_cubbyhole path cubbyhole.Read)
-      → a.outcome.response.status ≡ status.Success → AnswersOwn a (IsObjectAt path)
+      → command_of (clocked a).mounts a.ask ≡ Ok (on_cubbyhole path CubbyholeCommand.Read)
+      → a.outcome.response.status ≡ Status.Success → AnswersOwn a (IsObjectAt path)
   -- and one to a list has what is in that
   pub lists : (i : ℕ) (a : Asking) (path : Text) → AskedAt history i a
-      → command_of (clocked a).mounts a.ask ≡ Ok (on_cubbyhole path cubbyhole.List)
-      → a.outcome.response.status ≡ status.Success → AnswersOwn a (IsListAt path)
+      → command_of (clocked a).mounts a.ask ≡ Ok (on_cubbyhole path CubbyholeCommand.List)
+      → a.outcome.response.status ≡ Status.Success → AnswersOwn a (IsListAt path)

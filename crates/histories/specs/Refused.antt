@@ -1,14 +1,11 @@
 -- The laws of refused requests, and of what policies decide, as statements (Vault's documentation, "Policies";
 -- "Tokens", use limits; "Response wrapping").
-use Rattle.std.specs.Prelude.{◌≡◌, ◌≢◌, ◌≤◌, ◌⊎◌, ◌&&◌, ◌||◌, ℕ, Bool, true, false, not, Some, None, Ok}
-use Rattle.broker_model.specs.Words.{Text, get, without, IsRefused, Response, refused, Broker, at_moment, names_of}
-use Rattle.broker_model.specs.Words.{◌>>=◌, spend, end_spent, drop_waiting, status_code, Token, Ask, Words, asks_sudo}
-use Rattle.broker_model.specs.Words.{grants, Sudo, asked, on_wrapping, command_of, Outcome, finish, permission_denied}
-use Rattle.broker_model.specs.Words.{is_open, operated, step}
-use Rattle.broker_types.specs.declared.refusal.Denial.TheVariants as denial
-use Rattle.broker_types.specs.declared.refusal.Refusal.TheVariants as refusal
-use Rattle.broker_types.specs.declared.status.Status.TheVariants as status
-use Rattle.broker_model.specs.declared.commands.WrappingCommand.TheVariants as of_responses
+use Rattle.broker_model.specs.Words.{end_spent, drop_waiting, finish, operated}
+use Rattle.histories.specs.Common.{◌≡◌, ◌≢◌, ◌≤◌, ◌⊎◌, ◌&&◌, ◌||◌, ℕ, Bool, true, false, not, Some, None, Ok, Text, get}
+use Rattle.histories.specs.Common.{without, IsRefused, Response, refused, Broker, at_moment, names_of, ◌>>=◌, spend}
+use Rattle.histories.specs.Common.{status_code, Token, Ask, Words, asks_sudo, grants, Sudo, asked, on_wrapping}
+use Rattle.histories.specs.Common.{command_of, Outcome, permission_denied, is_open, step, Refusal, Status}
+use Rattle.histories.specs.Common.{WrappingCommand, Denial}
 
 -- ---- what a refused request leaves
 
@@ -42,7 +39,7 @@ RefusedChangeNothing =
 abbrev pub WrapNeedsTtl : Type 0
 WrapNeedsTtl =
     (b : Broker) (moment : ℕ) (words : Words) (a : Ask) (text : Text)
-    → command_of (at_moment b moment).mounts a ≡ Ok (on_wrapping (of_responses.Wrap text)) → a.wrap_ttl ≡ 0
+    → command_of (at_moment b moment).mounts a ≡ Ok (on_wrapping (WrappingCommand.Wrap text)) → a.wrap_ttl ≡ 0
     → IsRefused (step b moment words a).response
 
 -- ---- what policies decide
@@ -74,8 +71,8 @@ pub record HasResponse (now : Broker) (a : Ask) (t : Text) : Type 0 where
 
 -- 403 `permission denied`
 pub record IsDenied (r : Response) : Type 0 where
-  pub forbidden : r.status ≡ status.Forbidden
-  pub is : r ≡ refused (refusal.Forbidden denial.PermissionDenied)
+  pub forbidden : r.status ≡ Status.Forbidden
+  pub is : r ≡ refused (Refusal.Forbidden Denial.PermissionDenied)
 
 -- the outcome is a denial, and leaves this broker
 pub record IsDenial (left : Broker) (o : Outcome) : Type 0 where

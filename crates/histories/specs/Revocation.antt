@@ -1,22 +1,14 @@
 -- The law of revocation, as a statement (Vault's documentation, "Tokens", token hierarchies and orphan tokens, use
 -- limits; "Lease, renew, and revoke").
-use Rattle.std.specs.Prelude.{◌≡◌, ◌≢◌, ◌<◌, ◌≤◌, ◌⊎◌, ◌&&◌, ◌||◌, ◌-◌, if◌then◌else◌, ℕ, max, nat_lt, Bool, true, Some}
-use Rattle.broker_model.specs.Words.{false, Option, None, Ok, option_map, option_map_or, Text, same, get, keep, Token}
-use Rattle.broker_model.specs.Words.{Tokens, Lease, is_under, Broker, names_of, lease_of, lease_identifier, is_spent}
-use Rattle.broker_model.specs.Words.{token_text, are_new, IsRefused, refused, object_at, TokenCreation, Command}
-use Rattle.broker_model.specs.Words.{on_token, on_wrapping, command_of, permission_denied, no_content, is_open}
-use Rattle.broker_model.specs.Words.{wrapping_names}
-use Rattle.broker_types.specs.declared.refusal.Refusal.TheVariants as refusal
-use Rattle.broker_types.specs.declared.refusal.Reason.TheVariants as reason
-use Rattle.broker_types.specs.declared.status.Status.TheVariants as status
+use Rattle.std.proofs.Common.{nat_lt, option_map, ◌≡◌, ◌≢◌, ◌<◌, ◌≤◌, ◌⊎◌, ◌&&◌, ◌||◌, ◌-◌, if◌then◌else◌, ℕ, max, Bool}
+use Rattle.std.proofs.Common.{true, Some, false, Option, None, Ok}
+use Rattle.broker_model.specs.Words.{keep, Tokens, lease_identifier, is_spent, are_new, wrapping_names, option_map_or}
+use Rattle.broker_model.specs.Words.{Text, same, get, Token, Lease, is_under, Broker, names_of, lease_of, token_text}
+use Rattle.broker_model.specs.Words.{IsRefused, refused, object_at, TokenCreation, Command, on_token, on_wrapping}
+use Rattle.broker_model.specs.Words.{command_of, permission_denied, no_content, is_open, Refusal, Reason, Status}
 use Rattle.token_tree.specs.Tokens as tree
 use Rattle.wrapping.specs.Wrapping as wrapping
-use Rattle.broker_model.specs.declared.commands.TokenCommand.{TokenCommand}
-use Rattle.broker_model.specs.declared.commands.TokenCommand.TheVariants as token
-use Rattle.broker_model.specs.declared.commands.WrappingCommand.{WrappingCommand}
-use Rattle.broker_model.specs.declared.commands.WrappingCommand.TheVariants as response
-use Rattle.broker_model.specs.declared.making.Making.{Making}
-use Rattle.broker_model.specs.declared.making.Making.TheVariants.{OfCaller, WithoutParent}
+use Rattle.histories.specs.Common.{OfCaller, WithoutParent, TokenCommand, WrappingCommand, Making}
 use Rattle.histories.specs.History.{Asking, AskedAt, History, clocked, spent_by}
 
 -- ---- which commands revoke
@@ -27,9 +19,9 @@ named_by b accessor = option_map_or Some (tree.find_accessor b accessor) (wrappi
 
 -- the text that a command of the caller c revokes, with all under it
 abbrev pub revoked_of : Broker → Text → TokenCommand → Option Text
-revoked_of b c (token.Revoke t) = Some t
-revoked_of b c (token.RevokeAccessor accessor) = named_by b accessor
-revoked_of b c token.RevokeSelf = Some c
+revoked_of b c (TokenCommand.Revoke t) = Some t
+revoked_of b c (TokenCommand.RevokeAccessor accessor) = named_by b accessor
+revoked_of b c TokenCommand.RevokeSelf = Some c
 revoked_of b c _ = None
 
 -- the same of a command of any part
@@ -39,7 +31,7 @@ revoked_by b c _ = None
 
 -- the text that a command revokes alone
 abbrev pub orphaning_of : TokenCommand → Option Text
-orphaning_of (token.RevokeOrphan t) = Some t
+orphaning_of (TokenCommand.RevokeOrphan t) = Some t
 orphaning_of _ = None
 
 -- the same of a command of any part
@@ -49,14 +41,14 @@ orphaning_by _ = None
 
 -- whether a command revokes a text with all under it
 abbrev pub is_revocation : TokenCommand → Bool
-is_revocation (token.Revoke t) = true
-is_revocation (token.RevokeAccessor accessor) = true
-is_revocation token.RevokeSelf = true
+is_revocation (TokenCommand.Revoke t) = true
+is_revocation (TokenCommand.RevokeAccessor accessor) = true
+is_revocation TokenCommand.RevokeSelf = true
 is_revocation _ = false
 
 -- whether it revokes a text alone
 abbrev pub is_orphaning : TokenCommand → Bool
-is_orphaning (token.RevokeOrphan t) = true
+is_orphaning (TokenCommand.RevokeOrphan t) = true
 is_orphaning _ = false
 
 -- ---- what was asked, and answered
@@ -181,7 +173,7 @@ pub record IsMade (a : Asking) (q : Text) (y : Token) : Type 0 where
   pub client : IsClient a caller
   pub making : Making
   pub asked : TokenCreation
-  pub means : command_of (clocked a).mounts a.ask ≡ Ok (on_token (token.Create making asked))
+  pub means : command_of (clocked a).mounts a.ask ≡ Ok (on_token (TokenCommand.Create making asked))
   pub text : q ≡ token_text (names_of a.words).token
   pub accessor : y.accessor ≡ (names_of a.words).accessor
   pub parent : y.parent ≡ parent_asked caller making asked
@@ -190,23 +182,23 @@ pub record IsMade (a : Asking) (q : Text) (y : Token) : Type 0 where
 
 -- the wrapping token that a command takes a text as
 abbrev pub taken_as : WrappingCommand → Option Text
-taken_as (response.Wrap text) = None
-taken_as (response.LookUp meant) = meant
-taken_as (response.Rewrap meant) = meant
-taken_as (response.Unwrap meant) = meant
+taken_as (WrappingCommand.Wrap text) = None
+taken_as (WrappingCommand.LookUp meant) = meant
+taken_as (WrappingCommand.Rewrap meant) = meant
+taken_as (WrappingCommand.Unwrap meant) = meant
 
 -- whether the identifiers that the command needs are new: a rewrap needs those of another wrapping token
 abbrev pub has_new_names : Asking → WrappingCommand → Bool
-has_new_names x (response.Wrap text) = true
-has_new_names x (response.LookUp meant) = true
-has_new_names x (response.Rewrap meant) = are_new (clocked x).used (wrapping_names (names_of x.words))
-has_new_names x (response.Unwrap meant) = true
+has_new_names x (WrappingCommand.Wrap text) = true
+has_new_names x (WrappingCommand.LookUp meant) = true
+has_new_names x (WrappingCommand.Rewrap meant) = are_new (clocked x).used (wrapping_names (names_of x.words))
+has_new_names x (WrappingCommand.Unwrap meant) = true
 
 -- 400 `wrapping token is not valid or does not exist`; but 500 to a rewrap whose words are not new, and to no other
 abbrev pub FindsNone : Asking → WrappingCommand → Type 0
 FindsNone x command =
     x.outcome.response ≡ refused
-    (if has_new_names x command then refusal.BadRequest reason.InvalidWrappingToken else refusal.IdentifierUsed)
+    (if has_new_names x command then Refusal.BadRequest Reason.InvalidWrappingToken else Refusal.IdentifierUsed)
 
 -- ---- the law
 
@@ -236,11 +228,11 @@ pub record Revocation (history : History) : Type 0 where
   -- Each 204 to a command that revokes is a revocation by a caller of what the command names.
   pub each : (i : ℕ) (a : Asking) (command : TokenCommand) → AskedAt history i a
       → command_of (clocked a).mounts a.ask ≡ Ok (on_token command) → is_revocation command ≡ true
-      → a.outcome.response.status ≡ status.NoContent → (c : Text) × (t : Text) × Revokes a c t
+      → a.outcome.response.status ≡ Status.NoContent → (c : Text) × (t : Text) × Revokes a c t
   -- So is each 204 to a command that revokes a text alone.
   pub each_alone : (i : ℕ) (a : Asking) (command : TokenCommand) → AskedAt history i a
       → command_of (clocked a).mounts a.ask ≡ Ok (on_token command) → is_orphaning command ≡ true
-      → a.outcome.response.status ≡ status.NoContent → (c : Text) × (t : Text) × RevokesAlone a c t
+      → a.outcome.response.status ≡ Status.NoContent → (c : Text) × (t : Text) × RevokesAlone a c t
   -- A 204 that revoked t ended each token that was under it then.
   pub revoked : (i : ℕ) (a : Asking) (c t q : Text) → AskedAt history i a → Revokes a c t
       → is_under (spent_by a c).tokens q t ≡ true → EndsToken a q

@@ -1,17 +1,10 @@
 -- The law of what becomes of roles, policies and mounts, as a statement: each changes by requests for it alone, to what
 -- these ask for (Vault's documentation, "/sys/policies", "/sys/mounts", "KV secrets engine - version 2 (API)",
 -- configure; the engine that issues credentials is this project's).
-use Rattle.std.specs.Prelude.{◌≡◌, ◌≢◌, ◌⊎◌, ℕ, Bool, false, Option, Some, None, Ok, codes}
-use Rattle.broker_model.specs.Words.{Text, get, Broker, Engine, Mount, Role, issued, kv, RoleSettings, MountCreation}
-use Rattle.broker_model.specs.Words.{MountSettings, command_of, on_issued, on_mount, on_policy, on_secret, Place}
-use Rattle.broker_types.specs.declared.status.Status.TheVariants as status
-use Rattle.broker_model.specs.declared.commands.IssuedCommand.{IssuedCommand}
-use Rattle.broker_model.specs.declared.commands.IssuedCommand.TheVariants as of_issued
-use Rattle.broker_model.specs.declared.commands.MountCommand.{MountCommand}
-use Rattle.broker_model.specs.declared.commands.MountCommand.TheVariants as of_mount
-use Rattle.broker_model.specs.declared.commands.PolicyCommand.{PolicyCommand}
-use Rattle.broker_model.specs.declared.commands.PolicyCommand.TheVariants as of_policy
-use Rattle.broker_model.specs.declared.commands.SecretCommand.TheVariants as of_secret
+use Rattle.histories.specs.Common.{◌≡◌, ◌≢◌, ◌⊎◌, ℕ, Bool, false, Option, Some, None, Ok, codes, Text, get, Broker}
+use Rattle.histories.specs.Common.{Engine, Mount, Role, issued, kv, RoleSettings, MountCreation, MountSettings}
+use Rattle.histories.specs.Common.{command_of, on_issued, on_mount, on_policy, on_secret, Place, Status, IssuedCommand}
+use Rattle.histories.specs.Common.{MountCommand, PolicyCommand, SecretCommand}
 use Rattle.histories.specs.History.{AreAsked, Asking, AskedAt, History, clocked}
 use Rattle.histories.specs.Versions.{DisablesAbove, named}
 
@@ -22,7 +15,7 @@ pub record OnRole (a : Asking) (q : Text) (asked : IssuedCommand) : Type 0 where
   pub place : Place
   pub means : command_of (clocked a).mounts a.ask ≡ Ok (on_issued place asked)
   pub name : q ≡ named place
-  pub answered : a.outcome.response.status ≡ status.NoContent
+  pub answered : a.outcome.response.status ≡ Status.NoContent
 
 -- the role that the body gives
 abbrev pub role_given : RoleSettings → Role
@@ -32,37 +25,37 @@ role_given asked = record { ttl = asked.ttl; max_ttl = asked.max_ttl }
 abbrev pub RoleBecomes : Asking → Text → Option Role → Option Role → Type 0
 RoleBecomes a q old new =
     (new ≡ old)
-    ⊎ (((asked : RoleSettings) × OnRole a q (of_issued.SetRole asked) × (new ≡ Some (role_given asked)))
-    ⊎ ((new ≡ None) × (OnRole a q of_issued.RemoveRole ⊎ DisablesAbove a q)))
+    ⊎ (((asked : RoleSettings) × OnRole a q (IssuedCommand.SetRole asked) × (new ≡ Some (role_given asked)))
+    ⊎ ((new ≡ None) × (OnRole a q IssuedCommand.RemoveRole ⊎ DisablesAbove a q)))
 
 -- ---- policies
 
 -- the request was a 204 to this command on the policy
 pub record OnPolicy (a : Asking) (name : Text) (asked : PolicyCommand) : Type 0 where
   pub means : command_of (clocked a).mounts a.ask ≡ Ok (on_policy name asked)
-  pub answered : a.outcome.response.status ≡ status.NoContent
+  pub answered : a.outcome.response.status ≡ Status.NoContent
 
 -- The policy is as it was; or it is the text that the request gave, or was removed by it. `root` is never set nor
 -- removed, and `default` never removed.
 abbrev pub PolicyBecomes : Asking → Text → Option Text → Option Text → Type 0
 PolicyBecomes a name old new =
     (new ≡ old)
-    ⊎ (((text : Text) × OnPolicy a name (of_policy.Set text) × (new ≡ Some text) × (name ≢ codes "root"))
-    ⊎ ((new ≡ None) × OnPolicy a name of_policy.Remove × (name ≢ codes "root") × (name ≢ codes "default")))
+    ⊎ (((text : Text) × OnPolicy a name (PolicyCommand.Set text) × (new ≡ Some text) × (name ≢ codes "root"))
+    ⊎ ((new ≡ None) × OnPolicy a name PolicyCommand.Remove × (name ≢ codes "root") × (name ≢ codes "default")))
 
 -- ---- mounts
 
 -- the request was a 204 to this command on the mount
 pub record OnMount (a : Asking) (name : Text) (asked : MountCommand) : Type 0 where
   pub means : command_of (clocked a).mounts a.ask ≡ Ok (on_mount name asked)
-  pub answered : a.outcome.response.status ≡ status.NoContent
+  pub answered : a.outcome.response.status ≡ Status.NoContent
 
 -- the request was a 204 to these settings of the mount
 pub record SetsMount (a : Asking) (name : Text) (asked : MountSettings) : Type 0 where
   pub place : Place
-  pub means : command_of (clocked a).mounts a.ask ≡ Ok (on_secret place (of_secret.SetSettings asked))
+  pub means : command_of (clocked a).mounts a.ask ≡ Ok (on_secret place (SecretCommand.SetSettings asked))
   pub name_is : name ≡ place.mount
-  pub answered : a.outcome.response.status ≡ status.NoContent
+  pub answered : a.outcome.response.status ≡ Status.NoContent
 
 -- The type that is asked for means the engine: `kv-v2`, or `kv` of version 2, means versioned secrets, and `issued` the
 -- engine that issues credentials.
@@ -87,7 +80,7 @@ pub record MountIsSet (asked : MountSettings) (m next : Mount) : Type 0 where
 
 -- the request enabled this mount, where none was, under a name that is not reserved
 pub record Enables (a : Asking) (name : Text) (asked : MountCreation) (old new : Option Mount) : Type 0 where
-  pub on : OnMount a name (of_mount.Enable asked)
+  pub on : OnMount a name (MountCommand.Enable asked)
   pub free : old ≡ None
   pub unreserved : (name ≢ codes "sys") × (name ≢ codes "auth") × (name ≢ codes "cubbyhole")
       × (name ≢ codes "identity")
@@ -110,7 +103,7 @@ MountBecomes a name old new =
     (new ≡ old)
     ⊎ (((asked : MountCreation) × Enables a name asked old new)
     ⊎ (((asked : MountSettings) × Sets a name asked old new)
-    ⊎ ((new ≡ None) × OnMount a name of_mount.Disable)))
+    ⊎ ((new ≡ None) × OnMount a name MountCommand.Disable)))
 
 -- ---- the clock
 
@@ -134,20 +127,21 @@ pub record SettingsFollow (history : History) : Type 0 where
       → MountBecomes a q (get (clocked a).mounts q) (get a.outcome.next.mounts q)
   -- And what a 204 asked for was done.
   pub role_set : (i : ℕ) (a : Asking) (q : Text) (asked : RoleSettings) → AskedAt history i a
-      → OnRole a q (of_issued.SetRole asked) → get a.outcome.next.roles q ≡ Some (role_given asked)
-  pub role_removed : (i : ℕ) (a : Asking) (q : Text) → AskedAt history i a → OnRole a q of_issued.RemoveRole
+      → OnRole a q (IssuedCommand.SetRole asked) → get a.outcome.next.roles q ≡ Some (role_given asked)
+  pub role_removed : (i : ℕ) (a : Asking) (q : Text) → AskedAt history i a → OnRole a q IssuedCommand.RemoveRole
       → get a.outcome.next.roles q ≡ None
-  pub policy_set : (i : ℕ) (a : Asking) (name text : Text) → AskedAt history i a → OnPolicy a name (of_policy.Set text)
+  pub policy_set : (i : ℕ) (a : Asking) (name text : Text) → AskedAt history i a
+      → OnPolicy a name (PolicyCommand.Set text)
       → get a.outcome.next.policies name ≡ Some text
-  pub policy_removed : (i : ℕ) (a : Asking) (name : Text) → AskedAt history i a → OnPolicy a name of_policy.Remove
+  pub policy_removed : (i : ℕ) (a : Asking) (name : Text) → AskedAt history i a → OnPolicy a name PolicyCommand.Remove
       → get a.outcome.next.policies name ≡ None
   pub mount_enabled : (i : ℕ) (a : Asking) (name : Text) (asked : MountCreation) → AskedAt history i a
-      → OnMount a name (of_mount.Enable asked)
+      → OnMount a name (MountCommand.Enable asked)
       → Enables a name asked (get (clocked a).mounts name) (get a.outcome.next.mounts name)
   pub mount_set : (i : ℕ) (a : Asking) (name : Text) (asked : MountSettings) (m : Mount) → AskedAt history i a
       → SetsMount a name asked → get (clocked a).mounts name ≡ Some m
       → Sets a name asked (Some m) (get a.outcome.next.mounts name)
-  pub mount_disabled : (i : ℕ) (a : Asking) (name : Text) → AskedAt history i a → OnMount a name of_mount.Disable
+  pub mount_disabled : (i : ℕ) (a : Asking) (name : Text) → AskedAt history i a → OnMount a name MountCommand.Disable
       → get a.outcome.next.mounts name ≡ None
 
 -- whatever the first broker is

@@ -1,34 +1,27 @@
 -- The law of what look-ups answer, as a statement (Vault's documentation, "Token auth method (API)",
 -- "/sys/leases", "/sys/policies", "KV secrets engine - version 2 (API)"; the engine that issues credentials is this
 -- project's). The forms of objects are those of `api_json`.
-use Rattle.std.specs.Prelude.{◌≡◌, ◌≢◌, ◌⊎◌, ◌<◌, ◌≤◌, ◌+◌, ◌-◌, ◌++◌, ◌∷◌, ℕ, min, List, [], map, Bool, true, false}
-use Rattle.broker_model.specs.Words.{Some, None, Ok, is_none, unwrap_or, codes, option_map_or, Text, Map, entries, get}
-use Rattle.broker_model.specs.Words.{keys, Broker, Engine, Mount, Role, issued, kv, names_of, lease_of, Key, Version}
-use Rattle.broker_model.specs.Words.{Lease, Token, children, folder, auth_object, key_object, keys_object, lease_object}
-use Rattle.broker_model.specs.Words.{policy_object, role_object, mounts_object, settings_object, token_object}
-use Rattle.broker_model.specs.Words.{valid_object, lease_reply, plain_reply, reply_text, LeaseObject, MountObject}
-use Rattle.broker_model.specs.Words.{KeyObject, TokenObject, VersionObject, Command, command_of, on_issued, on_lease}
-use Rattle.broker_model.specs.Words.{on_mount, on_policy, on_secret, on_token, on_wrapping, Place}
-use Rattle.std.specs.FinMap as fin
-use Rattle.broker_types.specs.declared.status.Status.TheVariants as status
-use Rattle.broker_model.specs.declared.commands.IssuedCommand.TheVariants as of_issued
-use Rattle.broker_model.specs.declared.commands.LeaseCommand.TheVariants as of_lease
-use Rattle.broker_model.specs.declared.commands.MountCommand.TheVariants as of_mount
-use Rattle.broker_model.specs.declared.commands.PolicyCommand.TheVariants as of_policy
-use Rattle.broker_model.specs.declared.commands.SecretCommand.TheVariants as of_secret
-use Rattle.broker_model.specs.declared.commands.TokenCommand.TheVariants as of_token
-use Rattle.broker_model.specs.declared.commands.WrappingCommand.TheVariants as of_response
-use Rattle.histories.specs.Creations.{told_of, with_token}
+use Rattle.broker_model.specs.Words.{map, key_object, lease_object, policy_object, role_object, mounts_object}
+use Rattle.broker_model.specs.Words.{settings_object, token_object, valid_object, LeaseObject, MountObject, KeyObject}
+use Rattle.broker_model.specs.Words.{TokenObject, ℕ, min, List, [], Bool, true, false, Some, None, Ok, is_none}
+use Rattle.broker_model.specs.Words.{unwrap_or, codes, option_map_or, Text, Map, entries, get, keys, Broker, Engine}
+use Rattle.broker_model.specs.Words.{Mount, Role, issued, kv, names_of, lease_of, Key, Version, Lease, Token, children}
+use Rattle.broker_model.specs.Words.{folder, auth_object, keys_object, lease_reply, plain_reply, reply_text}
+use Rattle.broker_model.specs.Words.{VersionObject, Command, command_of, on_issued, on_lease, on_mount, on_policy}
+use Rattle.broker_model.specs.Words.{on_secret, on_token, on_wrapping, Place, Status}
+use Rattle.histories.specs.Common.{◌≡◌, ◌≢◌, ◌⊎◌, ◌<◌, ◌≤◌, ◌+◌, ◌-◌, ◌++◌, ◌∷◌, IssuedCommand, LeaseCommand}
+use Rattle.histories.specs.Common.{MountCommand, PolicyCommand, SecretCommand, TokenCommand, WrappingCommand}
 use Rattle.histories.specs.History.{AreAsked, Asking, AskedAt, History, clocked, spent_by}
-use Rattle.histories.specs.KeptResponses.{unwrapped_answer, unwrapped_body}
 use Rattle.histories.specs.Own.{IsNewEnd, RenewsLease, RenewsToken, increment_of}
+use Rattle.histories.specs.Creations.{told_of, with_token}
+use Rattle.histories.specs.KeptResponses.{unwrapped_answer, unwrapped_body}
 use Rattle.histories.specs.Revocation.{IsClient}
 use Rattle.histories.specs.Versions.{named}
 
 -- the request was a 200 to this command
 pub record Succeeds (a : Asking) (command : Command) : Type 0 where
   pub means : command_of (clocked a).mounts a.ask ≡ Ok command
-  pub answered : a.outcome.response.status ≡ status.Success
+  pub answered : a.outcome.response.status ≡ Status.Success
 
 -- the reply, without wrapping, has this as its data, and nothing else
 abbrev pub Shows : Asking → Text → Type 0
@@ -155,8 +148,8 @@ pub record ShowsSecret (a : Asking) (q : Text) : Type 0 where
   pub found : Key
   pub there : get (clocked a).secrets q ≡ Some found
   pub oldest : ℕ
-  pub none : fin.entries found.versions ≡ [] → oldest ≡ 0
-  pub first : (n : ℕ) (v : Version) (rest : List (ℕ × Version)) → fin.entries found.versions ≡ (n, v) ∷ rest
+  pub none : entries found.versions ≡ [] → oldest ≡ 0
+  pub first : (n : ℕ) (v : Version) (rest : List (ℕ × Version)) → entries found.versions ≡ (n, v) ∷ rest
       → ((n ≤ 1) × (oldest ≡ 0)) ⊎ ((1 < n) × (oldest ≡ n))
   pub shown : KeyObject
   pub is_shown : shown
@@ -168,7 +161,7 @@ pub record ShowsSecret (a : Asking) (q : Text) : Type 0 where
         max_versions = found.max_versions;
         oldest_version = oldest;
         updated = found.updated;
-        versions = map version_shown (fin.entries found.versions);
+        versions = map version_shown (entries found.versions);
       }
   pub shows : Shows a (key_object shown)
 
@@ -218,36 +211,38 @@ pub record ListsMounts (a : Asking) : Type 0 where
 pub record AnswersShow (history : History) : Type 0 where
   -- Without a wrap TTL each request but an ask to wrap is answered with the reply without wrapping.
   pub plain : (i : ℕ) (a : Asking) → AskedAt history i a → a.ask.wrap_ttl ≡ 0
-      → ((text : Text) → command_of (clocked a).mounts a.ask ≡ Ok (on_wrapping (of_response.Wrap text)) → ⊥)
+      → ((text : Text) → command_of (clocked a).mounts a.ask ≡ Ok (on_wrapping (WrappingCommand.Wrap text)) → ⊥)
       → a.outcome.response ≡ unwrapped_answer a
-  pub by_text : (i : ℕ) (a : Asking) (t : Text) → AskedAt history i a → Succeeds a (on_token (of_token.LookUp t))
+  pub by_text : (i : ℕ) (a : Asking) (t : Text) → AskedAt history i a → Succeeds a (on_token (TokenCommand.LookUp t))
       → ShowsToken a t t
-  pub client_token : (i : ℕ) (a : Asking) → AskedAt history i a → Succeeds a (on_token of_token.LookUpSelf)
+  pub client_token : (i : ℕ) (a : Asking) → AskedAt history i a → Succeeds a (on_token TokenCommand.LookUpSelf)
       → (c : Text) × IsClient a c × ShowsToken a c c
   pub by_accessor : (i : ℕ) (a : Asking) (accessor : Text) → AskedAt history i a
-      → Succeeds a (on_token (of_token.LookUpAccessor accessor)) → ShowsHolder a accessor
+      → Succeeds a (on_token (TokenCommand.LookUpAccessor accessor)) → ShowsHolder a accessor
   pub renewed : (i : ℕ) (a : Asking) (q : Text) → AskedAt history i a → (r : RenewsToken a q) → TellsRenewed a q r
   pub lease : (i : ℕ) (a : Asking) (prefix lease_id : Text) → AskedAt history i a
-      → Succeeds a (on_lease prefix (of_lease.LookUp lease_id)) → ShowsLease a lease_id
+      → Succeeds a (on_lease prefix (LeaseCommand.LookUp lease_id)) → ShowsLease a lease_id
   pub renewed_lease : (i : ℕ) (a : Asking) (lease_id : Text) → AskedAt history i a → (r : RenewsLease a lease_id)
       → TellsRenewedLease a lease_id r
   pub valid : (i : ℕ) (a : Asking) (p : Place) (credential : Text) → AskedAt history i a
-      → Succeeds a (on_issued p (of_issued.Verify credential)) → SaysValid a credential
-  pub role : (i : ℕ) (a : Asking) (p : Place) → AskedAt history i a → Succeeds a (on_issued p of_issued.ShowRole)
+      → Succeeds a (on_issued p (IssuedCommand.Verify credential)) → SaysValid a credential
+  pub role : (i : ℕ) (a : Asking) (p : Place) → AskedAt history i a → Succeeds a (on_issued p IssuedCommand.ShowRole)
       → ShowsRole a (named p)
   pub settings : (i : ℕ) (a : Asking) (p : Place) → AskedAt history i a
-      → Succeeds a (on_secret p of_secret.ShowSettings) → ShowsSettings a p.mount
-  pub policy : (i : ℕ) (a : Asking) (name : Text) → AskedAt history i a → Succeeds a (on_policy name of_policy.Show)
+      → Succeeds a (on_secret p SecretCommand.ShowSettings) → ShowsSettings a p.mount
+  pub policy : (i : ℕ) (a : Asking) (name : Text) → AskedAt history i a → Succeeds a (on_policy name PolicyCommand.Show)
       → ShowsPolicy a name
-  pub secret : (i : ℕ) (a : Asking) (p : Place) → AskedAt history i a → Succeeds a (on_secret p of_secret.ShowMetadata)
+  pub secret : (i : ℕ) (a : Asking) (p : Place) → AskedAt history i a
+      → Succeeds a (on_secret p SecretCommand.ShowMetadata)
       → ShowsSecret a (named p)
-  pub policies : (i : ℕ) (a : Asking) (name : Text) → AskedAt history i a → Succeeds a (on_policy name of_policy.List)
+  pub policies : (i : ℕ) (a : Asking) (name : Text) → AskedAt history i a
+      → Succeeds a (on_policy name PolicyCommand.List)
       → Lists a (IsPolicyName a)
-  pub accessors : (i : ℕ) (a : Asking) → AskedAt history i a → Succeeds a (on_token of_token.ListAccessors)
+  pub accessors : (i : ℕ) (a : Asking) → AskedAt history i a → Succeeds a (on_token TokenCommand.ListAccessors)
       → Lists a (IsAccessorOf a)
-  pub mounts : (i : ℕ) (a : Asking) (name : Text) → AskedAt history i a → Succeeds a (on_mount name of_mount.List)
+  pub mounts : (i : ℕ) (a : Asking) (name : Text) → AskedAt history i a → Succeeds a (on_mount name MountCommand.List)
       → ListsMounts a
-  pub listed : (i : ℕ) (a : Asking) (p : Place) → AskedAt history i a → Succeeds a (on_secret p of_secret.List)
+  pub listed : (i : ℕ) (a : Asking) (p : Place) → AskedAt history i a → Succeeds a (on_secret p SecretCommand.List)
       → Shows a (keys_object (children (named (record { mount = p.mount; path = folder p.path }))
       (keys (clocked a).secrets)))
 

@@ -1,68 +1,54 @@
 -- The law of how a request is answered that is not refused, as a statement (Vault's documentation, "HTTP API", HTTP
 -- status codes; RFC 9110, sections 15.3.1, 15.3.5 and 15.5.5).
-use Rattle.std.specs.Prelude.{◌≡◌, ◌⊎◌, ℕ, Bool, true, false, None, Ok, codes}
-use Rattle.broker_model.specs.Words.{IsRefused, Text, Broker, Command, command_of, on_cubbyhole, on_issued, on_lease}
-use Rattle.broker_model.specs.Words.{on_mount, on_policy, on_secret, on_token, on_wrapping, no_content, Place}
-use Rattle.broker_types.specs.declared.status.Status.TheVariants as status
-use Rattle.broker_model.specs.declared.commands.CubbyholeCommand.{CubbyholeCommand}
-use Rattle.broker_model.specs.declared.commands.CubbyholeCommand.TheVariants as cubbyhole
-use Rattle.broker_model.specs.declared.commands.IssuedCommand.{IssuedCommand}
-use Rattle.broker_model.specs.declared.commands.IssuedCommand.TheVariants as issued
-use Rattle.broker_model.specs.declared.commands.LeaseCommand.{LeaseCommand}
-use Rattle.broker_model.specs.declared.commands.LeaseCommand.TheVariants as lease
-use Rattle.broker_model.specs.declared.commands.MountCommand.{MountCommand}
-use Rattle.broker_model.specs.declared.commands.MountCommand.TheVariants as mount
-use Rattle.broker_model.specs.declared.commands.PolicyCommand.{PolicyCommand}
-use Rattle.broker_model.specs.declared.commands.PolicyCommand.TheVariants as policy
-use Rattle.broker_model.specs.declared.commands.SecretCommand.{SecretCommand}
-use Rattle.broker_model.specs.declared.commands.SecretCommand.TheVariants as secret
-use Rattle.broker_model.specs.declared.commands.TokenCommand.{TokenCommand}
-use Rattle.broker_model.specs.declared.commands.TokenCommand.TheVariants as token
+use Rattle.histories.specs.Common.{◌≡◌, ◌⊎◌, ℕ, Bool, true, false, None, Ok, codes, IsRefused, Text, Broker, Command}
+use Rattle.histories.specs.Common.{command_of, on_cubbyhole, on_issued, on_lease, on_mount, on_policy, on_secret}
+use Rattle.histories.specs.Common.{on_token, on_wrapping, no_content, Place, Status, CubbyholeCommand, IssuedCommand}
+use Rattle.histories.specs.Common.{LeaseCommand, MountCommand, PolicyCommand, SecretCommand, TokenCommand}
 use Rattle.histories.specs.History.{AreAsked, Asking, AskedAt, History, clocked}
 use Rattle.histories.specs.Versions.{ShowsEnded}
 
 -- ---- which commands tell nothing
 
 abbrev pub cubbyhole_is_silent : CubbyholeCommand → Bool
-cubbyhole_is_silent (cubbyhole.Write full) = true
-cubbyhole_is_silent cubbyhole.Delete = true
+cubbyhole_is_silent (CubbyholeCommand.Write full) = true
+cubbyhole_is_silent CubbyholeCommand.Delete = true
 cubbyhole_is_silent _ = false
 
 abbrev pub token_is_silent : TokenCommand → Bool
-token_is_silent (token.Revoke t) = true
-token_is_silent (token.RevokeOrphan t) = true
-token_is_silent (token.RevokeAccessor accessor) = true
-token_is_silent token.RevokeSelf = true
+token_is_silent (TokenCommand.Revoke t) = true
+token_is_silent (TokenCommand.RevokeOrphan t) = true
+token_is_silent (TokenCommand.RevokeAccessor accessor) = true
+token_is_silent TokenCommand.RevokeSelf = true
 token_is_silent _ = false
 
 abbrev pub secret_is_silent : SecretCommand → Bool
-secret_is_silent (secret.SetSettings asked) = true
-secret_is_silent secret.DeleteCurrent = true
-secret_is_silent (secret.Delete ns) = true
-secret_is_silent (secret.Undelete ns) = true
-secret_is_silent (secret.Destroy ns) = true
-secret_is_silent (secret.SetMetadata asked) = true
-secret_is_silent secret.Remove = true
+secret_is_silent (SecretCommand.SetSettings asked) = true
+secret_is_silent SecretCommand.DeleteCurrent = true
+secret_is_silent (SecretCommand.Delete ns) = true
+secret_is_silent (SecretCommand.Undelete ns) = true
+secret_is_silent (SecretCommand.Destroy ns) = true
+secret_is_silent (SecretCommand.SetMetadata asked) = true
+secret_is_silent SecretCommand.Remove = true
 secret_is_silent _ = false
 
 abbrev pub policy_is_silent : PolicyCommand → Bool
-policy_is_silent (policy.Set text) = true
-policy_is_silent policy.Remove = true
+policy_is_silent (PolicyCommand.Set text) = true
+policy_is_silent PolicyCommand.Remove = true
 policy_is_silent _ = false
 
 abbrev pub mount_is_silent : MountCommand → Bool
-mount_is_silent (mount.Enable asked) = true
-mount_is_silent mount.Disable = true
+mount_is_silent (MountCommand.Enable asked) = true
+mount_is_silent MountCommand.Disable = true
 mount_is_silent _ = false
 
 abbrev pub lease_is_silent : LeaseCommand → Bool
-lease_is_silent (lease.Revoke id) = true
-lease_is_silent lease.RevokeUnder = true
+lease_is_silent (LeaseCommand.Revoke id) = true
+lease_is_silent LeaseCommand.RevokeUnder = true
 lease_is_silent _ = false
 
 abbrev pub issued_is_silent : IssuedCommand → Bool
-issued_is_silent (issued.SetRole asked) = true
-issued_is_silent issued.RemoveRole = true
+issued_is_silent (IssuedCommand.SetRole asked) = true
+issued_is_silent IssuedCommand.RemoveRole = true
 issued_is_silent _ = false
 
 -- whether a command changes something, and tells nothing
@@ -81,12 +67,12 @@ is_silent (on_wrapping command) = false
 -- The command asks for what is never done: to write an object without members to a cubbyhole, to set or to remove the
 -- policy `root`, to remove `default`, or to disable a mount that is always there.
 abbrev pub IsNeverDone : Command → Type 0
-IsNeverDone (on_cubbyhole path command) = command ≡ cubbyhole.Write None
+IsNeverDone (on_cubbyhole path command) = command ≡ CubbyholeCommand.Write None
 IsNeverDone (on_policy name command) =
-    ((text : Text) × (command ≡ policy.Set text) × (name ≡ codes "root"))
-    ⊎ ((command ≡ policy.Remove) × ((name ≡ codes "root") ⊎ (name ≡ codes "default")))
+    ((text : Text) × (command ≡ PolicyCommand.Set text) × (name ≡ codes "root"))
+    ⊎ ((command ≡ PolicyCommand.Remove) × ((name ≡ codes "root") ⊎ (name ≡ codes "default")))
 IsNeverDone (on_mount name command) =
-    (command ≡ mount.Disable)
+    (command ≡ MountCommand.Disable)
     × ((name ≡ codes "sys") ⊎ ((name ≡ codes "auth") ⊎ (name ≡ codes "cubbyhole")))
 IsNeverDone _ = ⊥
 
@@ -94,7 +80,7 @@ IsNeverDone _ = ⊥
 
 -- the command reads a version that is deleted or destroyed, and the answer is a 404 that shows what is left of it
 abbrev pub ReadsEnded : Asking → Command → Type 0
-ReadsEnded a command = (p : Place) × (n : ℕ) × (command ≡ on_secret p (secret.Read n)) × ShowsEnded a p n
+ReadsEnded a command = (p : Place) × (n : ℕ) × (command ≡ on_secret p (SecretCommand.Read n)) × ShowsEnded a p n
 
 pub record StatusesFollow (history : History) : Type 0 where
   -- A command that tells nothing is answered with 204, or refused.
@@ -104,7 +90,7 @@ pub record StatusesFollow (history : History) : Type 0 where
   -- Another is answered with 200, or refused; or it reads a version that has ended.
   pub told : (i : ℕ) (a : Asking) (command : Command) → AskedAt history i a
       → command_of (clocked a).mounts a.ask ≡ Ok command → is_silent command ≡ false
-      → (a.outcome.response.status ≡ status.Success) ⊎ (IsRefused a.outcome.response ⊎ ReadsEnded a command)
+      → (a.outcome.response.status ≡ Status.Success) ⊎ (IsRefused a.outcome.response ⊎ ReadsEnded a command)
   -- And what is never done is refused.
   pub never : (i : ℕ) (a : Asking) (command : Command) → AskedAt history i a
       → command_of (clocked a).mounts a.ask ≡ Ok command → IsNeverDone command → IsRefused a.outcome.response

@@ -1,16 +1,11 @@
 -- The law of what becomes of versioned secrets, as a statement (Vault's documentation, "KV secrets engine - version 2",
 -- check-and-set, deleting and destroying data, key metadata; "/sys/mounts", disable secrets engine).
-use Rattle.std.specs.Prelude.{◌≡◌, ◌≢◌, ◌⊎◌, ◌<◌, ◌≤◌, ◌+◌, ◌++◌, ◌∷◌, ℕ, List, [], Contains, Bool, true, false, nat_eq}
-use Rattle.broker_model.specs.Words.{Some, None, Ok, is_none, starts_with, refused, Text, get, Broker, Mount, names_of}
-use Rattle.broker_model.specs.Words.{Key, Version, slash, secret_object, version_object, plain_reply, reply_text}
-use Rattle.broker_model.specs.Words.{KeySettings, SecretWrite, VersionObject, on_mount, on_secret, command_of}
-use Rattle.broker_model.specs.Words.{not_found, Place}
-use Rattle.std.specs.FinMap as fin
-use Rattle.broker_types.specs.declared.refusal.Refusal.TheVariants as refusal
-use Rattle.broker_types.specs.declared.status.Status.TheVariants as status
-use Rattle.broker_model.specs.declared.commands.MountCommand.TheVariants as mount
-use Rattle.broker_model.specs.declared.commands.SecretCommand.{SecretCommand}
-use Rattle.broker_model.specs.declared.commands.SecretCommand.TheVariants as command
+use Rattle.broker_model.specs.Words.{secret_object, version_object, KeySettings, not_found}
+use Rattle.histories.specs.Common.{◌≡◌, ◌≢◌, ◌⊎◌, ◌<◌, ◌≤◌, ◌+◌, ◌++◌, ◌∷◌, ℕ, List, [], Contains, Bool, true, false}
+use Rattle.histories.specs.Common.{nat_eq, Some, None, Ok, is_none, starts_with, refused, Text, get, Broker, Mount}
+use Rattle.histories.specs.Common.{names_of, Key, Version, slash, plain_reply, reply_text, SecretWrite, VersionObject}
+use Rattle.histories.specs.Common.{on_mount, on_secret, command_of, Place, Refusal, Status, entries, from_entries}
+use Rattle.histories.specs.Common.{MountCommand, SecretCommand}
 use Rattle.histories.specs.History.{AreAsked, Asking, AskedAt, History, clocked}
 use Rattle.histories.specs.KeptResponses.{unwrapped_body}
 
@@ -23,51 +18,51 @@ named p = p.mount ++ slash ∷ p.path
 -- the request was a 200 to this write of the secret q
 pub record Writes (a : Asking) (q : Text) (asked : SecretWrite) : Type 0 where
   pub place : Place
-  pub means : command_of (clocked a).mounts a.ask ≡ Ok (on_secret place (command.Write asked))
+  pub means : command_of (clocked a).mounts a.ask ≡ Ok (on_secret place (SecretCommand.Write asked))
   pub name : q ≡ named place
-  pub answered : a.outcome.response.status ≡ status.Success
+  pub answered : a.outcome.response.status ≡ Status.Success
 
 -- the request was a 204 to this command on the secret q
 pub record Commands (a : Asking) (q : Text) (asked : SecretCommand) : Type 0 where
   pub place : Place
   pub means : command_of (clocked a).mounts a.ask ≡ Ok (on_secret place asked)
   pub name : q ≡ named place
-  pub answered : a.outcome.response.status ≡ status.NoContent
+  pub answered : a.outcome.response.status ≡ Status.NoContent
 
 -- the request was a 204 to the disabling of the mount, which was there, that the secret q is of
 pub record DisablesAbove (a : Asking) (q : Text) : Type 0 where
   pub name : Text
   pub below : starts_with nat_eq q (name ++ slash ∷ []) ≡ true
-  pub means : command_of (clocked a).mounts a.ask ≡ Ok (on_mount name mount.Disable)
+  pub means : command_of (clocked a).mounts a.ask ≡ Ok (on_mount name MountCommand.Disable)
   pub there : get (clocked a).mounts name ≢ None
-  pub answered : a.outcome.response.status ≡ status.NoContent
+  pub answered : a.outcome.response.status ≡ Status.NoContent
 
 -- ---- a version that stands
 
 -- the version n, if it is the current one, was deleted by a 204
 abbrev pub Deletes : Asking → Text → ℕ → ℕ → Type 0
 Deletes a q current n =
-    (Commands a q command.DeleteCurrent × (n ≡ current))
-    ⊎ ((ns : List ℕ) × Commands a q (command.Delete ns) × Contains ns n)
+    (Commands a q SecretCommand.DeleteCurrent × (n ≡ current))
+    ⊎ ((ns : List ℕ) × Commands a q (SecretCommand.Delete ns) × Contains ns n)
 
 -- What became of the version n of the secret q, whose current one has this number. What it holds goes by a destruction
 -- that names it; a time of deletion comes by a deletion that names it, and goes by its taking back.
 pub record VersionStands (a : Asking) (q : Text) (current n : ℕ) (v w : Version) : Type 0 where
   pub created : w.created ≡ v.created
   pub secret : (w.secret ≡ v.secret)
-      ⊎ ((w.secret ≡ None) × ((ns : List ℕ) × Commands a q (command.Destroy ns) × Contains ns n))
+      ⊎ ((w.secret ≡ None) × ((ns : List ℕ) × Commands a q (SecretCommand.Destroy ns) × Contains ns n))
   pub deleted : (w.deleted ≡ v.deleted)
       ⊎ (((v.deleted ≡ None) × (w.deleted ≡ Some (clocked a).clock) × Deletes a q current n)
       ⊎ ((w.deleted ≡ None) × (v.secret ≢ None)
-      × ((ns : List ℕ) × Commands a q (command.Undelete ns) × Contains ns n)))
+      × ((ns : List ℕ) × Commands a q (SecretCommand.Undelete ns) × Contains ns n)))
 
 -- What a 204 asked of the version n of the secret q, whose current one has this number, was done: a deletion that names
 -- it leaves it deleted, a taking back not deleted unless it is destroyed, and a destruction without what it held.
 pub record IsAsAsked (a : Asking) (q : Text) (current n : ℕ) (v : Version) : Type 0 where
   pub deleted : Deletes a q current n → v.deleted ≢ None
-  pub taken_back : (ns : List ℕ) → Commands a q (command.Undelete ns) → Contains ns n
+  pub taken_back : (ns : List ℕ) → Commands a q (SecretCommand.Undelete ns) → Contains ns n
       → (v.deleted ≡ None) ⊎ (v.secret ≡ None)
-  pub destroyed : (ns : List ℕ) → Commands a q (command.Destroy ns) → Contains ns n → v.secret ≡ None
+  pub destroyed : (ns : List ℕ) → Commands a q (SecretCommand.Destroy ns) → Contains ns n → v.secret ≡ None
 
 -- ---- a write
 
@@ -84,13 +79,13 @@ pub record IsWritten (now : ℕ) (m : Mount) (asked : SecretWrite) (k next : Key
   pub told : (n : ℕ) → asked.cas ≡ Some n → n ≡ k.current
   pub untold : asked.cas ≡ None → (k.cas_required ≡ false) × (m.cas_required ≡ false)
   pub number : next.current ≡ k.current + 1
-  pub version : fin.get next.versions next.current
+  pub version : get next.versions next.current
       ≡ Some (record { created = now; deleted = None; secret = Some asked.object })
   pub kept : ℕ
   pub are_kept : AreKept k.max_versions m.max_versions kept
-  pub gone : (n : ℕ) → (n ≡ 0) ⊎ (n + kept ≤ next.current) → fin.get next.versions n ≡ None
+  pub gone : (n : ℕ) → (n ≡ 0) ⊎ (n + kept ≤ next.current) → get next.versions n ≡ None
   pub left : (n : ℕ) → n ≢ 0 → n ≢ next.current → next.current < n + kept
-      → fin.get next.versions n ≡ fin.get k.versions n
+      → get next.versions n ≡ get k.versions n
   pub created : next.created ≡ k.created
   pub updated : next.updated ≡ now
   pub cas_required : next.cas_required ≡ k.cas_required
@@ -101,7 +96,7 @@ pub record IsWritten (now : ℕ) (m : Mount) (asked : SecretWrite) (k next : Key
 pub record IsNewKey (now : ℕ) (k : Key) : Type 0 where
   pub created : k.created ≡ now
   pub current : k.current ≡ 0
-  pub empty : (n : ℕ) → fin.get k.versions n ≡ None
+  pub empty : (n : ℕ) → get k.versions n ≡ None
   pub free : k.cas_required ≡ false
   pub unlimited : k.max_versions ≡ 0
 
@@ -123,7 +118,7 @@ pub record DidWrite (a : Asking) (q : Text) (asked : SecretWrite) : Type 0 where
       ≡ record { created = (clocked a).clock; deleted = None; destroyed = false; version = after.current }
   pub told : unwrapped_body a
       ≡ reply_text (plain_reply (names_of a.words).request
-      (version_object (fin.entries after.custom_metadata) made))
+      (version_object (entries after.custom_metadata) made))
 
 -- ---- settings
 
@@ -135,7 +130,7 @@ pub record AreSet (now : ℕ) (asked : KeySettings) (k next : Key) : Type 0 wher
   pub max_versions : (n : ℕ) → asked.max_versions ≡ Some n → next.max_versions ≡ n
   pub same_max_versions : asked.max_versions ≡ None → next.max_versions ≡ k.max_versions
   pub custom_metadata : (pairs : List (Text × Text)) → asked.custom_metadata ≡ Some pairs
-      → next.custom_metadata ≡ fin.from_entries pairs
+      → next.custom_metadata ≡ from_entries pairs
   pub same_custom_metadata : asked.custom_metadata ≡ None → next.custom_metadata ≡ k.custom_metadata
 
 -- The settings were set: those of the secret that was there, or of a new one.
@@ -154,12 +149,12 @@ pub record DidSet (a : Asking) (q : Text) (asked : KeySettings) : Type 0 where
 pub record StandsUnwritten (a : Asking) (q : Text) (k m : Key) : Type 0 where
   pub created : m.created ≡ k.created
   pub current : m.current ≡ k.current
-  pub versions : (n : ℕ) (v : Version) → fin.get k.versions n ≡ Some v
-      → (w : Version) × (fin.get m.versions n ≡ Some w) × VersionStands a q k.current n v w
-  pub none : (n : ℕ) → fin.get k.versions n ≡ None → fin.get m.versions n ≡ None
+  pub versions : (n : ℕ) (v : Version) → get k.versions n ≡ Some v
+      → (w : Version) × (get m.versions n ≡ Some w) × VersionStands a q k.current n v w
+  pub none : (n : ℕ) → get k.versions n ≡ None → get m.versions n ≡ None
   pub settings : ((m.cas_required ≡ k.cas_required) × (m.max_versions ≡ k.max_versions)
       × (m.custom_metadata ≡ k.custom_metadata) × (m.updated ≡ k.updated))
-      ⊎ ((asked : KeySettings) × Commands a q (command.SetMetadata asked))
+      ⊎ ((asked : KeySettings) × Commands a q (SecretCommand.SetMetadata asked))
 
 -- the secret stands, written or not
 abbrev pub SecretStands : Asking → Text → Key → Key → Type 0
@@ -167,14 +162,14 @@ SecretStands a q k m = ((asked : SecretWrite) × Writes a q asked) ⊎ StandsUnw
 
 -- it goes by its removal, or with its mount
 abbrev pub SecretGoes : Asking → Text → Type 0
-SecretGoes a q = Commands a q command.Remove ⊎ DisablesAbove a q
+SecretGoes a q = Commands a q SecretCommand.Remove ⊎ DisablesAbove a q
 
 -- it comes by a write, or without versions by settings of its own
 abbrev pub Comes : Asking → Text → Key → Type 0
 Comes a q m =
     ((asked : SecretWrite) × Writes a q asked)
-    ⊎ (((asked : KeySettings) × Commands a q (command.SetMetadata asked)) × (m.current ≡ 0)
-    × ((n : ℕ) → fin.get m.versions n ≡ None))
+    ⊎ (((asked : KeySettings) × Commands a q (SecretCommand.SetMetadata asked)) × (m.current ≡ 0)
+    × ((n : ℕ) → get m.versions n ≡ None))
 
 -- ---- what is read
 
@@ -188,7 +183,7 @@ pub record ReadsVersion (a : Asking) (p : Place) (asked : ℕ) : Type 0 where
   pub by_number : asked ≢ 0 → number ≡ asked
   pub by_current : asked ≡ 0 → number ≡ key.current
   pub version : Version
-  pub is_kept : fin.get key.versions number ≡ Some version
+  pub is_kept : get key.versions number ≡ Some version
   pub not_deleted : version.deleted ≡ None
   pub object : Text
   pub holds : version.secret ≡ Some object
@@ -196,7 +191,7 @@ pub record ReadsVersion (a : Asking) (p : Place) (asked : ℕ) : Type 0 where
   pub is_shown : shown ≡ record { created = version.created; deleted = None; destroyed = false; version = number }
   pub reply : unwrapped_body a
       ≡ reply_text (plain_reply (names_of a.words).request
-      (secret_object (Some object) (fin.entries key.custom_metadata) shown))
+      (secret_object (Some object) (entries key.custom_metadata) shown))
 
 -- The request asked for a version that is kept, but deleted or destroyed. The reply, which is never wrapped, is a 404
 -- with its number, its times and the custom metadata of the secret, and nothing of what it held.
@@ -207,7 +202,7 @@ pub record ShowsEnded (a : Asking) (p : Place) (asked : ℕ) : Type 0 where
   pub by_number : asked ≢ 0 → number ≡ asked
   pub by_current : asked ≡ 0 → number ≡ key.current
   pub version : Version
-  pub is_kept : fin.get key.versions number ≡ Some version
+  pub is_kept : get key.versions number ≡ Some version
   pub ended : (version.deleted ≢ None) ⊎ (version.secret ≡ None)
   pub shown : VersionObject
   pub is_shown : shown
@@ -219,21 +214,21 @@ pub record ShowsEnded (a : Asking) (p : Place) (asked : ℕ) : Type 0 where
       }
   pub response : a.outcome.response
       ≡ not_found (reply_text (plain_reply (names_of a.words).request
-      (secret_object None (fin.entries key.custom_metadata) shown)))
+      (secret_object None (entries key.custom_metadata) shown)))
 
 -- There is no version of this number, or no secret; 0 asks for the current one.
 pub record LacksVersion (a : Asking) (p : Place) (asked : ℕ) : Type 0 where
   pub by_number : (key : Key) → get (clocked a).secrets (named p) ≡ Some key → asked ≢ 0
-      → fin.get key.versions asked ≡ None
+      → get key.versions asked ≡ None
   pub by_current : (key : Key) → get (clocked a).secrets (named p) ≡ Some key → asked ≡ 0
-      → fin.get key.versions key.current ≡ None
+      → get key.versions key.current ≡ None
 
 -- the broker has the version n of the secret q, and it holds the object
 pub record Holds (b : Broker) (q : Text) (n : ℕ) (object : Text) : Type 0 where
   pub key : Key
   pub there : get b.secrets q ≡ Some key
   pub version : Version
-  pub is_kept : fin.get key.versions n ≡ Some version
+  pub is_kept : get key.versions n ≡ Some version
   pub holds : version.secret ≡ Some object
 
 -- an event before the place j wrote it, as that version
@@ -257,13 +252,13 @@ pub record VersionsFollow (b : Broker) (history : History) : Type 0 where
       → DidWrite a q asked
   -- And each 204 to settings of a secret set them.
   pub set : (i : ℕ) (a : Asking) (q : Text) (asked : KeySettings) → AskedAt history i a
-      → Commands a q (command.SetMetadata asked) → DidSet a q asked
+      → Commands a q (SecretCommand.SetMetadata asked) → DidSet a q asked
   -- A secret that was there at the clock of an event and is after it, stands.
   pub stand : (i : ℕ) (a : Asking) (q : Text) (k m : Key) → AskedAt history i a → get (clocked a).secrets q ≡ Some k
       → get a.outcome.next.secrets q ≡ Some m → SecretStands a q k m
   -- And each of its versions that a 204 named, is as that asked.
   pub as_asked : (i : ℕ) (a : Asking) (q : Text) (m : Key) (n : ℕ) (v : Version) → AskedAt history i a
-      → get a.outcome.next.secrets q ≡ Some m → fin.get m.versions n ≡ Some v → IsAsAsked a q m.current n v
+      → get a.outcome.next.secrets q ≡ Some m → get m.versions n ≡ Some v → IsAsAsked a q m.current n v
   pub go : (i : ℕ) (a : Asking) (q : Text) → AskedAt history i a → get (clocked a).secrets q ≢ None
       → get a.outcome.next.secrets q ≡ None → SecretGoes a q
   pub come : (i : ℕ) (a : Asking) (q : Text) (m : Key) → AskedAt history i a → get (clocked a).secrets q ≡ None
@@ -273,13 +268,13 @@ pub record VersionsFollow (b : Broker) (history : History) : Type 0 where
       → get a.outcome.next.secrets q ≡ None
   -- A 200 to a read has what the version holds.
   pub read : (i : ℕ) (a : Asking) (p : Place) (n : ℕ) → AskedAt history i a
-      → command_of (clocked a).mounts a.ask ≡ Ok (on_secret p (command.Read n))
-      → a.outcome.response.status ≡ status.Success → ReadsVersion a p n
+      → command_of (clocked a).mounts a.ask ≡ Ok (on_secret p (SecretCommand.Read n))
+      → a.outcome.response.status ≡ Status.Success → ReadsVersion a p n
   -- A 404 to it shows a version that is deleted or destroyed, without what it held; or there is none.
   pub read_404 : (i : ℕ) (a : Asking) (p : Place) (n : ℕ) → AskedAt history i a
-      → command_of (clocked a).mounts a.ask ≡ Ok (on_secret p (command.Read n))
-      → a.outcome.response.status ≡ status.NotFound
-      → ShowsEnded a p n ⊎ (LacksVersion a p n × (a.outcome.response ≡ refused refusal.NotFound))
+      → command_of (clocked a).mounts a.ask ≡ Ok (on_secret p (SecretCommand.Read n))
+      → a.outcome.response.status ≡ Status.NotFound
+      → ShowsEnded a p n ⊎ (LacksVersion a p n × (a.outcome.response ≡ refused Refusal.NotFound))
   -- And what a version holds was given by the write that made it, or it was there at first.
   pub given : (j : ℕ) (x : Asking) (q : Text) (n : ℕ) (object : Text) → AskedAt history j x
       → Holds (clocked x) q n object → WroteBefore history j q n object ⊎ Holds b q n object

@@ -2,22 +2,14 @@
 -- there, or that check-and-set does not let it pass (Vault's documentation, "HTTP API", HTTP status codes; "KV secrets
 -- engine - version 2 (API)", "Token auth method (API)"; the engine that issues credentials, and the texts of refusals,
 -- are this project's).
-use Rattle.std.specs.Prelude.{◌≡◌, ◌≢◌, ◌⊎◌, ℕ, true, Some, None, Ok, codes}
-use Rattle.broker_model.specs.Words.{Text, refused, get, Broker, Mount, lease_of, Key, Token, Refusal, LeaseRenewal}
-use Rattle.broker_model.specs.Words.{SecretWrite, TokenRenewal, Command, command_of, on_cubbyhole, on_issued, on_lease}
-use Rattle.broker_model.specs.Words.{on_policy, on_secret, on_token, Place}
-use Rattle.broker_types.specs.declared.refusal.Denial.TheVariants as denial
-use Rattle.broker_types.specs.declared.refusal.Reason.TheVariants as reason
-use Rattle.broker_types.specs.declared.refusal.Refusal.TheVariants as refusal
-use Rattle.broker_model.specs.declared.commands.CubbyholeCommand.TheVariants as of_cubbyhole
-use Rattle.broker_model.specs.declared.commands.IssuedCommand.TheVariants as of_issued
-use Rattle.broker_model.specs.declared.commands.LeaseCommand.TheVariants as of_lease
-use Rattle.broker_model.specs.declared.commands.PolicyCommand.TheVariants as of_policy
-use Rattle.broker_model.specs.declared.commands.SecretCommand.TheVariants as of_secret
-use Rattle.broker_model.specs.declared.commands.TokenCommand.TheVariants as of_token
-use Rattle.histories.specs.Callers.{IsAllowed}
+use Rattle.histories.specs.Common.{◌≡◌, ◌≢◌, ◌⊎◌, ℕ, true, Some, None, Ok, codes, Text, refused, get, Broker, Mount}
+use Rattle.histories.specs.Common.{lease_of, Key, Token, Refusal, LeaseRenewal, SecretWrite, TokenRenewal, Command}
+use Rattle.histories.specs.Common.{command_of, on_cubbyhole, on_issued, on_lease, on_policy, on_secret, on_token, Place}
+use Rattle.histories.specs.Common.{Reason, Denial, CubbyholeCommand, IssuedCommand, LeaseCommand, PolicyCommand}
+use Rattle.histories.specs.Common.{SecretCommand, TokenCommand}
 use Rattle.histories.specs.History.{AreAsked, Asking, AskedAt, History, clocked}
 use Rattle.histories.specs.Versions.{LacksVersion, named}
+use Rattle.histories.specs.Callers.{IsAllowed}
 
 -- Policies grant the request, which has no wrap TTL, and means the command.
 pub record Asks (a : Asking) (command : Command) : Type 0 where
@@ -52,40 +44,41 @@ pub record LacksCheck (a : Asking) (p : Place) (asked : SecretWrite) : Type 0 wh
 
 pub record TellsWhy (history : History) : Type 0 where
   -- 404: a version, a secret, an object, a role or a policy that is not there
-  pub version : (i : ℕ) (a : Asking) (p : Place) (n : ℕ) → AskedAt history i a → Asks a (on_secret p (of_secret.Read n))
-      → LacksVersion a p n → IsRefusedBy a refusal.NotFound
-  pub secret : (i : ℕ) (a : Asking) (p : Place) → AskedAt history i a → Asks a (on_secret p of_secret.ShowMetadata)
-      → get (clocked a).secrets (named p) ≡ None → IsRefusedBy a refusal.NotFound
+  pub version : (i : ℕ) (a : Asking) (p : Place) (n : ℕ) → AskedAt history i a
+      → Asks a (on_secret p (SecretCommand.Read n))
+      → LacksVersion a p n → IsRefusedBy a Refusal.NotFound
+  pub secret : (i : ℕ) (a : Asking) (p : Place) → AskedAt history i a → Asks a (on_secret p SecretCommand.ShowMetadata)
+      → get (clocked a).secrets (named p) ≡ None → IsRefusedBy a Refusal.NotFound
   pub object : (i : ℕ) (a : Asking) (path : Text) → AskedAt history i a
-      → (h : Asks a (on_cubbyhole path of_cubbyhole.Read)) → get (h.granted).own.cubbyhole path ≡ None
-      → IsRefusedBy a refusal.NotFound
-  pub role : (i : ℕ) (a : Asking) (p : Place) → AskedAt history i a → Asks a (on_issued p of_issued.ShowRole)
-      → get (clocked a).roles (named p) ≡ None → IsRefusedBy a refusal.NotFound
-  pub policy : (i : ℕ) (a : Asking) (name : Text) → AskedAt history i a → Asks a (on_policy name of_policy.Show)
-      → name ≢ codes "root" → get (clocked a).policies name ≡ None → IsRefusedBy a refusal.NotFound
+      → (h : Asks a (on_cubbyhole path CubbyholeCommand.Read)) → get (h.granted).own.cubbyhole path ≡ None
+      → IsRefusedBy a Refusal.NotFound
+  pub role : (i : ℕ) (a : Asking) (p : Place) → AskedAt history i a → Asks a (on_issued p IssuedCommand.ShowRole)
+      → get (clocked a).roles (named p) ≡ None → IsRefusedBy a Refusal.NotFound
+  pub policy : (i : ℕ) (a : Asking) (name : Text) → AskedAt history i a → Asks a (on_policy name PolicyCommand.Show)
+      → name ≢ codes "root" → get (clocked a).policies name ≡ None → IsRefusedBy a Refusal.NotFound
   -- 403 `bad token`: a token to look up or to renew
-  pub token : (i : ℕ) (a : Asking) (t : Text) → AskedAt history i a → Asks a (on_token (of_token.LookUp t))
-      → get (clocked a).tokens t ≡ None → IsRefusedBy a (refusal.Forbidden denial.BadToken)
+  pub token : (i : ℕ) (a : Asking) (t : Text) → AskedAt history i a → Asks a (on_token (TokenCommand.LookUp t))
+      → get (clocked a).tokens t ≡ None → IsRefusedBy a (Refusal.Forbidden Denial.BadToken)
   pub renewed_token : (i : ℕ) (a : Asking) (asked : TokenRenewal) → AskedAt history i a
-      → Asks a (on_token (of_token.Renew asked)) → get (clocked a).tokens asked.token ≡ None
-      → IsRefusedBy a (refusal.Forbidden denial.BadToken)
+      → Asks a (on_token (TokenCommand.Renew asked)) → get (clocked a).tokens asked.token ≡ None
+      → IsRefusedBy a (Refusal.Forbidden Denial.BadToken)
   -- 400: a token to renew that has no end, a lease to look up or to renew that is not there
   pub endless : (i : ℕ) (a : Asking) (asked : TokenRenewal) (x : Token) → AskedAt history i a
-      → Asks a (on_token (of_token.Renew asked)) → get (clocked a).tokens asked.token ≡ Some x → x.ends ≡ None
-      → IsRefusedBy a (refusal.BadRequest reason.TokenNotRenewable)
+      → Asks a (on_token (TokenCommand.Renew asked)) → get (clocked a).tokens asked.token ≡ Some x → x.ends ≡ None
+      → IsRefusedBy a (Refusal.BadRequest Reason.TokenNotRenewable)
   pub lease : (i : ℕ) (a : Asking) (prefix lease_id : Text) → AskedAt history i a
-      → Asks a (on_lease prefix (of_lease.LookUp lease_id)) → LacksId a lease_id
-      → IsRefusedBy a (refusal.BadRequest reason.InvalidLease)
+      → Asks a (on_lease prefix (LeaseCommand.LookUp lease_id)) → LacksId a lease_id
+      → IsRefusedBy a (Refusal.BadRequest Reason.InvalidLease)
   pub renewed_lease : (i : ℕ) (a : Asking) (prefix : Text) (asked : LeaseRenewal) → AskedAt history i a
-      → Asks a (on_lease prefix (of_lease.Renew asked)) → LacksId a asked.lease_id
-      → IsRefusedBy a (refusal.BadRequest reason.InvalidLease)
+      → Asks a (on_lease prefix (LeaseCommand.Renew asked)) → LacksId a asked.lease_id
+      → IsRefusedBy a (Refusal.BadRequest Reason.InvalidLease)
   -- and 400: a write that tells another version than the current one, or none where it should
   pub compared : (i : ℕ) (a : Asking) (p : Place) (asked : SecretWrite) → AskedAt history i a
-      → Asks a (on_secret p (of_secret.Write asked)) → FailsCheck a p asked
-      → IsRefusedBy a (refusal.BadRequest reason.CheckAndSetFailed)
+      → Asks a (on_secret p (SecretCommand.Write asked)) → FailsCheck a p asked
+      → IsRefusedBy a (Refusal.BadRequest Reason.CheckAndSetFailed)
   pub not_compared : (i : ℕ) (a : Asking) (p : Place) (asked : SecretWrite) → AskedAt history i a
-      → Asks a (on_secret p (of_secret.Write asked)) → LacksCheck a p asked
-      → IsRefusedBy a (refusal.BadRequest reason.CheckAndSetRequired)
+      → Asks a (on_secret p (SecretCommand.Write asked)) → LacksCheck a p asked
+      → IsRefusedBy a (Refusal.BadRequest Reason.CheckAndSetRequired)
 
 -- whatever the first broker is
 abbrev pub AllTellWhy : Type 0

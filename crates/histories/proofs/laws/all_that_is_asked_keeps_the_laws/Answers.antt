@@ -1,5 +1,4 @@
-use Rattle.broker_model.specs.Words.{subst, Broker}
-use Rattle.histories.specs.Words.{AreAsked}
+use Rattle.histories.specs.Words.{subst, Broker, AreAsked}
 use Rattle.histories.proofs.laws.all_that_is_asked_keeps_the_laws.Goals as goal
 
 pub returns : goal.returns

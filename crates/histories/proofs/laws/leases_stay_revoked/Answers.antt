@@ -1,4 +1,4 @@
-use Rattle.histories.proofs.LeasesRevoked.{leases_stay_revoked}
+use Rattle.histories.proofs.Disabled.{leases_stay_revoked}
 use Rattle.histories.proofs.laws.leases_stay_revoked.Goals as goal
 
 pub returns : goal.returns

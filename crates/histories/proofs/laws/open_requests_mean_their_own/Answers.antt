@@ -1,5 +1,5 @@
-use Rattle.histories.proofs.OpenRequests.{changes_no_token, means_its_own, these_are_open}
-use Rattle.histories.proofs.Routes.{opened_are_routes, rewraps, unwraps}
+use Rattle.histories.proofs.Routes.{opened_are_routes, rewraps, unwraps, changes_no_token, means_its_own}
+use Rattle.histories.proofs.Routes.{these_are_open}
 use Rattle.histories.proofs.laws.open_requests_mean_their_own.Goals as goal
 
 pub returns-clause-means : goal.returns-clause-means

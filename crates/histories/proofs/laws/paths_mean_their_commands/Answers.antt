@@ -1,7 +1,6 @@
-use Rattle.histories.proofs.CreationRoutes.{creates_at}
+use Rattle.histories.proofs.Routes.{paths_mean_commands, creates_at}
 use Rattle.histories.proofs.LeaseRoutes.{paths_end_leases}
 use Rattle.histories.proofs.MountRoutes.{paths_of_issued, paths_of_secrets, paths_of_settings}
-use Rattle.histories.proofs.Routes.{paths_mean_commands}
 use Rattle.histories.proofs.laws.paths_mean_their_commands.Goals as goal
 
 pub returns : goal.returns
