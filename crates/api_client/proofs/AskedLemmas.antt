@@ -1,23 +1,14 @@
 -- What is sent for a command asks what the command means.
-use Rattle.std.proofs.Common.{◌≡◌, ◌&&◌, ◌==◌, ◌<◌, ◌∷◌, ◌++◌, if◌then◌else◌, ℕ, Bool, true, false, cond, List, []}
-use Rattle.std.proofs.Common.{length, drop, map}
-use Rattle.broker_types.specs.Words.{Option, Some, None, Ok, Err, codes, option_map, unwrap_or, refl, ap, ◌∙◌, subst}
-use Rattle.broker_types.specs.Words.{arith, option_or, is_utf8, nat_tests, is_utf8-from_IsUtf8, is_path, without_slash}
-use Rattle.httparse.specs.Grammar.{trim_ows}
-use Rattle.httparse.specs.Spans.{name_and_value}
-use Rattle.percent_encoding.specs.Percent.{percent_decode}
-use Rattle.broker_types.specs.declared.refusal.Reason.TheVariants as reason
 use Rattle.http_layer.specs.Words.{asked, bad_request, client_token, path_asked, path_read, token_asked, value_asked}
-use Rattle.http_layer.specs.Words.{verb_asked, wrap_ttl_asked, IsFront, whole, HeadField, parts_of, same_in_any_case}
-use Rattle.http_layer.specs.Words.{PrintedLengthIsRead, PrintedRequestIsFront, printed_head}
-use Rattle.broker_types.specs.declared.ask.Verb.TheVariants as verbs
-use Rattle.http_layer.specs.Query.{version_asked}
-use Rattle.api_client.specs.Asking.{Asks, IsOptionalField, IsPathText, IsSendable, verb_of, version_text}
-use Rattle.api_client.specs.Commands.{is_field_text}
-use Rattle.api_client.specs.Requests.{body_of, method_of, path_of, sent, version_of}
-use Rattle.api_client.specs.declared.command.Command.{Command}
-use Rattle.api_client.specs.declared.command.Request.{Request}
-use Rattle.api_client.specs.declared.command.Request.TheVariants as request
+use Rattle.http_layer.specs.Words.{verb_asked, wrap_ttl_asked, IsFront, whole, parts_of, PrintedRequestIsFront}
+use Rattle.broker_types.specs.Words.{option_or, is_utf8, is_utf8-from_IsUtf8}
+use Rattle.api_client.specs.Words.{◌≡◌, ◌&&◌, ◌==◌, ◌<◌, ◌∷◌, ◌++◌, if◌then◌else◌, ℕ, Bool, true, false, cond, List, []}
+use Rattle.api_client.specs.Words.{length, drop, map, Option, Some, None, Ok, Err, codes, option_map, unwrap_or, refl}
+use Rattle.api_client.specs.Words.{ap, ◌∙◌, subst, arith, nat_tests, is_path, without_slash, trim_ows, name_and_value}
+use Rattle.api_client.specs.Words.{percent_decode, Reason, HeadField, same_in_any_case, PrintedLengthIsRead}
+use Rattle.api_client.specs.Words.{printed_head, Verb, version_asked, Asks, IsOptionalField, IsPathText, IsSendable}
+use Rattle.api_client.specs.Words.{verb_of, version_text, is_field_text, body_of, method_of, path_of, sent, version_of}
+use Rattle.api_client.specs.Words.{Command, Request}
 use Rattle.api_client.proofs.PathLemmas.{lists_no_version, percent_decode-escaped, query_text, target_path-target}
 use Rattle.api_client.proofs.PathLemmas.{target_query-target, target_to, version_asked-query, without_slash-path}
 use Rattle.api_client.proofs.SentLemmas.{optional_field, can_be_sent, client_token_sent, no_credentials, path_good}
@@ -25,20 +16,20 @@ use Rattle.api_client.proofs.SentLemmas.{printed, sent_fields, values_in, wrap_t
 use Rattle.api_client.proofs.TextLemmas.{field_parts, trim_visible, visible_text}
 
 verb : (r : Request) → IsSendable r → verb_asked (method_of r) (query_text (version_of r)) ≡ Ok (verb_of r)
-verb (request.Read path version) good =
-    ap (λ (b : Bool). Ok (if b then verbs.List else verbs.Get)) (lists_no_version version good.1)
-verb (request.Write path body) good = refl
-verb (request.List path) good = refl
-verb (request.Delete path) good = refl
-verb (request.Unwrap t) good = refl
+verb (Request.Read path version) good =
+    ap (λ (b : Bool). Ok (if b then Verb.List else Verb.Get)) (lists_no_version version good.1)
+verb (Request.Write path body) good = refl
+verb (Request.List path) good = refl
+verb (Request.Delete path) good = refl
+verb (Request.Unwrap t) good = refl
 
 -- the version that the query asks for
 version_sent : (r : Request) → IsSendable r → version_asked (query_text (version_of r)) ≡ version_text (version_of r)
-version_sent (request.Read path version) good = version_asked-query version good.1
-version_sent (request.Write path body) good = refl
-version_sent (request.List path) good = refl
-version_sent (request.Delete path) good = refl
-version_sent (request.Unwrap t) good = refl
+version_sent (Request.Read path version) good = version_asked-query version good.1
+version_sent (Request.Write path body) good = refl
+version_sent (Request.List path) good = refl
+version_sent (Request.Delete path) good = refl
+version_sent (Request.Unwrap t) good = refl
 
 -- the path that the target names
 path : (p : List ℕ) (version : Option ℕ) → IsPathText p → path_asked (target_to p version) ≡ Ok p
@@ -46,10 +37,10 @@ path p version good =
     ap (λ (t : List ℕ). path_read (percent_decode (drop 4 t))) (target_path-target p version)
     ∙ ap path_read (percent_decode-escaped p good.bytes)
     ∙ ap (λ (b : Bool). cond (b && is_path (without_slash p)) (Ok (without_slash p))
-    (Err (bad_request reason.InvalidPath))) (is_utf8-from_IsUtf8 p good.text)
-    ∙ ap (λ (q : List ℕ). cond (is_path q) (Ok q) (Err (bad_request reason.InvalidPath)))
+    (Err (bad_request Reason.InvalidPath))) (is_utf8-from_IsUtf8 p good.text)
+    ∙ ap (λ (q : List ℕ). cond (is_path q) (Ok q) (Err (bad_request Reason.InvalidPath)))
     (without_slash-path p good.good)
-    ∙ ap (λ (b : Bool). cond b (Ok p) (Err (bad_request reason.InvalidPath))) good.good
+    ∙ ap (λ (b : Bool). cond b (Ok p) (Err (bad_request Reason.InvalidPath))) good.good
 
 -- the value of an option, under its name in any case
 value_sent : (name sent : List ℕ) (o : Option (List ℕ)) → same_in_any_case sent name ≡ true → IsOptionalField o
@@ -58,9 +49,9 @@ value_sent name sent None same good = refl
 value_sent name sent (Some t) same good =
     let parts = field_parts t good in
     ap (λ (b : Bool). value_asked (map (λ (f : HeadField). f.1) (cond b ((sent, trim_ows (32 ∷ t)) ∷ []) []))) same
-    ∙ ap (λ (v : List ℕ). cond (is_utf8 v) (Ok (Some v)) (Err (bad_request reason.MalformedRequest)))
+    ∙ ap (λ (v : List ℕ). cond (is_utf8 v) (Ok (Some v)) (Err (bad_request Reason.MalformedRequest)))
     (trim_visible t parts.2)
-    ∙ ap (λ (b : Bool). cond b (Ok (Some t)) (Err (bad_request reason.MalformedRequest)))
+    ∙ ap (λ (b : Bool). cond b (Ok (Some t)) (Err (bad_request Reason.MalformedRequest)))
     (is_utf8-from_IsUtf8 t (visible_text t parts.2))
 
 -- the client token

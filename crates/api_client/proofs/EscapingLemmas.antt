@@ -1,12 +1,9 @@
 -- The bytes that a client escapes.
-use Rattle.std.proofs.Common.{◌≡◌, ◌≢◌, ◌<◌, ◌≤◌, ◌==◌, ◌&&◌, ◌∷◌, if◌then◌else◌, ℕ, not, Bool, true, false, List, []}
-use Rattle.broker_types.specs.Words.{refl, arith, inl, inr, is_ascii, flat_map, flat_map-cons, agree_below}
-use Rattle.broker_types.specs.Words.{agree_below_at, cases_lt, eqb_tells, nat_tests}
-use Rattle.percent_encoding.specs.declared.ascii_set.AsciiSet.{AsciiSet}
-use Rattle.percent_encoding.specs.declared.ascii_set.TheConstants.{NON_ALPHANUMERIC}
-use Rattle.percent_encoding.specs.AsciiSet.{contains, should_percent_encode}
-use Rattle.percent_encoding.specs.Percent.{encode_byte, percent_encode, percent_encode_byte}
-use Rattle.api_client.specs.Escaping.{escaped, escaped_byte, is_plain}
+use Rattle.broker_types.specs.Words.{is_ascii, flat_map-cons, agree_below, agree_below_at, cases_lt, eqb_tells}
+use Rattle.api_client.specs.Words.{◌≡◌, ◌≢◌, ◌<◌, ◌≤◌, ◌==◌, ◌&&◌, ◌∷◌, if◌then◌else◌, ℕ, not, Bool, true, false, List}
+use Rattle.api_client.specs.Words.{[], refl, arith, inl, inr, flat_map, nat_tests, AsciiSet, NON_ALPHANUMERIC, contains}
+use Rattle.api_client.specs.Words.{should_percent_encode, encode_byte, percent_encode, percent_encode_byte, escaped}
+use Rattle.api_client.specs.Words.{escaped_byte, is_plain}
 
 -- one byte taken out of a set
 pub without : (f g : ℕ → Bool) (x : ℕ) → g x ≡ false → ((b : ℕ) → b < 128 → b ≢ x → g b ≡ f b)

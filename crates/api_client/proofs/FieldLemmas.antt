@@ -1,10 +1,6 @@
 -- The member of a reply that is asked for.
-use Rattle.std.proofs.Common.{◌≡◌, ◌++◌, ◌∷◌, List, [], Option, Some, map, Bor}
-use Rattle.std.specs.Prelude.{fold, IsSomeAnd}
-use Rattle.std.proofs.lemmas.List.Sums.{fold-append}
-use Rattle.broker_types.specs.Words.{map-append, Text}
-use Rattle.serde_json.specs.Data.{Data}
-use Rattle.api_client.specs.Fields.{member_in}
+use Rattle.api_client.specs.Words.{◌≡◌, ◌++◌, ◌∷◌, List, [], Option, Some, map, Bor, fold, IsSomeAnd, fold-append}
+use Rattle.api_client.specs.Words.{map-append, Text, Data, member_in}
 
 -- one part more of a path
 pub one_part_more : (from : Option Data) (parts : List (Bor Text)) (part : Bor Text)

@@ -1,9 +1,7 @@
 -- Numbers that digits tell.
-use Rattle.std.proofs.Common.{◌≡◌, ◌==◌, ◌&&◌, ◌<◌, ◌^◌, ◌∷◌, ℕ, Bool, true, false, cond, List, [], length, drop}
-use Rattle.broker_types.specs.Words.{IsUtf8, nat_lt, refl, sym, ap, arith, and_parts, ltb-true, nat_tests}
-use Rattle.broker_types.specs.Words.{is_ascii_digit, list_all, IsNumeral, digits_value, without_leading_plus}
-use Rattle.broker_types.specs.DecimalLaws.{all_digits}
-use Rattle.http_layer.specs.Words.{is_number}
+use Rattle.api_client.specs.Words.{◌≡◌, ◌==◌, ◌∷◌, ℕ, Bool, true, false, cond, List, [], length, drop}
+use Rattle.api_client.specs.Words.{nat_lt, refl, ap, arith, and_parts, ltb-true, nat_tests, is_ascii_digit}
+use Rattle.api_client.specs.Words.{list_all, IsNumeral, without_leading_plus, all_digits, is_number}
 
 pub not_plus : (ds : List ℕ) → list_all is_ascii_digit ds ≡ true → without_leading_plus ds ≡ ds
 not_plus [] h = refl

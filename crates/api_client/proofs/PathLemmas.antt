@@ -1,25 +1,17 @@
 -- Paths as they are sent in a target.
-use Rattle.std.proofs.Common.{◌≡◌, ◌≢◌, ◌+◌, ◌-◌, ◌*◌, ◌^◌, ◌<◌, ◌≤◌, ◌==◌, ◌&&◌, ◌∷◌, ◌++◌, ℕ, suc, Bool, true, false}
-use Rattle.std.proofs.Common.{not, cond}
-use Rattle.broker_types.specs.Words.{List, [], length, take, drop, All, refl, ap, ◌∙◌, subst, arith, length-append}
-use Rattle.broker_types.specs.Words.{nat_lt, nat_le, list_all, position_or_len, drop_of_length-le, and_parts, leb-true}
-use Rattle.broker_types.specs.Words.{ltb-true, false≢true, nat_tests, take_all, All-append, All-cons, All-head, All-nil}
-use Rattle.broker_types.specs.Words.{All-tail, All-weaker, is_path, is_path_byte, is_segment, segments, without_slash}
-use Rattle.percent_encoding.specs.Percent.{percent_decode, percent_encode_byte}
 use Rattle.percent_encoding.proofs.PercentLemmas.{All-percent_encode_byte, IsEscapeByte, percent_decode-nil}
 use Rattle.percent_encoding.proofs.PercentLemmas.{percent_decode_not_percent, percent_decode-percent_encode_byte}
-use Rattle.broker_types.specs.PathLaws.{slash_not_last}
-use Rattle.std.proofs.Math.Seq.{take-append_seam}
-use Rattle.std.proofs.lemmas.List.Splits.{slice_split_none}
-use Rattle.std.specs.List.{find}
-use Rattle.broker_types.specs.Words.{Option, Some, None, IfSome, codes, decimal, digit_value, AllDigits, append-nil}
-use Rattle.broker_types.specs.Words.{decimal_is_IsNumeral, list_any, option_map_or, slice_split}
-use Rattle.http_layer.specs.Query.{lists, version_asked}
+use Rattle.broker_types.specs.Words.{position_or_len, drop_of_length-le, false≢true, is_path_byte, is_segment, segments}
+use Rattle.broker_types.specs.Words.{list_any, option_map_or, slice_split}
 use Rattle.http_layer.specs.Words.{is_list_part, is_query_mark, is_version_part, target_path, target_query}
-use Rattle.api_client.specs.Asking.{version_text}
-use Rattle.api_client.specs.Requests.{query_line}
-use Rattle.api_client.specs.Commands.{is_visible}
-use Rattle.api_client.specs.Escaping.{escaped, escaped_byte, is_plain}
+use Rattle.api_client.specs.Words.{◌≡◌, ◌≢◌, ◌+◌, ◌-◌, ◌*◌, ◌^◌, ◌<◌, ◌≤◌, ◌==◌, ◌&&◌, ◌∷◌, ◌++◌, ℕ, suc, Bool, true}
+use Rattle.api_client.specs.Words.{false, not, cond, List, [], length, take, drop, All, refl, ap, ◌∙◌, subst, arith}
+use Rattle.api_client.specs.Words.{length-append, nat_lt, nat_le, list_all, and_parts, leb-true, ltb-true, nat_tests}
+use Rattle.api_client.specs.Words.{take_all, All-append, All-cons, All-head, All-nil, All-tail, All-weaker, is_path}
+use Rattle.api_client.specs.Words.{without_slash, percent_decode, percent_encode_byte, slash_not_last, take-append_seam}
+use Rattle.api_client.specs.Words.{slice_split_none, find, Option, Some, None, IfSome, codes, decimal, digit_value}
+use Rattle.api_client.specs.Words.{AllDigits, append-nil, decimal_is_IsNumeral, lists, version_asked, version_text}
+use Rattle.api_client.specs.Words.{query_line, is_visible, escaped, escaped_byte, is_plain}
 use Rattle.api_client.proofs.TextLemmas.{AreVisible}
 
 -- ---- a path has no slash at its end

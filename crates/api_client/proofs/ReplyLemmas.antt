@@ -1,18 +1,12 @@
 -- What was read of a reply, and what is left to read.
-use Rattle.std.proofs.Common.{◌≡◌, ◌-◌, ◌<◌, ◌≤◌, ◌++◌, ℕ, List, length, take, drop, map, Option, Some, None, refl, sym}
-use Rattle.broker_types.specs.Words.{ap, ◌∙◌, subst, inl, inr, arith, append_assoc, length-append, length-take}
-use Rattle.broker_types.specs.Words.{length-drop, take-append_seam, take-append-drop, take-append-le, take_all}
-use Rattle.broker_types.specs.Words.{same_Some, none-some, Consumes}
-use Rattle.httparse.specs.Grammar.{ResponseHead, ReadsResponse, HasNoResponse, print_response}
-use Rattle.httparse.specs.Spans.{name_and_value}
-use Rattle.httparse.proofs.GrammarLemmas.{response_unique, ReadsResponse-append}
-use Rattle.api_client.specs.Replies.{BeginsWithReply, longest_reply_head, reply_length}
-use Rattle.api_client.specs.ReplyHeads.{BeginsWithHead}
+use Rattle.broker_types.specs.Words.{length-take, length-drop, take-append-le, none-some}
+use Rattle.api_client.specs.Words.{◌≡◌, ◌-◌, ◌<◌, ◌≤◌, ◌++◌, ℕ, List, length, take, drop, map, Option, Some, None, refl}
+use Rattle.api_client.specs.Words.{sym, ap, ◌∙◌, subst, inl, inr, arith, append_assoc, length-append, take-append_seam}
+use Rattle.api_client.specs.Words.{take-append-drop, take_all, same_Some, Consumes, ResponseHead, ReadsResponse}
+use Rattle.api_client.specs.Words.{HasNoResponse, print_response, name_and_value, response_unique, ReadsResponse-append}
+use Rattle.api_client.specs.Words.{BeginsWithReply, longest_reply_head, reply_length, BeginsWithHead, Reply, ReplyError}
+use Rattle.api_client.specs.Words.{BadReply, Fault, ReplyHead}
 use Rattle.api_client.specs.ReplyReads.{EndsInBody, HasNoReply, HasNoReplyHead, IsReplyError, ReadsBody, ReadsHead}
-use Rattle.api_client.specs.declared.reply.Reply.{Reply}
-use Rattle.api_client.specs.declared.reply.ReplyError.{ReplyError}
-use Rattle.api_client.specs.declared.reply.ReplyError.TheVariants.{BadReply, Fault}
-use Rattle.api_client.specs.declared.reply_head.ReplyHead.{ReplyHead}
 
 -- ---- known bytes
 

@@ -1,26 +1,19 @@
 -- What is sent for a command is a request of the grammar of HTTP, with its body.
-use Rattle.std.proofs.Common.{◌≡◌, ◌+◌, ◌*◌, ◌/◌, ◌%◌, ◌^◌, ◌<◌, ◌≤◌, ◌∷◌, ◌++◌, ℕ, nat_lt, Bool, true, false, cond}
-use Rattle.std.proofs.Common.{List}
-use Rattle.broker_types.specs.Words.{[], length, map, All, IfSome, Option, Some, None, Ok, codes, decimal, option_map}
-use Rattle.broker_types.specs.Words.{unwrap_or, refl, sym, ap, ap₂, ◌∙◌, subst, arith, lit<, append_assoc, append-nil}
-use Rattle.broker_types.specs.Words.{length-append, filter, flat_map, map-append, filter-append, All-append, All-cons}
-use Rattle.broker_types.specs.Words.{All-nil, All-weaker, AllPass-from_list_all, nat_tests, length-decimal-le}
-use Rattle.broker_types.specs.Words.{flat_map-append, digit_char, leb-true, longest_body}
-use Rattle.httparse.specs.Grammar.{Field, IsField, IsToken, crlf, is_token_byte, is_uri_byte, print_field}
-use Rattle.httparse.specs.Grammar.{print_request, trim_ows}
-use Rattle.httparse.specs.Spans.{name_and_value}
+use Rattle.httparse.specs.Grammar.{IsToken, is_uri_byte, print_request}
 use Rattle.json.specs.Print.{escape, escape_byte, escape_letter}
-use Rattle.serde_json.specs.Written.{compact_text}
-use Rattle.http_layer.specs.Words.{content_length, longest_head, HeadField, is_named, same_in_any_case, values_named}
-use Rattle.http_layer.specs.Words.{PrintedLengthIsRead, CanBeSent, printed_head}
-use Rattle.api_client.specs.Asking.{IsOptionalField, IsPathText, IsSendable}
-use Rattle.api_client.specs.Commands.{is_field_text, is_short_text, is_visible}
-use Rattle.api_client.specs.Escaping.{escaped}
-use Rattle.api_client.specs.Requests.{body_of, field_line, head_lines, length_line, method_of, optional_line, path_of}
-use Rattle.api_client.specs.Requests.{query_line, request_line, unwrap_object, version_of}
-use Rattle.api_client.specs.declared.command.Command.{Command}
-use Rattle.api_client.specs.declared.command.Request.{Request}
-use Rattle.api_client.specs.declared.command.Request.TheVariants as request
+use Rattle.broker_types.specs.Words.{filter-append, digit_char, longest_body}
+use Rattle.http_layer.specs.Words.{content_length, longest_head, CanBeSent}
+use Rattle.api_client.specs.Words.{◌≡◌, ◌+◌, ◌*◌, ◌/◌, ◌%◌, ◌^◌, ◌<◌, ◌≤◌, ◌∷◌, ◌++◌, ℕ, nat_lt, Bool, true, false}
+use Rattle.api_client.specs.Words.{cond, List, [], length, map, All, IfSome, Option, Some, None, Ok, codes, decimal}
+use Rattle.api_client.specs.Words.{option_map, unwrap_or, refl, sym, ap, ap₂, ◌∙◌, subst, arith, lit<, append_assoc}
+use Rattle.api_client.specs.Words.{append-nil, length-append, filter, flat_map, map-append, All-append, All-cons}
+use Rattle.api_client.specs.Words.{All-nil, All-weaker, AllPass-from_list_all, nat_tests, length-decimal-le}
+use Rattle.api_client.specs.Words.{flat_map-append, leb-true, Field, IsField, crlf, is_token_byte, print_field}
+use Rattle.api_client.specs.Words.{trim_ows, name_and_value, compact_text, HeadField, is_named, same_in_any_case}
+use Rattle.api_client.specs.Words.{values_named, PrintedLengthIsRead, printed_head, IsOptionalField, IsPathText}
+use Rattle.api_client.specs.Words.{IsSendable, is_field_text, is_short_text, is_visible, escaped, body_of, method_of}
+use Rattle.api_client.specs.Words.{path_of, query_line, version_of, Command, Request}
+use Rattle.api_client.specs.Requests.{field_line, head_lines, length_line, optional_line, request_line, unwrap_object}
 use Rattle.api_client.proofs.PathLemmas.{escaped_visible, length-escaped, path_parts, target_to}
 use Rattle.api_client.proofs.TextLemmas.{AreVisible, decimal_visible, field_parts, field_raw, trim_visible}
 use Rattle.api_client.proofs.TextLemmas.{visible_text}
@@ -200,11 +193,11 @@ length_sent c len =
 
 method_token : (r : Request) → IsToken (method_of r)
 unfolding is_token_byte
-method_token (request.Read path version) = (lit< tt, AllPass-from_list_all is_token_byte (codes "GET") refl)
-method_token (request.Write path body) = (lit< tt, AllPass-from_list_all is_token_byte (codes "POST") refl)
-method_token (request.List path) = (lit< tt, AllPass-from_list_all is_token_byte (codes "LIST") refl)
-method_token (request.Delete path) = (lit< tt, AllPass-from_list_all is_token_byte (codes "DELETE") refl)
-method_token (request.Unwrap t) = (lit< tt, AllPass-from_list_all is_token_byte (codes "POST") refl)
+method_token (Request.Read path version) = (lit< tt, AllPass-from_list_all is_token_byte (codes "GET") refl)
+method_token (Request.Write path body) = (lit< tt, AllPass-from_list_all is_token_byte (codes "POST") refl)
+method_token (Request.List path) = (lit< tt, AllPass-from_list_all is_token_byte (codes "LIST") refl)
+method_token (Request.Delete path) = (lit< tt, AllPass-from_list_all is_token_byte (codes "DELETE") refl)
+method_token (Request.Unwrap t) = (lit< tt, AllPass-from_list_all is_token_byte (codes "POST") refl)
 
 uri_byte : (b : ℕ) → is_visible b ≡ true → is_uri_byte b ≡ true
 uri_byte b visible = grind (arith, nat_tests)
@@ -338,11 +331,11 @@ length_short (Some n) short = omega (
 )
 
 method_short : (r : Request) → length (method_of r) ≤ 6
-method_short (request.Read path version) = omega arith
-method_short (request.Write path body) = omega arith
-method_short (request.List path) = omega arith
-method_short (request.Delete path) = omega arith
-method_short (request.Unwrap t) = omega arith
+method_short (Request.Read path version) = omega arith
+method_short (Request.Write path body) = omega arith
+method_short (Request.List path) = omega arith
+method_short (Request.Delete path) = omega arith
+method_short (Request.Unwrap t) = omega arith
 
 line_length : (m e q : List ℕ) → length (m ++ codes " /v1/" ++ e ++ q ++ codes " HTTP/1.1" ++ (13 ∷ 10 ∷ []))
     ≡ length m + 5 + length e + length q + 9 + 2
@@ -393,11 +386,11 @@ head_short c len address vault ttl short small path =
 -- ---- the paths and bodies of requests
 
 pub path_good : (r : Request) → IsSendable r → IsPathText (path_of r)
-path_good (request.Read path version) good = good.0
-path_good (request.Write path body) good = good.0
-path_good (request.List path) good = good
-path_good (request.Delete path) good = good
-path_good (request.Unwrap t) good = record {
+path_good (Request.Read path version) good = good.0
+path_good (Request.Write path body) good = good.0
+path_good (Request.List path) good = good
+path_good (Request.Delete path) good = good
+path_good (Request.Unwrap t) good = record {
   good = refl;
   text = visible_text (codes "sys/wrapping/unwrap")
       (AllPass-from_list_all is_visible (codes "sys/wrapping/unwrap") refl);
@@ -409,11 +402,11 @@ path_good (request.Unwrap t) good = record {
     byte b visible = grind (arith, nat_tests)
 
 pub version_small : (r : Request) → IsSendable r → IfSome (version_of r) (λ n. n < 2 ^ 64)
-version_small (request.Read path version) good = good.1
-version_small (request.Write path body) good = tt
-version_small (request.List path) good = tt
-version_small (request.Delete path) good = tt
-version_small (request.Unwrap t) good = tt
+version_small (Request.Read path version) good = good.1
+version_small (Request.Write path body) good = tt
+version_small (Request.List path) good = tt
+version_small (Request.Delete path) good = tt
+version_small (Request.Unwrap t) good = tt
 
 escape_short : (b : ℕ) → length (escape_byte b) ≤ 6
 unfolding escape_byte
@@ -441,11 +434,11 @@ unwrap_short (Some t) good =
     whole k e = simp length-append (omega arith)
 
 pub body_short : (r : Request) → IsSendable r → IfSome (option_map length (body_of r)) (λ n. n ≤ longest_body)
-body_short (request.Read path version) good = tt
-body_short (request.Write path body) good = good.1
-body_short (request.List path) good = tt
-body_short (request.Delete path) good = tt
-body_short (request.Unwrap t) good = unwrap_short t good
+body_short (Request.Read path version) good = tt
+body_short (Request.Write path body) good = good.1
+body_short (Request.List path) good = tt
+body_short (Request.Delete path) good = tt
+body_short (Request.Unwrap t) good = unwrap_short t good
 
 -- ---- it can be sent
 

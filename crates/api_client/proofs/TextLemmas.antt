@@ -1,11 +1,10 @@
 -- Texts of visible characters, as values of fields.
-use Rattle.std.proofs.Common.{◌≡◌, ◌^◌, ◌<◌, ◌≤◌, ◌&&◌, ◌∷◌, ℕ, true, false, List, [], length, reverse, All, IsUtf8}
-use Rattle.broker_types.specs.Words.{decimal, refl, arith, nat_lt, nat_le, list_all, digit_value, AllDigits, and_parts}
-use Rattle.broker_types.specs.Words.{leb-true, ltb-true, nat_tests, decimal_is_IsNumeral, All-cons, All-head, All-nil}
-use Rattle.broker_types.specs.Words.{All-weaker, AllPass-from_list_all, IsUtf8-from_ascii, IsAscii-from_all}
-use Rattle.httparse.specs.Grammar.{is_ows, is_value_byte, skip_ows, trim_ows}
-use Rattle.httparse.proofs.TrimLemmas.{AllPass-reverse, trim_ows_space}
-use Rattle.api_client.specs.Commands.{is_field_text, is_visible, longest_argument}
+use Rattle.api_client.specs.Words.{◌≡◌, ◌^◌, ◌<◌, ◌≤◌, ◌&&◌, ◌∷◌, ℕ, true, false, List, [], length, reverse, All}
+use Rattle.api_client.specs.Words.{IsUtf8, decimal, refl, arith, nat_lt, nat_le, list_all, digit_value, AllDigits}
+use Rattle.api_client.specs.Words.{and_parts, leb-true, ltb-true, nat_tests, decimal_is_IsNumeral, All-cons, All-head}
+use Rattle.api_client.specs.Words.{All-nil, All-weaker, AllPass-from_list_all, IsUtf8-from_ascii, IsAscii-from_all}
+use Rattle.api_client.specs.Words.{is_ows, is_value_byte, skip_ows, trim_ows, AllPass-reverse, trim_ows_space}
+use Rattle.api_client.specs.Words.{is_field_text, is_visible, longest_argument}
 
 -- each character is visible
 abbrev pub AreVisible : List ℕ → Type 0

@@ -1,32 +1,21 @@
 -- The bytes that a server writes for a response, as the client reads them.
-use Rattle.std.proofs.Common.{◌≡◌, ◌+◌, ◌-◌, ◌/◌, ◌%◌, ◌^◌, ◌<◌, ◌≤◌, ◌==◌, ◌&&◌, ◌||◌, ◌∷◌, ◌++◌, ℕ, zero, suc, nat_le}
-use Rattle.broker_types.specs.Words.{nat_lt, Bool, true, false, cond, List, [], length, take, map, All, Some, None}
-use Rattle.broker_types.specs.Words.{codes, decimal, refl, sym, ap, ap₂, ◌∙◌, subst, arith, lit<, append_assoc}
-use Rattle.broker_types.specs.Words.{append-nil, length-append, flat_map, list_all, slice_index_or, is_ascii_digit}
-use Rattle.broker_types.specs.Words.{digits_value, and_from, and_parts, le-leb, leb-true, same_Some, take-append_seam}
-use Rattle.broker_types.specs.Words.{nat_tests, decimal_is_IsNumeral, length-decimal-le, flat_map-append, All-append}
-use Rattle.broker_types.specs.Words.{All-cons, All-head, All-nil, All-tail, All-weaker, AllPass-from_list_all, Response}
-use Rattle.broker_types.specs.Words.{status_code}
-use Rattle.http_layer.specs.Words.{is_number, allow_line, body_lines, cache_line, comma_joined, connection_line}
-use Rattle.http_layer.specs.Words.{date_line, method_names, phrase_of, reply_body, reply_head, status_line}
-use Rattle.httparse.proofs.GrammarLemmas.{response_unique}
-use Rattle.api_client.specs.Commands.{is_visible}
-use Rattle.http.specs.StatusCode.{code_digits}
-use Rattle.httpdate.specs.Calendar.{days_in_month, is_leap_year}
-use Rattle.httpdate.specs.Date.{date_text}
 use Rattle.httpdate.specs.Text.{day_name, four_digits, month_name, time_of_day, two_digits}
-use Rattle.httpdate.specs.declared.date.HttpDate.{HttpDate}
-use Rattle.httparse.specs.Grammar.{Field, IsField, IsResponseHead, ResponseHead, crlf, is_token_byte, is_value_byte}
-use Rattle.httparse.specs.Grammar.{print_field, print_response, status_code as head_code}
-use Rattle.httparse.specs.Spans.{name_and_value}
-use Rattle.broker_types.specs.declared.status.Methods.{Methods}
-use Rattle.broker_types.specs.declared.status.Status.{Status}
-use Rattle.broker_types.specs.declared.status.Status.TheVariants as status
-use Rattle.broker_types.specs.DecimalLaws.{digits_all}
-use Rattle.api_client.specs.Laws.{ReplyIsUnique, WrittenReplyIsRead}
-use Rattle.api_client.specs.Replies.{first_length, length_told, longest_reply_body, longest_reply_head, most_fields}
-use Rattle.api_client.specs.Replies.{reply_length}
-use Rattle.api_client.specs.declared.reply.Reply.{Reply}
+use Rattle.http_layer.specs.Words.{allow_line, body_lines, cache_line, comma_joined, connection_line, date_line}
+use Rattle.http_layer.specs.Words.{method_names, phrase_of, reply_body, reply_head, status_line, Status}
+use Rattle.broker_types.specs.Words.{slice_index_or, and_from, le-leb, Response, status_code}
+use Rattle.api_client.specs.Words.{◌≡◌, ◌+◌, ◌-◌, ◌/◌, ◌%◌, ◌^◌, ◌<◌, ◌≤◌, ◌==◌, ◌&&◌, ◌||◌, ◌∷◌, ◌++◌, ℕ, zero, suc}
+use Rattle.api_client.specs.Words.{nat_le, nat_lt, Bool, true, false, cond, List, [], length, take, map, All, Some}
+use Rattle.api_client.specs.Words.{None, codes, decimal, refl, sym, ap, ap₂, ◌∙◌, subst, arith, lit<, append_assoc}
+use Rattle.api_client.specs.Words.{append-nil, length-append, flat_map, list_all, is_ascii_digit, digits_value}
+use Rattle.api_client.specs.Words.{and_parts, leb-true, same_Some, take-append_seam, nat_tests, decimal_is_IsNumeral}
+use Rattle.api_client.specs.Words.{length-decimal-le, flat_map-append, All-append, All-cons, All-head, All-nil}
+use Rattle.api_client.specs.Words.{All-tail, All-weaker, AllPass-from_list_all, is_number, response_unique, is_visible}
+use Rattle.api_client.specs.Words.{code_digits, days_in_month, is_leap_year, date_text, HttpDate, Field, IsField}
+use Rattle.api_client.specs.Words.{IsResponseHead, ResponseHead, crlf, is_token_byte, is_value_byte, print_field}
+use Rattle.api_client.specs.Words.{print_response, name_and_value, Methods, digits_all, ReplyIsUnique}
+use Rattle.api_client.specs.Words.{WrittenReplyIsRead, first_length, length_told, longest_reply_body}
+use Rattle.api_client.specs.Words.{longest_reply_head, most_fields, reply_length, Reply}
+use Rattle.httparse.specs.Grammar.{status_code as head_code}
 use Rattle.api_client.proofs.SentLemmas.{field, values_in, values_in-append, lines_length}
 use Rattle.api_client.proofs.TextLemmas.{AreVisible, decimal_visible, field_raw, trim_visible}
 
@@ -132,7 +121,7 @@ date_short d =
 -- ---- the head
 
 abbrev allow_fields : Status → Methods → List Field
-allow_fields status.MethodNotAllowed m = field (codes "Allow") (comma_joined (method_names m)) ∷ []
+allow_fields Status.MethodNotAllowed m = field (codes "Allow") (comma_joined (method_names m)) ∷ []
 allow_fields _ m = []
 
 abbrev connection_fields : Bool → List Field
@@ -140,8 +129,8 @@ connection_fields true = field (codes "Connection") (codes "close") ∷ []
 connection_fields false = []
 
 abbrev body_fields : Status → ℕ → List Field
-body_fields status.NoContent len = []
-body_fields status.NotImplemented len = field (codes "Content-Length") (codes "0") ∷ []
+body_fields Status.NoContent len = []
+body_fields Status.NotImplemented len = field (codes "Content-Length") (codes "0") ∷ []
 body_fields _ len = field (codes "Content-Type") (codes "application/json") ∷ field (codes "Content-Length")
     (decimal len) ∷ []
 
@@ -164,16 +153,16 @@ written_head r date close = record {
 }
 
 print_allow : (s : Status) (m : Methods) → flat_map print_field (allow_fields s m) ≡ allow_line s m
-print_allow status.Success m = refl
-print_allow status.NoContent m = refl
-print_allow status.BadRequest m = refl
-print_allow status.Forbidden m = refl
-print_allow status.NotFound m = refl
-print_allow status.MethodNotAllowed m = append-nil (print_field (field (codes "Allow") (comma_joined (method_names m))))
-print_allow status.PayloadTooLarge m = refl
-print_allow status.HeaderFieldsTooLarge m = refl
-print_allow status.InternalServerError m = refl
-print_allow status.NotImplemented m = refl
+print_allow Status.Success m = refl
+print_allow Status.NoContent m = refl
+print_allow Status.BadRequest m = refl
+print_allow Status.Forbidden m = refl
+print_allow Status.NotFound m = refl
+print_allow Status.MethodNotAllowed m = append-nil (print_field (field (codes "Allow") (comma_joined (method_names m))))
+print_allow Status.PayloadTooLarge m = refl
+print_allow Status.HeaderFieldsTooLarge m = refl
+print_allow Status.InternalServerError m = refl
+print_allow Status.NotImplemented m = refl
 
 print_connection : (close : Bool) → flat_map print_field (connection_fields close) ≡ connection_line close
 print_connection true = refl
@@ -186,16 +175,16 @@ print_typed : (len : List ℕ)
 print_typed len = simp (append_assoc, append-nil)
 
 print_body : (s : Status) (len : ℕ) → flat_map print_field (body_fields s len) ≡ body_lines s len
-print_body status.Success len = print_typed (decimal len)
-print_body status.NoContent len = refl
-print_body status.BadRequest len = print_typed (decimal len)
-print_body status.Forbidden len = print_typed (decimal len)
-print_body status.NotFound len = print_typed (decimal len)
-print_body status.MethodNotAllowed len = print_typed (decimal len)
-print_body status.PayloadTooLarge len = print_typed (decimal len)
-print_body status.HeaderFieldsTooLarge len = print_typed (decimal len)
-print_body status.InternalServerError len = print_typed (decimal len)
-print_body status.NotImplemented len = refl
+print_body Status.Success len = print_typed (decimal len)
+print_body Status.NoContent len = refl
+print_body Status.BadRequest len = print_typed (decimal len)
+print_body Status.Forbidden len = print_typed (decimal len)
+print_body Status.NotFound len = print_typed (decimal len)
+print_body Status.MethodNotAllowed len = print_typed (decimal len)
+print_body Status.PayloadTooLarge len = print_typed (decimal len)
+print_body Status.HeaderFieldsTooLarge len = print_typed (decimal len)
+print_body Status.InternalServerError len = print_typed (decimal len)
+print_body Status.NotImplemented len = refl
 
 print_fields : (r : Response) (date : List ℕ) (close : Bool)
     → flat_map print_field (reply_fields r date close)
@@ -240,16 +229,16 @@ IsPrintable s =
     × (digits_value 10 (code_digits (status_code s)) ≡ status_code s)
 
 printable : (s : Status) → IsPrintable s
-printable status.Success = (refl, refl, refl)
-printable status.NoContent = (refl, refl, refl)
-printable status.BadRequest = (refl, refl, refl)
-printable status.Forbidden = (refl, refl, refl)
-printable status.NotFound = (refl, refl, refl)
-printable status.MethodNotAllowed = (refl, refl, refl)
-printable status.PayloadTooLarge = (refl, refl, refl)
-printable status.HeaderFieldsTooLarge = (refl, refl, refl)
-printable status.InternalServerError = (refl, refl, refl)
-printable status.NotImplemented = (refl, refl, refl)
+printable Status.Success = (refl, refl, refl)
+printable Status.NoContent = (refl, refl, refl)
+printable Status.BadRequest = (refl, refl, refl)
+printable Status.Forbidden = (refl, refl, refl)
+printable Status.NotFound = (refl, refl, refl)
+printable Status.MethodNotAllowed = (refl, refl, refl)
+printable Status.PayloadTooLarge = (refl, refl, refl)
+printable Status.HeaderFieldsTooLarge = (refl, refl, refl)
+printable Status.InternalServerError = (refl, refl, refl)
+printable Status.NotImplemented = (refl, refl, refl)
 
 abbrev joined_names : Bool → Bool → Bool → Bool → List ℕ
 joined_names get list write delete =
@@ -290,19 +279,19 @@ one_field name value is some values = All-cons IsField (field name value) [] (fi
 
 allow_valid : (s : Status) (m : Methods) → All IsField (allow_fields s m)
 unfolding is_token_byte
-allow_valid status.MethodNotAllowed m =
+allow_valid Status.MethodNotAllowed m =
     one_field (codes "Allow") (comma_joined (method_names m)) refl (lit< tt)
     (literal (comma_joined (method_names m)) (and_parts (list_all is_value_byte (comma_joined (method_names m)))
     (nat_le (length (comma_joined (method_names m))) 40) (names m.get m.list m.write m.delete)).0)
-allow_valid status.Success m = All-nil IsField
-allow_valid status.NoContent m = All-nil IsField
-allow_valid status.BadRequest m = All-nil IsField
-allow_valid status.Forbidden m = All-nil IsField
-allow_valid status.NotFound m = All-nil IsField
-allow_valid status.PayloadTooLarge m = All-nil IsField
-allow_valid status.HeaderFieldsTooLarge m = All-nil IsField
-allow_valid status.InternalServerError m = All-nil IsField
-allow_valid status.NotImplemented m = All-nil IsField
+allow_valid Status.Success m = All-nil IsField
+allow_valid Status.NoContent m = All-nil IsField
+allow_valid Status.BadRequest m = All-nil IsField
+allow_valid Status.Forbidden m = All-nil IsField
+allow_valid Status.NotFound m = All-nil IsField
+allow_valid Status.PayloadTooLarge m = All-nil IsField
+allow_valid Status.HeaderFieldsTooLarge m = All-nil IsField
+allow_valid Status.InternalServerError m = All-nil IsField
+allow_valid Status.NotImplemented m = All-nil IsField
 
 connection_valid : (close : Bool) → All IsField (connection_fields close)
 unfolding is_token_byte
@@ -325,17 +314,17 @@ typed_valid len small =
 
 body_valid : (s : Status) (len : ℕ) → len < 2 ^ 64 → All IsField (body_fields s len)
 unfolding is_token_byte
-body_valid status.NoContent len small = All-nil IsField
-body_valid status.NotImplemented len small =
+body_valid Status.NoContent len small = All-nil IsField
+body_valid Status.NotImplemented len small =
     one_field (codes "Content-Length") (codes "0") refl (lit< tt) (literal (codes "0") refl)
-body_valid status.Success len small = typed_valid len small
-body_valid status.BadRequest len small = typed_valid len small
-body_valid status.Forbidden len small = typed_valid len small
-body_valid status.NotFound len small = typed_valid len small
-body_valid status.MethodNotAllowed len small = typed_valid len small
-body_valid status.PayloadTooLarge len small = typed_valid len small
-body_valid status.HeaderFieldsTooLarge len small = typed_valid len small
-body_valid status.InternalServerError len small = typed_valid len small
+body_valid Status.Success len small = typed_valid len small
+body_valid Status.BadRequest len small = typed_valid len small
+body_valid Status.Forbidden len small = typed_valid len small
+body_valid Status.NotFound len small = typed_valid len small
+body_valid Status.MethodNotAllowed len small = typed_valid len small
+body_valid Status.PayloadTooLarge len small = typed_valid len small
+body_valid Status.HeaderFieldsTooLarge len small = typed_valid len small
+body_valid Status.InternalServerError len small = typed_valid len small
 
 fields_valid : (r : Response) (d : HttpDate) (close : Bool) → length r.text < 2 ^ 64
     → All IsField (reply_fields r (date_text d) close)
@@ -367,7 +356,7 @@ head_valid r d close small =
 -- ---- how much is written
 
 allow_short : (s : Status) (m : Methods) → length (allow_line s m) ≤ 60
-allow_short status.MethodNotAllowed m =
+allow_short Status.MethodNotAllowed m =
     let joined_length = leb-true (length (comma_joined (method_names m))) 40
     (and_parts (list_all is_value_byte (comma_joined (method_names m)))
     (nat_le (length (comma_joined (method_names m))) 40) (names m.get m.list m.write m.delete)).1 in
@@ -375,15 +364,15 @@ allow_short status.MethodNotAllowed m =
   where
     line : (t : List ℕ) → length (codes "Allow: " ++ t ++ (13 ∷ 10 ∷ [])) ≡ length t + 9
     line t = simp length-append (omega arith)
-allow_short status.Success m = omega arith
-allow_short status.NoContent m = omega arith
-allow_short status.BadRequest m = omega arith
-allow_short status.Forbidden m = omega arith
-allow_short status.NotFound m = omega arith
-allow_short status.PayloadTooLarge m = omega arith
-allow_short status.HeaderFieldsTooLarge m = omega arith
-allow_short status.InternalServerError m = omega arith
-allow_short status.NotImplemented m = omega arith
+allow_short Status.Success m = omega arith
+allow_short Status.NoContent m = omega arith
+allow_short Status.BadRequest m = omega arith
+allow_short Status.Forbidden m = omega arith
+allow_short Status.NotFound m = omega arith
+allow_short Status.PayloadTooLarge m = omega arith
+allow_short Status.HeaderFieldsTooLarge m = omega arith
+allow_short Status.InternalServerError m = omega arith
+allow_short Status.NotImplemented m = omega arith
 
 connection_short : (close : Bool) → length (connection_line close) ≤ 60
 connection_short true = omega arith
@@ -399,16 +388,16 @@ typed_short len small = omega (arith, line (decimal len), length-decimal-le 8 le
     line t = simp length-append (omega arith)
 
 body_lines_short : (s : Status) (len : ℕ) → len ≤ longest_reply_body → length (body_lines s len) ≤ 100
-body_lines_short status.NoContent len small = omega arith
-body_lines_short status.NotImplemented len small = omega arith
-body_lines_short status.Success len small = typed_short len small
-body_lines_short status.BadRequest len small = typed_short len small
-body_lines_short status.Forbidden len small = typed_short len small
-body_lines_short status.NotFound len small = typed_short len small
-body_lines_short status.MethodNotAllowed len small = typed_short len small
-body_lines_short status.PayloadTooLarge len small = typed_short len small
-body_lines_short status.HeaderFieldsTooLarge len small = typed_short len small
-body_lines_short status.InternalServerError len small = typed_short len small
+body_lines_short Status.NoContent len small = omega arith
+body_lines_short Status.NotImplemented len small = omega arith
+body_lines_short Status.Success len small = typed_short len small
+body_lines_short Status.BadRequest len small = typed_short len small
+body_lines_short Status.Forbidden len small = typed_short len small
+body_lines_short Status.NotFound len small = typed_short len small
+body_lines_short Status.MethodNotAllowed len small = typed_short len small
+body_lines_short Status.PayloadTooLarge len small = typed_short len small
+body_lines_short Status.HeaderFieldsTooLarge len small = typed_short len small
+body_lines_short Status.InternalServerError len small = typed_short len small
 
 status_short : (d p : List ℕ) → length (codes "HTTP/1.1 " ++ d ++ codes " " ++ p ++ (13 ∷ 10 ∷ [])) ≡ length d
     + length p + 12
@@ -437,32 +426,32 @@ head_short r d close small =
     )
 
 allow_few : (s : Status) (m : Methods) → length (allow_fields s m) ≤ 1
-allow_few status.MethodNotAllowed m = omega arith
-allow_few status.Success m = omega arith
-allow_few status.NoContent m = omega arith
-allow_few status.BadRequest m = omega arith
-allow_few status.Forbidden m = omega arith
-allow_few status.NotFound m = omega arith
-allow_few status.PayloadTooLarge m = omega arith
-allow_few status.HeaderFieldsTooLarge m = omega arith
-allow_few status.InternalServerError m = omega arith
-allow_few status.NotImplemented m = omega arith
+allow_few Status.MethodNotAllowed m = omega arith
+allow_few Status.Success m = omega arith
+allow_few Status.NoContent m = omega arith
+allow_few Status.BadRequest m = omega arith
+allow_few Status.Forbidden m = omega arith
+allow_few Status.NotFound m = omega arith
+allow_few Status.PayloadTooLarge m = omega arith
+allow_few Status.HeaderFieldsTooLarge m = omega arith
+allow_few Status.InternalServerError m = omega arith
+allow_few Status.NotImplemented m = omega arith
 
 connection_few : (close : Bool) → length (connection_fields close) ≤ 1
 connection_few true = omega arith
 connection_few false = omega arith
 
 body_few : (s : Status) (len : ℕ) → length (body_fields s len) ≤ 2
-body_few status.MethodNotAllowed len = omega arith
-body_few status.Success len = omega arith
-body_few status.NoContent len = omega arith
-body_few status.BadRequest len = omega arith
-body_few status.Forbidden len = omega arith
-body_few status.NotFound len = omega arith
-body_few status.PayloadTooLarge len = omega arith
-body_few status.HeaderFieldsTooLarge len = omega arith
-body_few status.InternalServerError len = omega arith
-body_few status.NotImplemented len = omega arith
+body_few Status.MethodNotAllowed len = omega arith
+body_few Status.Success len = omega arith
+body_few Status.NoContent len = omega arith
+body_few Status.BadRequest len = omega arith
+body_few Status.Forbidden len = omega arith
+body_few Status.NotFound len = omega arith
+body_few Status.PayloadTooLarge len = omega arith
+body_few Status.HeaderFieldsTooLarge len = omega arith
+body_few Status.InternalServerError len = omega arith
+body_few Status.NotImplemented len = omega arith
 
 few : (r : Response) (date : List ℕ) (close : Bool) → length (reply_fields r date close) ≤ most_fields
 few r date close =
@@ -503,29 +492,29 @@ told_typed n small = ap length_told (trim_visible (decimal n) (decimal_visible n
 
 body_told : (s : Status) (t : List ℕ) → length t ≤ longest_reply_body
     → first_length (values_in (codes "content-length") (body_fields s (length t))) ≡ Some (length (reply_body s t))
-body_told status.NoContent t small = refl
-body_told status.NotImplemented t small =
+body_told Status.NoContent t small = refl
+body_told Status.NotImplemented t small =
     ap length_told (trim_visible (codes "0") (AllPass-from_list_all is_visible (codes "0") refl))
-body_told status.Success t small = told_typed (length t) small
-body_told status.BadRequest t small = told_typed (length t) small
-body_told status.Forbidden t small = told_typed (length t) small
-body_told status.NotFound t small = told_typed (length t) small
-body_told status.MethodNotAllowed t small = told_typed (length t) small
-body_told status.PayloadTooLarge t small = told_typed (length t) small
-body_told status.HeaderFieldsTooLarge t small = told_typed (length t) small
-body_told status.InternalServerError t small = told_typed (length t) small
+body_told Status.Success t small = told_typed (length t) small
+body_told Status.BadRequest t small = told_typed (length t) small
+body_told Status.Forbidden t small = told_typed (length t) small
+body_told Status.NotFound t small = told_typed (length t) small
+body_told Status.MethodNotAllowed t small = told_typed (length t) small
+body_told Status.PayloadTooLarge t small = told_typed (length t) small
+body_told Status.HeaderFieldsTooLarge t small = told_typed (length t) small
+body_told Status.InternalServerError t small = told_typed (length t) small
 
 allow_other : (s : Status) (m : Methods) → values_in (codes "content-length") (allow_fields s m) ≡ []
-allow_other status.MethodNotAllowed m = refl
-allow_other status.Success m = refl
-allow_other status.NoContent m = refl
-allow_other status.BadRequest m = refl
-allow_other status.Forbidden m = refl
-allow_other status.NotFound m = refl
-allow_other status.PayloadTooLarge m = refl
-allow_other status.HeaderFieldsTooLarge m = refl
-allow_other status.InternalServerError m = refl
-allow_other status.NotImplemented m = refl
+allow_other Status.MethodNotAllowed m = refl
+allow_other Status.Success m = refl
+allow_other Status.NoContent m = refl
+allow_other Status.BadRequest m = refl
+allow_other Status.Forbidden m = refl
+allow_other Status.NotFound m = refl
+allow_other Status.PayloadTooLarge m = refl
+allow_other Status.HeaderFieldsTooLarge m = refl
+allow_other Status.InternalServerError m = refl
+allow_other Status.NotImplemented m = refl
 
 connection_other : (close : Bool) → values_in (codes "content-length") (connection_fields close) ≡ []
 connection_other true = refl

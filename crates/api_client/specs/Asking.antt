@@ -1,26 +1,23 @@
 -- What the requests of the client ask (Vault's documentation, "HTTP API" and "Response wrapping").
-use Rattle.std.specs.Prelude.{◌≡◌, ◌^◌, ◌<◌, ◌≤◌, ℕ, true, List, [], length, unwrap_or, Option, IfSome, All, IsUtf8}
-use Rattle.std.specs.Prelude.{Result}
-use Rattle.std.specs.Prelude.{Some, None, decimal}
-use Rattle.broker_types.specs.Words.{Ok, longest_body, is_path, Text}
+use Rattle.std.proofs.Common.{◌≡◌, ◌^◌, ◌<◌, ◌≤◌, ℕ, true, List, [], length, unwrap_or, Option, IfSome, All, IsUtf8}
+use Rattle.std.proofs.Common.{Result, Some, None, decimal, Ok}
+use Rattle.http_layer.specs.Words.{asked, wrap_ttl_read, IsFront, whole, HeadParts, RefusalParts, ◌>>=◌}
+use Rattle.broker_types.specs.Words.{longest_body, is_path, Text}
 use Rattle.broker_types.specs.declared.ask.Ask.{Ask}
 use Rattle.broker_types.specs.declared.ask.Verb.{Verb}
-use Rattle.broker_types.specs.declared.ask.Verb.TheVariants as verb
-use Rattle.http_layer.specs.Words.{asked, wrap_ttl_read, IsFront, whole, HeadParts, RefusalParts, ◌>>=◌}
-use Rattle.api_client.specs.Commands.{is_field_text, is_short_text}
 use Rattle.api_client.specs.Requests.{body_of, path_of, version_of}
+use Rattle.api_client.specs.Commands.{is_field_text, is_short_text}
 use Rattle.api_client.specs.declared.command.Command.{Command}
 use Rattle.api_client.specs.declared.command.Request.{Request}
-use Rattle.api_client.specs.declared.command.Request.TheVariants as request
 
 -- ---- what a command means
 
 abbrev pub verb_of : Request → Verb
-verb_of (request.Read path version) = verb.Get
-verb_of (request.Write path body) = verb.Write
-verb_of (request.List path) = verb.List
-verb_of (request.Delete path) = verb.Delete
-verb_of (request.Unwrap token) = verb.Write
+verb_of (Request.Read path version) = Verb.Get
+verb_of (Request.Write path body) = Verb.Write
+verb_of (Request.List path) = Verb.List
+verb_of (Request.Delete path) = Verb.Delete
+verb_of (Request.Unwrap token) = Verb.Write
 
 -- the version that is asked for, as it is written
 abbrev pub version_text : Option ℕ → Text
@@ -55,11 +52,11 @@ pub record IsPathText (path : List ℕ) : Type 0 where
   pub bytes : All (λ b. b < 256) path
 
 abbrev pub IsSendable : Request → Type 0
-IsSendable (request.Read path version) = IsPathText path × IfSome version (λ n. n < 2 ^ 64)
-IsSendable (request.Write path body) = IsPathText path × (length body ≤ longest_body)
-IsSendable (request.List path) = IsPathText path
-IsSendable (request.Delete path) = IsPathText path
-IsSendable (request.Unwrap token) = IfSome token (λ t. is_short_text t ≡ true)
+IsSendable (Request.Read path version) = IsPathText path × IfSome version (λ n. n < 2 ^ 64)
+IsSendable (Request.Write path body) = IsPathText path × (length body ≤ longest_body)
+IsSendable (Request.List path) = IsPathText path
+IsSendable (Request.Delete path) = IsPathText path
+IsSendable (Request.Unwrap token) = IfSome token (λ t. is_short_text t ≡ true)
 
 abbrev pub IsOptionalField : Option Text → Type 0
 IsOptionalField o = IfSome o (λ t. is_field_text t ≡ true)

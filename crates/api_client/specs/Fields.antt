@@ -1,15 +1,13 @@
 -- The member of a reply that is asked for, as it is printed (this project's definition).
-use Rattle.std.specs.Prelude.{◌≡◌, ◌==◌, ◌++◌, ◌∷◌, if◌then◌else◌, ℕ, List, [], codes, fold, Bool, false, IsUtf8}
-use Rattle.std.specs.Prelude.{Option, Some, None, MatchOption, IsSomeAnd, option_and_then}
-use Rattle.std.specs.Option.{option_or}
-use Rattle.std.specs.List.{list_any, slice_split}
-use Rattle.broker_types.specs.Words.{Text}
+use Rattle.std.proofs.Common.{◌≡◌, ◌==◌, ◌++◌, ◌∷◌, if◌then◌else◌, ℕ, List, [], codes, fold, Bool, false, IsUtf8}
+use Rattle.std.proofs.Common.{Option, Some, None, MatchOption, IsSomeAnd, option_and_then}
+use Rattle.serde_json.specs.Written.{compact_text, has_float, IsInOrder}
+use Rattle.serde_json.specs.Find.{get, as_str}
 use Rattle.serde_json.specs.Data.{Data}
 use Rattle.serde_json.specs.Read.{read}
-use Rattle.serde_json.specs.Find.{get, as_str}
-use Rattle.serde_json.specs.Written.{compact_text, has_float, IsInOrder}
-use Rattle.api_client.specs.declared.field.Field.{Field}
+use Rattle.broker_types.specs.Words.{option_or, list_any, slice_split, Text}
 use Rattle.api_client.specs.declared.field.Field.TheVariants.{Found, Missing, NoJson}
+use Rattle.api_client.specs.declared.field.Field.{Field}
 
 -- ---- where a name is looked for
 

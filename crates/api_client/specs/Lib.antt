@@ -10,3 +10,4 @@ pub mod ReplyHeads
 pub mod ReplyReads
 pub mod Requests
 pub mod Shows
+pub mod Words

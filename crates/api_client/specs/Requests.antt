@@ -1,37 +1,36 @@
 -- The bytes of the client's requests (RFC 9112, sections 2.1, 3 and 5; Vault's documentation, "HTTP API" and "Response
 -- wrapping"). Which fields are sent, and their order, are this project's.
-use Rattle.std.specs.Prelude.{◌≡◌, ◌++◌, ⊤, ℕ, List, [], Option, Some, None, codes, decimal, length, option_map}
-use Rattle.broker_types.specs.Words.{unwrap_or, Text}
+use Rattle.std.proofs.Common.{◌≡◌, ◌++◌, ℕ, List, [], Option, Some, None, codes, decimal, length, option_map, unwrap_or}
 use Rattle.serde_json.specs.Data.{Data, object, member, no_members, string}
 use Rattle.serde_json.specs.Read.{read}
 use Rattle.serde_json.specs.Written.{compact_text}
+use Rattle.broker_types.specs.Words.{⊤, Text}
 use Rattle.http_layer.specs.Words.{crlf}
 use Rattle.api_client.specs.Escaping.{escaped}
 use Rattle.api_client.specs.declared.command.Command.{Command}
 use Rattle.api_client.specs.declared.command.Request.{Request}
-use Rattle.api_client.specs.declared.command.Request.TheVariants as request
 
 -- ---- the parts of a request
 
 -- its method (Vault's documentation, "HTTP API", for LIST)
 abbrev pub method_of : Request → Text
-method_of (request.Read path version) = codes "GET"
-method_of (request.Write path body) = codes "POST"
-method_of (request.List path) = codes "LIST"
-method_of (request.Delete path) = codes "DELETE"
-method_of (request.Unwrap token) = codes "POST"
+method_of (Request.Read path version) = codes "GET"
+method_of (Request.Write path body) = codes "POST"
+method_of (Request.List path) = codes "LIST"
+method_of (Request.Delete path) = codes "DELETE"
+method_of (Request.Unwrap token) = codes "POST"
 
 -- its path, below `/v1/`
 abbrev pub path_of : Request → Text
-path_of (request.Read path version) = path
-path_of (request.Write path body) = path
-path_of (request.List path) = path
-path_of (request.Delete path) = path
-path_of (request.Unwrap token) = codes "sys/wrapping/unwrap"
+path_of (Request.Read path version) = path
+path_of (Request.Write path body) = path
+path_of (Request.List path) = path
+path_of (Request.Delete path) = path
+path_of (Request.Unwrap token) = codes "sys/wrapping/unwrap"
 
 -- the version that it asks for
 abbrev pub version_of : Request → Option ℕ
-version_of (request.Read path version) = version
+version_of (Request.Read path version) = version
 version_of _ = None
 
 -- the object that names a wrapping token (Vault's documentation, "/sys/wrapping/unwrap")
@@ -41,8 +40,8 @@ unwrap_object (Some token) = object (member (codes "token") (string token) no_me
 
 -- its body, which POST alone has
 abbrev pub body_of : Request → Option (List ℕ)
-body_of (request.Write path body) = Some body
-body_of (request.Unwrap token) = Some (compact_text (unwrap_object token))
+body_of (Request.Write path body) = Some body
+body_of (Request.Unwrap token) = Some (compact_text (unwrap_object token))
 body_of _ = None
 
 -- the compact text of a JSON value is read as that value (RFC 8259)
@@ -51,7 +50,7 @@ IsReadBack d = read (compact_text d) ≡ Some d
 
 -- the body of a request that names a wrapping token is read as the object that names it
 abbrev pub NamesToken : Request → Type 0
-NamesToken (request.Unwrap token) = IsReadBack (unwrap_object token)
+NamesToken (Request.Unwrap token) = IsReadBack (unwrap_object token)
 NamesToken _ = ⊤
 
 -- ---- its lines

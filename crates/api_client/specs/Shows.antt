@@ -1,11 +1,10 @@
 -- What is printed of a reply (this project's definition).
-use Rattle.std.specs.Prelude.{◌≡◌, ◌==◌, ◌&&◌, ◌||◌, ◌∷◌, ◌++◌, if◌then◌else◌, ℕ, Bool, true, false, List, [], codes}
-use Rattle.std.specs.Prelude.{decimal}
-use Rattle.std.specs.Prelude.{Option, Some, None}
+use Rattle.std.proofs.Common.{◌≡◌, ◌==◌, ◌&&◌, ◌||◌, ◌∷◌, ◌++◌, if◌then◌else◌, ℕ, Bool, true, false, List, [], codes}
+use Rattle.std.proofs.Common.{decimal, Option, Some, None}
 use Rattle.broker_types.specs.Words.{Text}
+use Rattle.api_client.specs.declared.field.Field.TheVariants.{Found, Missing, NoJson}
 use Rattle.api_client.specs.Fields.{IsField}
 use Rattle.api_client.specs.declared.field.Field.{Field}
-use Rattle.api_client.specs.declared.field.Field.TheVariants.{Found, Missing, NoJson}
 use Rattle.api_client.specs.declared.manner.Manner.{Manner}
 use Rattle.api_client.specs.declared.reply.Reply.{Reply}
 use Rattle.api_client.specs.declared.shown.Shown.{Shown}

@@ -1,5 +1,4 @@
-use Rattle.std.proofs.Common.{◌<◌, arith}
-use Rattle.broker_types.specs.Words.{All-from_get_or}
+use Rattle.api_client.specs.Words.{◌<◌, arith, All-from_get_or}
 use Rattle.api_client.proofs.asking.are_bytes.Goals as goal
 
 pub returns : goal.returns

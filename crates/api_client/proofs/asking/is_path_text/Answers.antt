@@ -1,5 +1,4 @@
-use Rattle.std.proofs.Common.{◌≡◌, ◌<◌, ℕ, List, true, subst, All, IsUtf8, ◌∙◌}
-use Rattle.broker_types.specs.Words.{is_path}
+use Rattle.api_client.specs.Words.{◌≡◌, ◌<◌, ℕ, List, true, subst, All, IsUtf8, ◌∙◌, is_path}
 use Rattle.api_client.proofs.asking.is_path_text.Goals as goal
 
 pub returns : goal.returns

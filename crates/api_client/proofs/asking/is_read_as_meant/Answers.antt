@@ -1,5 +1,4 @@
-use Rattle.std.proofs.Common.{◌≡◌, ℕ, List, true, subst}
-use Rattle.api_client.specs.Commands.{is_field_text}
+use Rattle.api_client.specs.Words.{◌≡◌, ℕ, List, true, subst, is_field_text}
 use Rattle.api_client.proofs.AskedLemmas.{sent_asks}
 use Rattle.api_client.proofs.asking.is_read_as_meant.Goals as goal
 

@@ -1,5 +1,4 @@
-use Rattle.percent_encoding.specs.declared.ascii_set.TheConstants.{NON_ALPHANUMERIC}
-use Rattle.percent_encoding.specs.AsciiSet.{contains}
+use Rattle.api_client.specs.Words.{NON_ALPHANUMERIC, contains}
 use Rattle.api_client.proofs.EscapingLemmas.{without, escaped_at}
 use Rattle.api_client.proofs.escaping.escaped_set.Goals as goal
 

@@ -1,7 +1,4 @@
-use Rattle.std.proofs.Common.{◌≡◌, ap, ◌∙◌}
-use Rattle.percent_encoding.specs.Percent.{percent_encode}
-use Rattle.percent_encoding.specs.Iter.{encoded_text}
-use Rattle.api_client.specs.Escaping.{escaped}
+use Rattle.api_client.specs.Words.{◌≡◌, ap, ◌∙◌, percent_encode, encoded_text, escaped}
 use Rattle.api_client.proofs.EscapingLemmas.{percent_encode-escaped}
 use Rattle.api_client.proofs.escaping.push_escaped.Goals as goal
 

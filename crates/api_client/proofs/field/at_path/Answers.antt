@@ -1,8 +1,5 @@
-use Rattle.std.proofs.Common.{Some, sym, ap, ◌∙◌, lit<}
-use Rattle.std.specs.Prelude.{fold}
-use Rattle.broker_types.specs.Words.{YieldsList-from_str_split, YieldsList-end}
-use Rattle.serde_json.specs.View.{view}
-use Rattle.api_client.specs.Fields.{at_path, member_in}
+use Rattle.api_client.specs.Words.{Some, sym, ap, ◌∙◌, lit<, fold, YieldsList-from_str_split, YieldsList-end, view}
+use Rattle.api_client.specs.Words.{at_path, member_in}
 use Rattle.api_client.proofs.FieldLemmas.{one_part_more}
 use Rattle.api_client.proofs.field.at_path.Goals as goal
 

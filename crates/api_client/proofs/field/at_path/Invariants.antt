@@ -1,7 +1,4 @@
-use Rattle.std.proofs.Common.{◌≡◌, Some, map, option_map}
-use Rattle.std.specs.Prelude.{fold}
-use Rattle.serde_json.specs.View.{view}
-use Rattle.api_client.specs.Fields.{member_in}
+use Rattle.api_client.specs.Words.{◌≡◌, Some, map, option_map, fold, view, member_in}
 use Rattle.api_client.proofs.field.at_path.Given as goal
 
 -- where the parts so far lead

@@ -1,7 +1,4 @@
-use Rattle.std.proofs.Common.{◌≡◌, Some, option_map, sym, ap, ◌∙◌}
-use Rattle.serde_json.specs.Read.{read}
-use Rattle.serde_json.specs.View.{view}
-use Rattle.api_client.specs.Fields.{value_of}
+use Rattle.api_client.specs.Words.{◌≡◌, Some, option_map, sym, ap, ◌∙◌, read, view, value_of}
 use Rattle.api_client.proofs.FieldLemmas.{found_and}
 use Rattle.api_client.proofs.field.field_of.Goals as goal
 

@@ -1,8 +1,6 @@
-use Rattle.std.proofs.Common.{◌≡◌, ◌&&◌, ◌<◌, ◌^◌, ℕ, Bool, true, false, cond, List, Some, None, ap, ◌∙◌, sym, subst}
-use Rattle.std.proofs.Common.{refl}
-use Rattle.broker_types.specs.Words.{IsNumeral, digits_value, without_leading_plus, nat_lt, nat_tests, arith}
-use Rattle.http_layer.specs.Words.{is_number}
-use Rattle.api_client.specs.Numbers.{number_told}
+use Rattle.api_client.specs.Words.{◌≡◌, ◌&&◌, ◌<◌, ◌^◌, ℕ, Bool, true, false, cond, List, Some, None, ap, ◌∙◌, sym}
+use Rattle.api_client.specs.Words.{subst, refl, IsNumeral, digits_value, without_leading_plus, nat_lt, nat_tests, arith}
+use Rattle.api_client.specs.Words.{is_number, number_told}
 use Rattle.api_client.proofs.NumberLemmas.{numeral, plain}
 use Rattle.api_client.proofs.numbers.number_of.Goals as goal
 

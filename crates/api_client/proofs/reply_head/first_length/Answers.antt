@@ -1,10 +1,9 @@
-use Rattle.std.proofs.Common.{◌≡◌, ◌<◌, ◌+◌, ◌++◌, ◌∷◌, ◌∙◌, [], Bool, true, false, cond, codes, drop, length, Some, ap}
-use Rattle.broker_types.specs.Words.{sym, map, take, get_or, List, ℕ, add-one, filter, slice_get, to_ascii_lowercase}
-use Rattle.broker_types.specs.Words.{drop-cons, same_from_decides, map-append, map_more, take-append-drop, append-nil}
-use Rattle.broker_types.specs.Words.{bytes_eq-Decides}
-use Rattle.httparse.specs.Spans.{header_bytes}
-use Rattle.httparse.specs.declared.spans.HeaderSpan.{HeaderSpan}
-use Rattle.http_layer.specs.Words.{HeadField, values_named, is_named, same_in_any_case, values_named-append}
+use Rattle.broker_types.specs.Words.{get_or, add-one, slice_get, to_ascii_lowercase, drop-cons, same_from_decides}
+use Rattle.broker_types.specs.Words.{map_more, bytes_eq-Decides}
+use Rattle.api_client.specs.Words.{◌≡◌, ◌<◌, ◌+◌, ◌++◌, ◌∷◌, ◌∙◌, [], Bool, true, false, cond, codes, drop, length}
+use Rattle.api_client.specs.Words.{Some, ap, sym, map, take, List, ℕ, filter, map-append, take-append-drop, append-nil}
+use Rattle.api_client.specs.Words.{header_bytes, HeaderSpan, HeadField, values_named, is_named, same_in_any_case}
+use Rattle.api_client.specs.Words.{values_named-append}
 use Rattle.api_client.proofs.reply_head.first_length.Goals as goal
 
 abbrev none : HeaderSpan

@@ -1,6 +1,4 @@
-use Rattle.std.proofs.Common.{◌≡◌, [], codes, map, take}
-use Rattle.httparse.specs.Spans.{header_bytes}
-use Rattle.http_layer.specs.Words.{values_named}
+use Rattle.api_client.specs.Words.{◌≡◌, [], codes, map, take, header_bytes, values_named}
 use Rattle.api_client.proofs.reply_head.first_length.Given as goal
 
 -- no field so far has the name

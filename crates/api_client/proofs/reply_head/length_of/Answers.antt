@@ -1,11 +1,8 @@
-use Rattle.std.proofs.Common.{◌≡◌, ◌==◌, ◌&&◌, ◌<◌, ◌^◌, ◌∷◌, ℕ, Bool, true, false, cond, List, [], length, drop, Some}
-use Rattle.broker_types.specs.Words.{None, Result, Ok, Err, MatchResult, IsUtf8, nat_le, nat_lt, refl, sym, ap, ◌∙◌}
-use Rattle.broker_types.specs.Words.{subst, arith, and_parts, ltb-true, nat_tests, IsAscii-from_digits}
-use Rattle.broker_types.specs.Words.{IsUtf8-from_ascii, is_ascii_digit, list_all, IsOk, IsNumeral, digits_value}
-use Rattle.broker_types.specs.Words.{without_leading_plus}
-use Rattle.broker_types.specs.DecimalLaws.{all_digits}
-use Rattle.http_layer.specs.Words.{is_number}
-use Rattle.api_client.specs.Replies.{length_told, longest_reply_body}
+use Rattle.broker_types.specs.Words.{MatchResult, IsAscii-from_digits, IsOk}
+use Rattle.api_client.specs.Words.{◌≡◌, ◌&&◌, ◌<◌, ◌^◌, ℕ, Bool, true, false, cond, List, Some, None, Result, Ok, Err}
+use Rattle.api_client.specs.Words.{IsUtf8, nat_le, refl, sym, ap, ◌∙◌, subst, arith, nat_tests, IsUtf8-from_ascii}
+use Rattle.api_client.specs.Words.{IsNumeral, digits_value, without_leading_plus, is_number, length_told}
+use Rattle.api_client.specs.Words.{longest_reply_body}
 use Rattle.api_client.proofs.NumberLemmas.{numeral, plain}
 use Rattle.api_client.proofs.reply_head.length_of.Goals as goal
 

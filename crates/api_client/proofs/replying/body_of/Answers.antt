@@ -1,5 +1,4 @@
-use Rattle.std.proofs.Common.{◌++◌, ◌<◌, length, arith}
-use Rattle.broker_types.specs.Words.{Consumes-trans}
+use Rattle.api_client.specs.Words.{◌++◌, ◌<◌, length, arith, Consumes-trans}
 use Rattle.api_client.proofs.ReplyLemmas.{body_more}
 use Rattle.api_client.proofs.replying.body_of.Goals as goal
 

@@ -1,5 +1,4 @@
-use Rattle.std.proofs.Common.{◌≡◌, ◌++◌, ◌-◌, ℕ, List, length, take}
-use Rattle.broker_types.specs.Words.{Consumes}
+use Rattle.api_client.specs.Words.{◌≡◌, ◌++◌, ◌-◌, ℕ, List, length, take, Consumes}
 use Rattle.api_client.proofs.replying.body_of.Given as goal
 
 -- what has come is the front of what had begun and what was read

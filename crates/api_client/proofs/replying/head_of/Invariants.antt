@@ -1,5 +1,4 @@
-use Rattle.std.proofs.Common.{◌-◌, ◌≤◌, length}
-use Rattle.broker_types.specs.Words.{Consumes}
+use Rattle.api_client.specs.Words.{◌-◌, ◌≤◌, length, Consumes}
 use Rattle.api_client.proofs.replying.head_of.Given as goal
 
 abbrev pub invariant-loop-head : goal.invariant-loop-head
