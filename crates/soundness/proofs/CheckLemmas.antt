@@ -7,7 +7,7 @@ use Rattle.broker_model.specs.Words.{Kind, Row, RowKey, table_of, Rows, rows_und
 use Rattle.records.specs.Words.{rows_upto}
 use Rattle.records.specs.declared.kind.Kind.TheVariants as kind
 use Rattle.soundness.specs.declared.trouble.Rule.TheVariants as rule
-use Rattle.soundness.specs.Words.{Trouble, Walk, AreOfABroker, AreKnown, HasEachRooted, IsEntry}
+use Rattle.soundness.specs.Words.{Trouble, Walk, AreOfABroker, EachEnds, HasEachRooted, IsEntry}
 use Rattle.soundness.specs.Words.{IsListed, SoundRowsAreOfABroker, Tells, Walked, WasPassed, noted}
 use Rattle.soundness.proofs.VisitLemmas.{passed_sound}
 use Rattle.soundness.proofs.WalkLemmas.{empty_before, longer}
@@ -65,9 +65,9 @@ module _ (first one two : Rows) (same_one : one ≡ first) (same_two : two ≡ o
   walked : Walked first (IsEntry (table_of first)) a b
   walked = subst (λ (m : Rows). Walked m (IsEntry (table_of m)) a b) (same_two ∙ same_one) w
 
-  module _ (known_one : AreKnown (table_of one) a.notes.known) where
-    known : AreKnown (table_of first) a.notes.known
-    known = subst (λ (m : Rows). AreKnown (table_of m) a.notes.known) same_one known_one
+  module _ (ends_one : EachEnds (table_of one) a.notes.rooted) where
+    ends : EachEnds (table_of first) a.notes.rooted
+    ends = subst (λ (m : Rows). EachEnds (table_of m) a.notes.rooted) same_one ends_one
 
     -- if none is in trouble, the rows are those of a broker
     pub checked : SoundRowsAreOfABroker → (a.troubles.items ≡ [] → table_of first kind.Clock [] ≢ None)
@@ -76,22 +76,22 @@ module _ (first one two : Rows) (same_one : one ≡ first) (same_two : two ≡ o
         let before = empty_before a.troubles.items b.troubles.items
         (longer a.troubles.items walked.at_end.0 b.troubles.items walked.at_end.1) empty in
         law first (passed_sound (table_of first) (noted b.notes.identifiers) (noted b.notes.origins) (clock before)
-        (walked.passed known some empty).1)
+        (walked.passed ends some empty).1)
 
     -- each is listed or was passed
     pub each_told : length b.troubles.items < a.most → (k : Kind) (q : Text) (row : Row)
         → table_of first k q ≡ Some row
         → IsListed b.troubles.items (k, q) ⊎ WasPassed (table_of first) ((k, q), row)
-    each_told room k q row here = walked.each known room ((k, q), row) here
+    each_told room k q row here = walked.each ends room ((k, q), row) here
 
   -- what is listed breaks a rule
   pub all_tell : ((word : ℕ) → noted a.notes.identifiers word ≡ None)
-      → ((word : ℕ) → noted a.notes.origins word ≡ None) → HasEachRooted (table_of one) a.notes.known.rooted
+      → ((word : ℕ) → noted a.notes.origins word ≡ None) → HasEachRooted (table_of one) a.notes.rooted
       → All (Tells first) a.troubles.items → All (Tells first) b.troubles.items
   all_tell no_identifiers no_origins rooted all =
       walked.tells
       (record {
-        rooted = subst (λ (m : Rows). HasEachRooted (table_of m) a.notes.known.rooted) same_one rooted;
+        rooted = subst (λ (m : Rows). HasEachRooted (table_of m) a.notes.rooted) same_one rooted;
         identifiers = λ word key is. absurd (none-some key (sym (no_identifiers word) ∙ is));
         origins = λ word key is. absurd (none-some key (sym (no_origins word) ∙ is));
       })

@@ -7,7 +7,6 @@ mod ChainLemmas
 mod CheckLemmas
 mod Gather
 mod IdentifiersSound
-mod KnownLemmas
 mod NotingLemmas
 mod Numbers
 mod OthersSound

@@ -5,9 +5,9 @@ use Rattle.broker_model.specs.Words.{ap, nat_cmp-IsAntisymmetric, nat_cmp, is_eq
 use Rattle.broker_model.specs.Words.{tells_apart}
 use Rattle.broker_model.specs.Words.{same_Some, IfOk-weaker, Text, id, lease_identifier, IsIdentifier, IsLeaseId, Fault}
 use Rattle.broker_model.specs.Words.{if_none_weaker, Kind, Row, RowKey, Table, table_of, Rows}
-use Rattle.soundness.specs.Words.{Rule, Trouble, Known, Notes, Breaks, BreaksAt, HasIdentifier, IsKeyOf, Shows}
+use Rattle.soundness.specs.Words.{Rule, Trouble, Notes, Breaks, BreaksAt, HasIdentifier, IsKeyOf, Shows, HasEachRooted}
 use Rattle.soundness.specs.Words.{AddsOnly, AreNotedIdentifiers, AreNotedOrigins, AreTrue, HasOrigin, IsEntry, IsFresh}
-use Rattle.soundness.specs.Words.{HasEachRooted, IsNotNoted, Spares, StopsNoting, Places, Finds, noted}
+use Rattle.soundness.specs.Words.{IsNotNoted, Spares, StopsNoting, Places, Finds, noted}
 use Rattle.soundness.specs.declared.trouble.Rule.TheVariants as rule
 use Rattle.soundness.proofs.TextLemmas.{lease_id_of}
 use Rattle.soundness.proofs.TextWhole.{lease_parts}
@@ -67,14 +67,14 @@ still_not_noted Has key other old new adds apart fresh word is =
 some_none : {X : Type 0} (o : Option X) (x : X) → o ≡ Some x → o ≢ None
 some_none o x some none = absurd cc
 
-module _ (rows : Table) (a n : Notes) (known : n.known ≡ a.known) (k : Kind) (q : Text) (row : Row) where
+module _ (rows : Table) (a n : Notes) (rooted : n.rooted ≡ a.rooted) (k : Kind) (q : Text) (row : Row) where
   spared : rows k q ≡ Some row
       → AddsOnly (HasIdentifier k q) (k, q) (noted a.identifiers) (noted n.identifiers)
       → AddsOnly (HasOrigin k row) (k, q) (noted a.origins) (noted n.origins) → Spares rows (λ key. key ≢ (k, q)) a n
   spared here identifier origin =
       record {
         stay_true = λ are. record {
-          rooted = subst (λ (k : Known). HasEachRooted rows k.rooted) (sym known) are.rooted;
+          rooted = subst (HasEachRooted rows) (sym rooted) are.rooted;
           identifiers = identifiers_true rows (noted a.identifiers) (noted n.identifiers) k q
               (some_none (rows k q) row here) identifier are.identifiers;
           origins = origins_true rows (noted a.origins) (noted n.origins) k q row here origin are.origins;

@@ -8,7 +8,7 @@ use Rattle.broker_model.specs.Words.{eq-or-lt_of_le, leb-false, leb-true, get_or
 use Rattle.broker_model.specs.Words.{Contains-append_left, Text, Kind, Row, RowKey, Table, table_of, Rows}
 use Rattle.records.specs.declared.kind.Kind.TheVariants as kind
 use Rattle.soundness.specs.Words.{Notes, Rule, Trouble, Walk, AreApart, AreTrue, BreaksAt, CanBeWalked, GoesOnFrom}
-use Rattle.soundness.specs.Words.{IsEntry, IsFresh, IsNumbered, IsOfKind, IsSoundAt, HasItsIdentifier, AreKnown, Grows}
+use Rattle.soundness.specs.Words.{IsEntry, IsFresh, IsNumbered, IsOfKind, IsSoundAt, HasItsIdentifier, EachEnds, Grows}
 use Rattle.soundness.specs.Words.{HasItsEnd, HasItsOrigin, IsApartFrom, IsListed, IsPassed, Spares, Tells, Walked}
 use Rattle.soundness.specs.Words.{noted, number_of}
 use Rattle.soundness.proofs.NotingLemmas.{spares_further, spares_none, trouble_at}
@@ -21,21 +21,25 @@ Passed rows n e = IsPassed rows (noted n.identifiers) (noted n.origins) e
 -- ---- notes
 
 pub notes_stay : (a : Notes) → GoesOnFrom a a
-notes_stay a = record { known = refl; identifiers = λ w key is. is; origins = λ w key is. is }
+notes_stay a = record { rooted = refl; identifiers = λ w key is. is; origins = λ w key is. is }
 
 pub notes_further : (a b c : Notes) → GoesOnFrom a b → GoesOnFrom b c → GoesOnFrom a c
 notes_further a b c ab bc =
     record {
-      known = bc.known ∙ ab.known;
+      rooted = bc.rooted ∙ ab.rooted;
       identifiers = grows_further (noted a.identifiers) (noted b.identifiers) (noted c.identifiers) ab.identifiers
           bc.identifiers;
       origins = grows_further (noted a.origins) (noted b.origins) (noted c.origins) ab.origins bc.origins;
     }
 
+-- the tokens whose chains end are the same
+pub still_end : (rows : Table) (a b : Notes) → GoesOnFrom a b → EachEnds rows a.rooted → EachEnds rows b.rooted
+still_end rows a b goes ends = subst (EachEnds rows) (sym goes.rooted) ends
+
 -- ---- a row that is visited
 
 module _ {B : Type 0} (first one two : Rows) (same_one : one ≡ first) (same_two : two ≡ one) (a n : Notes)
-    (known : n.known ≡ a.known) (k : Kind) (q : Text) (row : Row) (e : RowKey × Row) (at : ((k, q), row) ≡ e) where
+    (rooted : n.rooted ≡ a.rooted) (k : Kind) (q : Text) (row : Row) (e : RowKey × Row) (at : ((k, q), row) ≡ e) where
   -- a row that keeps the rules, whose identifiers are noted and whose chain ends, is passed
   pub row_passed : IsSoundAt (table_of first) k q row
       → HasItsIdentifier (table_of one) (noted n.identifiers) k q × Grows (noted a.identifiers) (noted n.identifiers)
@@ -45,7 +49,7 @@ module _ {B : Type 0} (first one two : Rows) (same_one : one ≡ first) (same_tw
   row_passed sound identifier origin o chain =
       if_none_weaker o
       (λ end. (
-        record { known = known; identifiers = identifier.1; origins = origin.1 },
+        record { rooted = rooted; identifiers = identifier.1; origins = origin.1 },
         subst (Passed (table_of first) n) at (record {
           sound = sound;
           identifier = subst (λ (m : Rows). HasItsIdentifier (table_of m) (noted n.identifiers) k q) same_one
@@ -81,14 +85,14 @@ pub walked_none : (rows : Rows) (Has : RowKey × Row → Type 0) (a : Walk) → 
     → Walked rows Has a a
 walked_none rows Has a none =
     record {
-      known = refl;
+      rooted = refl;
       most = refl;
       few = λ few. few;
       at_end = ([], sym (append-nil a.troubles.items));
       spares = spares_none (table_of rows) (IsApartFrom Has) a.notes;
       tells = λ are fresh all. all;
-      each = λ are room e has. absurd (none e has);
-      passed = λ are some empty. (notes_stay a.notes, λ e has. absurd (none e has));
+      each = λ ends room e has. absurd (none e has);
+      passed = λ ends some empty. (notes_stay a.notes, λ e has. absurd (none e has));
     }
 
 module _ (rows : Rows) (A B : RowKey × Row → Type 0) (a b : Walk) (more : (e : RowKey × Row) → A e → B e) where
@@ -97,7 +101,7 @@ module _ (rows : Rows) (A B : RowKey × Row → Type 0) (a b : Walk) (more : (e 
       → Walked rows B a b
   walked_so less w =
       record {
-        known = w.known;
+        rooted = w.rooted;
         most = w.most;
         few = w.few;
         at_end = w.at_end;
@@ -106,10 +110,10 @@ module _ (rows : Rows) (A B : RowKey × Row → Type 0) (a b : Walk) (more : (e 
           fresh = λ key apart. w.spares.fresh key (λ e has. apart e (more e has));
         };
         tells = λ are fresh. w.tells are (λ e has. fresh e (more e has));
-        each = λ are room e has. w.each are room e (less room e has);
-        passed = λ are some empty.
+        each = λ ends room e has. w.each ends room e (less room e has);
+        passed = λ ends some empty.
             let none : length b.troubles.items ≡ 0 = ap length empty in
-            let so = w.passed are some empty in
+            let so = w.passed ends some empty in
             (so.0, λ e has. so.1 e (less (omega (arith, some, none)) e has));
       }
 
@@ -132,7 +136,7 @@ module _ (rows : Rows) (A B C : RowKey × Row → Type 0) (a b c : Walk) (of_a :
         fresh = λ key others. ab.spares.fresh key (λ e has. others e (of_a e has));
       } in
       record {
-        known = bc.known ∙ ab.known;
+        rooted = bc.rooted ∙ ab.rooted;
         most = bc.most ∙ ab.most;
         few = λ few. subst (λ n. length c.troubles.items ≤ n) most
             (bc.few (subst (λ n. length b.troubles.items ≤ n) (sym most) (ab.few few)));
@@ -147,21 +151,21 @@ module _ (rows : Rows) (A B C : RowKey × Row → Type 0) (a b c : Walk) (of_a :
             bc.tells (ab.spares.stay_true are)
             (λ e has. ab.spares.fresh e.0 (λ d in_a. apart d e in_a has) (fresh e (of_b e has)))
             (ab.tells are (λ e has. fresh e (of_a e has)) all);
-        each = λ are room e has.
+        each = λ ends room e has.
             let room_b : length b.troubles.items < a.most = omega (arith, shorter, room) in
             elim (parts e has) [
-              | inl in_a ↦ elim (ab.each are room_b e in_a) [
+              | inl in_a ↦ elim (ab.each ends room_b e in_a) [
                 | inl listed ↦ inl
                     (listed_further b.troubles.items bc.at_end.0 c.troubles.items bc.at_end.1 e.0 listed)
                 | inr passed ↦ inr passed
               ]
-              | inr in_b ↦ bc.each (subst (AreKnown t) (sym ab.known) are)
+              | inr in_b ↦ bc.each (subst (EachEnds t) (sym ab.rooted) ends)
                   (subst (λ n. length c.troubles.items < n) (sym most) room) e in_b
             ];
-        passed = λ are some empty.
+        passed = λ ends some empty.
             let none = empty_before b.troubles.items c.troubles.items shorter empty in
-            let one = ab.passed are some none in
-            let two = bc.passed (subst (AreKnown t) (sym ab.known) are) (subst (λ n. 0 < n) (sym most) some)
+            let one = ab.passed ends some none in
+            let two = bc.passed (subst (EachEnds t) (sym ab.rooted) ends) (subst (λ n. 0 < n) (sym most) some)
             empty in (
               notes_further a.notes b.notes c.notes one.0 two.0,
               λ e has. elim (parts e has) [
@@ -183,7 +187,7 @@ pub is_full : (a : Walk) (full : Bool) → full ≡ true → full ≡ nat_le a.m
     → a.most ≤ length a.troubles.items
 is_full a full so is = leb-true a.most (length a.troubles.items) (sym is ∙ so)
 
-module _ (rows : Rows) (a b : Walk) (e : RowKey × Row) (known : b.notes.known ≡ a.notes.known)
+module _ (rows : Rows) (a b : Walk) (e : RowKey × Row) (rooted : b.notes.rooted ≡ a.notes.rooted)
     (spares : Spares (table_of rows) (λ key. key ≢ e.0) a.notes b.notes) (most : b.most ≡ a.most) where
   one_spares : Spares (table_of rows) (IsApartFrom (λ f. f ≡ e)) a.notes b.notes
   one_spares =
@@ -191,24 +195,24 @@ module _ (rows : Rows) (a b : Walk) (e : RowKey × Row) (known : b.notes.known �
 
   -- it was passed
   pub row_walked : b.troubles.items ≡ a.troubles.items → (o : Option Rule) → o ≡ None
-      → (AreKnown (table_of rows) a.notes.known
+      → (EachEnds (table_of rows) a.notes.rooted
       → IfNone o (GoesOnFrom a.notes b.notes × Passed (table_of rows) b.notes e))
       → Walked rows (λ f. f ≡ e) a b
   row_walked same o none done =
       record {
-        known = known;
+        rooted = rooted;
         most = most;
         few = λ few. subst (λ l. length l ≤ a.most) (sym same) few;
         at_end = ([], same ∙ sym (append-nil a.troubles.items));
         spares = one_spares;
         tells = λ are fresh all. subst (All (Tells rows)) (sym same) all;
-        each = λ are room f is. inr (
+        each = λ ends room f is. inr (
           noted b.notes.identifiers,
-          (noted b.notes.origins, subst (Passed (table_of rows) b.notes) (sym is) (of_none o none (done are)).1),
+          (noted b.notes.origins, subst (Passed (table_of rows) b.notes) (sym is) (of_none o none (done ends)).1),
         );
-        passed = λ are some empty. (
-          (of_none o none (done are)).0,
-          λ f is. subst (Passed (table_of rows) b.notes) (sym is) (of_none o none (done are)).1,
+        passed = λ ends some empty. (
+          (of_none o none (done ends)).0,
+          λ f is. subst (Passed (table_of rows) b.notes) (sym is) (of_none o none (done ends)).1,
         );
       }
 
@@ -223,7 +227,7 @@ module _ (rows : Rows) (a b : Walk) (e : RowKey × Row) (known : b.notes.known �
       let long : length b.troubles.items ≡ length a.troubles.items + 1 =
       ap length pushed ∙ length-append a.troubles.items (t ∷ []) in
       record {
-        known = known;
+        rooted = rooted;
         most = most;
         few = λ few. omega (arith, long, room);
         at_end = (t ∷ [], pushed);
@@ -236,13 +240,13 @@ module _ (rows : Rows) (a b : Walk) (e : RowKey × Row) (known : b.notes.known �
                   (breaks are (fresh e refl)));
               number = is_number ∙ numbered.place ∙ (λ i. number_of rows (sym is_kind i) (sym is_key i));
             }));
-        each = λ are room f here. inl (
+        each = λ ends room f here. inl (
           t,
           subst (λ l. Contains l t) (sym pushed) (Contains-push a.troubles.items t),
           is_kind ∙ ap (λ (g : RowKey × Row). g.0.0) (sym here),
           is_key ∙ ap (λ (g : RowKey × Row). g.0.1) (sym here),
         );
-        passed = λ are some empty.
+        passed = λ ends some empty.
             let none : length b.troubles.items ≡ 0 = ap length empty in absurd (omega (arith, long, none));
       }
 

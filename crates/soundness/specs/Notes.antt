@@ -4,24 +4,16 @@ use Rattle.broker_model.specs.Words.{Text, id, Waiting, Kind, Row, RowKey, IsWai
 use Rattle.records.specs.declared.kind.Kind.TheVariants as kind
 use Rattle.soundness.specs.declared.trouble.Rule.{Rule}
 use Rattle.soundness.specs.declared.trouble.Rule.TheVariants as rule
-use Rattle.soundness.specs.declared.known.Known.{Known}
 use Rattle.soundness.specs.declared.visiting.Notes.{Notes}
 use Rattle.soundness.specs.Broken.{HasIdentifier}
 use Rattle.soundness.specs.Chains.{HasEachRooted}
 use Rattle.soundness.specs.RowRules.{IsOf}
 use Rattle.soundness.specs.SoundRows.{Places}
-use Rattle.soundness.specs.Visiting.{EachEnds, EachMarked, Grows, noted}
+use Rattle.soundness.specs.Visiting.{Grows, noted}
 
--- ---- what is known before a walk
-
--- the chains of these tokens end, and these identifiers are marked as given out
-pub record AreKnown (rows : Table) (k : Known) : Type 0 where
-  pub ends : EachEnds rows k.rooted
-  pub marked : EachMarked rows k.marked
-
--- each row that was noted still is, and what was known before is the same
+-- each row that was noted still is, and the tokens whose chains end are the same
 pub record GoesOnFrom (old new : Notes) : Type 0 where
-  pub known : new.known ≡ old.known
+  pub rooted : new.rooted ≡ old.rooted
   pub identifiers : Grows (noted old.identifiers) (noted new.identifiers)
   pub origins : Grows (noted old.origins) (noted new.origins)
 
@@ -67,7 +59,7 @@ IsNotNoted places key = (word : ℕ) → places word ≢ Some key
 
 -- no rows are noted but such, and each token whose chain ends is known
 pub record AreTrue (rows : Table) (n : Notes) : Type 0 where
-  pub rooted : HasEachRooted rows n.known.rooted
+  pub rooted : HasEachRooted rows n.rooted
   pub identifiers : AreNotedIdentifiers rows (noted n.identifiers)
   pub origins : AreNotedOrigins rows (noted n.origins)
 

@@ -1,5 +1,5 @@
 -- What a walk over rows knows of those that it has passed (this project's definition).
-use Rattle.std.specs.Prelude.{◌≡◌, ◌≢◌, ◌⊎◌, ℕ, [], true, ⊤, Option, Some, None, Result, IfOk, IfNone}
+use Rattle.std.specs.Prelude.{◌≡◌, ◌⊎◌, ℕ, [], true, ⊤, Option, Some, Result, IfOk, IfNone}
 use Rattle.std.specs.BTreeMap as tree
 use Rattle.broker_model.specs.Words.{BTreeMap, BTreeSet, nat_cmp, Text, token_text, id, Waiting, Fault, Kind, Row}
 use Rattle.broker_model.specs.Words.{RowKey, IsWaitingInRange, waiting_row, Table}
@@ -33,10 +33,6 @@ HasItsOrigin rows places _ q row = ⊤
 -- the chain of parents ends of each token whose word is in the set
 abbrev pub EachEnds : Table → BTreeSet ℕ → Type 0
 EachEnds rows words = (word : ℕ) → set.contains nat_cmp words word ≡ true → Ends rows (token_text (id word))
-
--- each identifier whose word is in the set is marked as given out
-abbrev pub EachMarked : Table → BTreeSet ℕ → Type 0
-EachMarked rows words = (word : ℕ) → set.contains nat_cmp words word ≡ true → rows kind.Used (id word) ≢ None
 
 -- no owner, or a token whose chain of parents ends: so do those of its children
 abbrev pub IsAbove : Table → Text → Type 0

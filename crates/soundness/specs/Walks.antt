@@ -5,9 +5,9 @@ use Rattle.records.specs.Words.{rows_upto}
 use Rattle.soundness.specs.declared.trouble.Trouble.{Trouble}
 use Rattle.soundness.specs.declared.visiting.Walk.{Walk}
 use Rattle.soundness.specs.Broken.{Breaks}
-use Rattle.soundness.specs.Notes.{AreApart, AreKnown, AreTrue, GoesOnFrom, IsEntry, IsFresh, Spares}
+use Rattle.soundness.specs.Notes.{AreApart, AreTrue, GoesOnFrom, IsEntry, IsFresh, Spares}
 use Rattle.soundness.specs.SoundRows.{Places}
-use Rattle.soundness.specs.Visiting.{IsPassed, noted}
+use Rattle.soundness.specs.Visiting.{EachEnds, IsPassed, noted}
 
 -- ---- what is told of rows
 
@@ -58,15 +58,15 @@ IsApartFrom Has key = (e : RowKey × Row) → Has e → key ≢ e.0
 -- The walk went on over these rows. If it lists fewer than those at which it stops, each of them is listed or was
 -- passed; and if it lists none, all were passed, by what it notes at last.
 pub record Walked (rows : Rows) (Has : RowKey × Row → Type 0) (old new : Walk) : Type 0 where
-  pub known : new.notes.known ≡ old.notes.known
+  pub rooted : new.notes.rooted ≡ old.notes.rooted
   pub most : new.most ≡ old.most
   pub few : length old.troubles.items ≤ old.most → length new.troubles.items ≤ old.most
   pub at_end : (more : List Trouble) × (new.troubles.items ≡ old.troubles.items ++ more)
   pub spares : Spares (table_of rows) (IsApartFrom Has) old.notes new.notes
   pub tells : AreTrue (table_of rows) old.notes → ((e : RowKey × Row) → Has e → IsFresh old.notes e.0)
       → All (Tells rows) old.troubles.items → All (Tells rows) new.troubles.items
-  pub each : AreKnown (table_of rows) old.notes.known → length new.troubles.items < old.most
+  pub each : EachEnds (table_of rows) old.notes.rooted → length new.troubles.items < old.most
       → (e : RowKey × Row) → Has e → IsListed new.troubles.items e.0 ⊎ WasPassed (table_of rows) e
-  pub passed : AreKnown (table_of rows) old.notes.known → 0 < old.most → new.troubles.items ≡ []
+  pub passed : EachEnds (table_of rows) old.notes.rooted → 0 < old.most → new.troubles.items ≡ []
       → GoesOnFrom old.notes new.notes × ((e : RowKey × Row) → Has e
       → IsPassed (table_of rows) (noted new.notes.identifiers) (noted new.notes.origins) e)

@@ -13,7 +13,7 @@ ghost use Rattle.soundness.specs.Laws.{AreOfABroker};
 ghost use Rattle.soundness.specs.Visiting.{Finds};
 ghost use Rattle.soundness.specs.Walks.{IsListed, Tells, WasPassed, number_of};
 
-use crate::known::learn;
+use crate::chains::rooted;
 use crate::laws::sound_rows_are_of_a_broker;
 use crate::lookups::has_row;
 use crate::trouble::{Rule, Trouble};
@@ -56,7 +56,7 @@ pub fn check_all<T: RecordsTx>(
 {
     let troubles = missing(alloc, tx)?;
     let notes = Notes {
-        known: learn(alloc, tx)?,
+        rooted: rooted(alloc, tx)?,
         identifiers: BTreeMap::new(alloc),
         origins: BTreeMap::new(alloc),
     };

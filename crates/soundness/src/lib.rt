@@ -4,7 +4,6 @@
 mod chains;
 mod checking;
 mod credentials;
-mod known;
 mod laws;
 mod lookups;
 mod noting;

@@ -1,6 +1,6 @@
 //! Rows noted by the words of their identifiers, each of which is in one row.
 
-ghost use Rattle.std.specs.Prelude.{◌≡◌, ◌≢◌, ℕ, Some, None, false, IfOk, IfErr, OnOk};
+ghost use Rattle.std.specs.Prelude.{◌≡◌, ℕ, Some, false, IfOk, IfErr, OnOk};
 ghost use Rattle.std.specs.Bool.{OnTrue};
 ghost use Rattle.broker_types.specs.Fault.{IsMemoryOrStorage};
 ghost use Rattle.broker_types.specs.IdentifierPlaces as leases;
@@ -17,7 +17,7 @@ ghost use Rattle.records.specs.Transaction.{IsHonest};
 ghost use Rattle.soundness.specs.Broken.{BreaksAt, HasIdentifier, IsKeyOf, Shows};
 ghost use Rattle.soundness.specs.Notes.{AddsOnly, AreNotedOrigins, HasOrigin, IsNotNoted, StopsNoting};
 ghost use Rattle.soundness.specs.SoundRows.{IsHad, HasItsIdentifier};
-ghost use Rattle.soundness.specs.Visiting.{EachMarked, Finds, Grows, HasItsOrigin, noted};
+ghost use Rattle.soundness.specs.Visiting.{Finds, Grows, HasItsOrigin, noted};
 
 use crate::lookups::has_row;
 use crate::place::Place;
@@ -26,7 +26,7 @@ use crate::trouble::Rule;
 use broker_types::{Fault, TextBuf};
 use records::{Kind, RecordsTx, Row, read_waiting};
 use std::alloc::Global;
-use std::collections::{BTreeMap, BTreeSet};
+use std::collections::BTreeMap;
 
 /// Notes that a row has the identifier of a word, and answers whether none was noted to have it.
 fn note(
@@ -49,37 +49,16 @@ fn note(
     Ok(old.is_none())
 }
 
-/// Whether an identifier is marked as given out. It asks only for one that is not known to be.
-fn is_marked<T: RecordsTx>(
-    tx: &mut T,
-    marked: &BTreeSet<u128>,
-    word: u128,
-    identifier: &str,
-) -> Result<bool, Fault>
-    ensures found { IsHonest (T.seen tx.new) → EachMarked (table (T.seen tx.old)) marked.now
-        → identifier.now ≡ id word
-        → IfOk result (λ v. OnTrue v (table (T.seen tx.old) kind.Used identifier.now ≢ None)) }
-    ensures whole { IsHonest (T.seen tx.new)
-        → IfOk result (λ v. v ≡ false → table (T.seen tx.old) kind.Used identifier.now ≡ None) }
-    ensures call { IsReading (T.seen tx.old) (T.seen tx.new) result IsMemoryOrStorage }
-{
-    if marked.contains(&word) {
-        return Ok(true);
-    }
-    has_row(tx, Kind::Used, identifier)
-}
-
 /// Notes that a row has an identifier, which was given out and which no row was noted to have.
 fn had<T: RecordsTx>(
     alloc: Global,
     tx: &mut T,
-    marked: &BTreeSet<u128>,
     places: &mut BTreeMap<u128, Place>,
     identifier: &str,
     kind: Kind,
     key: &str,
 ) -> Result<Option<Rule>, Fault>
-    ensures had { IsHonest (T.seen tx.new) → EachMarked (table (T.seen tx.old)) marked.now → Finds result
+    ensures had { IsHonest (T.seen tx.new) → Finds result
         (IsHad (table (T.seen tx.old)) (noted places.new) (kind, key.now) identifier.now
         × Grows (noted places.old) (noted places.new)) }
     ensures broken { IsHonest (T.seen tx.new) → Shows result
@@ -92,7 +71,7 @@ fn had<T: RecordsTx>(
     let Some(word) = word_of(identifier) else {
         return Ok(Some(Rule::Key));
     };
-    if !is_marked(tx, marked, word, identifier)? {
+    if !has_row(tx, Kind::Used, identifier)? {
         return Ok(Some(Rule::Mark));
     }
     if !note(alloc, places, word, kind, key)? {
@@ -105,12 +84,11 @@ fn had<T: RecordsTx>(
 fn note_token<T: RecordsTx>(
     alloc: Global,
     tx: &mut T,
-    marked: &BTreeSet<u128>,
     places: &mut BTreeMap<u128, Place>,
     kind: Kind,
     key: &str,
 ) -> Result<Option<Rule>, Fault>
-    ensures had { IsHonest (T.seen tx.new) → EachMarked (table (T.seen tx.old)) marked.now → Finds result
+    ensures had { IsHonest (T.seen tx.new) → Finds result
         (((i : Text) × (key.now ≡ token_text i)
         × IsHad (table (T.seen tx.old)) (noted places.new) (kind, key.now) i)
         × Grows (noted places.old) (noted places.new)) }
@@ -122,7 +100,7 @@ fn note_token<T: RecordsTx>(
     ensures call { IsReading (T.seen tx.old) (T.seen tx.new) result IsMemoryOrStorage }
 {
     match token_identifier(key) {
-        Some(identifier) => had(alloc, tx, marked, places, identifier, kind, key),
+        Some(identifier) => had(alloc, tx, places, identifier, kind, key),
         None => Ok(Some(Rule::Key)),
     }
 }
@@ -131,11 +109,10 @@ fn note_token<T: RecordsTx>(
 fn note_lease<T: RecordsTx>(
     alloc: Global,
     tx: &mut T,
-    marked: &BTreeSet<u128>,
     places: &mut BTreeMap<u128, Place>,
     key: &str,
 ) -> Result<Option<Rule>, Fault>
-    ensures had { IsHonest (T.seen tx.new) → EachMarked (table (T.seen tx.old)) marked.now → Finds result
+    ensures had { IsHonest (T.seen tx.new) → Finds result
         (IsHad (table (T.seen tx.old)) (noted places.new) (kind.Lease, key.now) (leases.lease_identifier key.now)
         × Grows (noted places.old) (noted places.new)) }
     ensures broken { IsHonest (T.seen tx.new) → Shows result
@@ -146,7 +123,7 @@ fn note_lease<T: RecordsTx>(
     ensures call { IsReading (T.seen tx.old) (T.seen tx.new) result IsMemoryOrStorage }
 {
     match lease_identifier(key) {
-        Some(identifier) => had(alloc, tx, marked, places, identifier, Kind::Lease, key),
+        Some(identifier) => had(alloc, tx, places, identifier, Kind::Lease, key),
         None => Ok(Some(Rule::Key)),
     }
 }
@@ -155,12 +132,11 @@ fn note_lease<T: RecordsTx>(
 pub(crate) fn note_identifier<T: RecordsTx>(
     alloc: Global,
     tx: &mut T,
-    marked: &BTreeSet<u128>,
     places: &mut BTreeMap<u128, Place>,
     kind: Kind,
     key: &str,
 ) -> Result<Option<Rule>, Fault>
-    ensures had { IsHonest (T.seen tx.new) → EachMarked (table (T.seen tx.old)) marked.now → Finds result
+    ensures had { IsHonest (T.seen tx.new) → Finds result
         (HasItsIdentifier (table (T.seen tx.old)) (noted places.new) kind key.now
         × Grows (noted places.old) (noted places.new)) }
     ensures broken { IsHonest (T.seen tx.new) → (owner : Text) → Shows result
@@ -171,11 +147,11 @@ pub(crate) fn note_identifier<T: RecordsTx>(
     ensures call { IsReading (T.seen tx.old) (T.seen tx.new) result IsMemoryOrStorage }
 {
     match kind {
-        Kind::Token => note_token(alloc, tx, marked, places, kind, key),
-        Kind::Waiting => note_token(alloc, tx, marked, places, kind, key),
-        Kind::Lease => note_lease(alloc, tx, marked, places, key),
-        Kind::Accessor => had(alloc, tx, marked, places, key, kind, key),
-        Kind::Credential => had(alloc, tx, marked, places, key, kind, key),
+        Kind::Token => note_token(alloc, tx, places, kind, key),
+        Kind::Waiting => note_token(alloc, tx, places, kind, key),
+        Kind::Lease => note_lease(alloc, tx, places, key),
+        Kind::Accessor => had(alloc, tx, places, key, kind, key),
+        Kind::Credential => had(alloc, tx, places, key, kind, key),
         _ => Ok(None),
     }
 }
@@ -184,12 +160,11 @@ pub(crate) fn note_identifier<T: RecordsTx>(
 fn note_response<T: RecordsTx>(
     alloc: Global,
     tx: &mut T,
-    marked: &BTreeSet<u128>,
     places: &mut BTreeMap<u128, Place>,
     key: &str,
     row: &Row,
 ) -> Result<Option<Rule>, Fault>
-    ensures had { IsHonest (T.seen tx.new) → EachMarked (table (T.seen tx.old)) marked.now → Finds result
+    ensures had { IsHonest (T.seen tx.new) → Finds result
         (HasItsOrigin (table (T.seen tx.old)) (noted places.new) kind.Waiting key.now row.now
         × Grows (noted places.old) (noted places.new)) }
     ensures broken { IsHonest (T.seen tx.new) → AreNotedOrigins (table (T.seen tx.old)) (noted places.old)
@@ -202,15 +177,7 @@ fn note_response<T: RecordsTx>(
     let Ok(waiting) = read_waiting(row) else {
         return Ok(Some(Rule::Format));
     };
-    match had(
-        alloc,
-        tx,
-        marked,
-        places,
-        waiting.origin,
-        Kind::Waiting,
-        key,
-    )? {
+    match had(alloc, tx, places, waiting.origin, Kind::Waiting, key)? {
         None => Ok(None),
         Some(_) => Ok(Some(Rule::Origin)),
     }
@@ -220,13 +187,12 @@ fn note_response<T: RecordsTx>(
 pub(crate) fn note_origin<T: RecordsTx>(
     alloc: Global,
     tx: &mut T,
-    marked: &BTreeSet<u128>,
     places: &mut BTreeMap<u128, Place>,
     kind: Kind,
     key: &str,
     row: &Row,
 ) -> Result<Option<Rule>, Fault>
-    ensures had { IsHonest (T.seen tx.new) → EachMarked (table (T.seen tx.old)) marked.now → Finds result
+    ensures had { IsHonest (T.seen tx.new) → Finds result
         (HasItsOrigin (table (T.seen tx.old)) (noted places.new) kind key.now row.now
         × Grows (noted places.old) (noted places.new)) }
     ensures broken { IsHonest (T.seen tx.new) → AreNotedOrigins (table (T.seen tx.old)) (noted places.old)
@@ -237,7 +203,7 @@ pub(crate) fn note_origin<T: RecordsTx>(
     ensures call { IsReading (T.seen tx.old) (T.seen tx.new) result IsMemoryOrStorage }
 {
     match kind {
-        Kind::Waiting => note_response(alloc, tx, marked, places, key, row),
+        Kind::Waiting => note_response(alloc, tx, places, key, row),
         _ => Ok(None),
     }
 }

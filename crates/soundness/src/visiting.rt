@@ -10,13 +10,12 @@ ghost use Rattle.records.specs.Table.{table};
 ghost use Rattle.records.specs.Transaction.{IsHonest};
 ghost use Rattle.soundness.specs.Broken.{BreaksAt, Shows};
 ghost use Rattle.soundness.specs.RowRules.{IsSoundAt};
-ghost use Rattle.soundness.specs.Visiting.{Finds, IsPassed, noted};
-ghost use Rattle.soundness.specs.Notes.{AreApart, AreKnown, AreTrue, GoesOnFrom, IsEntry, IsFresh, Spares};
+ghost use Rattle.soundness.specs.Visiting.{Finds, EachEnds, IsPassed, noted};
+ghost use Rattle.soundness.specs.Notes.{AreApart, AreTrue, GoesOnFrom, IsEntry, IsFresh, Spares};
 ghost use Rattle.soundness.specs.Walks.{CanBeWalked, IsNumbered, IsOfKind, IsOfKinds, Walked};
 
 use crate::chains::chain;
 use crate::credentials::{credential, lease};
-use crate::known::Known;
 use crate::noting::{note_identifier, note_origin};
 use crate::place::Place;
 use crate::responses::response;
@@ -27,13 +26,13 @@ use crate::trouble::{Rule, Trouble};
 use broker_types::Fault;
 use records::{Entry, Kind, RecordsTx, Row};
 use std::alloc::{AllocError, Global};
-use std::collections::BTreeMap;
+use std::collections::{BTreeMap, BTreeSet};
 
 /// What a walk over rows knows of those that it has passed.
 #[derive(Drop)]
 pub(crate) struct Notes {
-    /// What was known of rows before.
-    pub(crate) known: Known,
+    /// The words of tokens whose chains of parents end.
+    pub(crate) rooted: BTreeSet<u128>,
     /// The rows that have identifiers, by the words of these.
     pub(crate) identifiers: BTreeMap<u128, Place>,
     /// The responses that have origins, by the words of these.
@@ -96,7 +95,7 @@ fn visit<T: RecordsTx>(
     notes: &mut Notes,
     entry: &Entry,
 ) -> Result<Option<Rule>, Fault>
-    ensures passed { IsHonest (T.seen tx.new) → AreKnown (table (T.seen tx.old)) notes.old.known
+    ensures passed { IsHonest (T.seen tx.new) → EachEnds (table (T.seen tx.old)) notes.old.rooted
         → Finds result (GoesOnFrom notes.old notes.new
         × IsPassed (table (T.seen tx.old)) (noted notes.new.identifiers) (noted notes.new.origins) entry.now) }
     ensures broken { IsHonest (T.seen tx.new) → AreTrue (table (T.seen tx.old)) notes.old
@@ -104,35 +103,20 @@ fn visit<T: RecordsTx>(
         (λ rule. BreaksAt (table (T.seen tx.old)) rule entry.now.0.0 entry.now.0.1 entry.now.1) }
     ensures spares { IsHonest (T.seen tx.new) → IsEntry (table (T.seen tx.old)) entry.now
         → OnOk result (Spares (table (T.seen tx.old)) (λ key. key ≢ entry.now.0) notes.old notes.new) }
-    ensures known { OnOk result (notes.new.known ≡ notes.old.known) }
+    ensures rooted { OnOk result (notes.new.rooted ≡ notes.old.rooted) }
     ensures call { IsReading (T.seen tx.old) (T.seen tx.new) result IsMemoryOrStorage }
 {
     let key = entry.key.as_str();
     if let Some(rule) = test(alloc, tx, entry.kind, key, &entry.row)? {
         return Ok(Some(rule));
     }
-    if let Some(place) = note_identifier(
-        alloc,
-        tx,
-        &notes.known.marked,
-        &mut notes.identifiers,
-        entry.kind,
-        key,
-    )? {
+    if let Some(place) = note_identifier(alloc, tx, &mut notes.identifiers, entry.kind, key)? {
         return Ok(Some(place));
     }
-    if let Some(origin) = note_origin(
-        alloc,
-        tx,
-        &notes.known.marked,
-        &mut notes.origins,
-        entry.kind,
-        key,
-        &entry.row,
-    )? {
+    if let Some(origin) = note_origin(alloc, tx, &mut notes.origins, entry.kind, key, &entry.row)? {
         return Ok(Some(origin));
     }
-    Ok(chain(&notes.known.rooted, entry.kind, key))
+    Ok(chain(&notes.rooted, entry.kind, key))
 }
 
 /// Visits a row, which is that of its kind with the number. If it breaks a rule, it is listed.
@@ -184,7 +168,7 @@ fn visit_each<T: RecordsTx>(
 }
 
 /// The least text above the key of the last of the rows.
-pub(crate) fn just_above(alloc: Global, page: &[Entry]) -> Result<String, AllocError>
+fn just_above(alloc: Global, page: &[Entry]) -> Result<String, AllocError>
     ensures { (e : RowKey × Row) → slice_get page.now (length page.now - 1) ≡ Some e
         → IfOk result (λ text. string_bytes text ≡ e.0.1 ++ 0 ∷ []) }
 {

@@ -34,23 +34,21 @@ returns-in-Credential-clause-adds g c =
     (noted c.had-in-Credential.new.places) c.in-Credential.is c.had-in-Credential.ensures.adds
 
 pub returns-in-Token-clause-had : goal.returns-in-Token-clause-had
-returns-in-Token-clause-had g c honest are =
-    rw c.in-Token.is (rw c.in-Token.is at (c.note_token.ensures.had honest are))
+returns-in-Token-clause-had g c honest = rw c.in-Token.is (rw c.in-Token.is at (c.note_token.ensures.had honest))
 
 pub returns-in-Waiting-clause-had : goal.returns-in-Waiting-clause-had
-returns-in-Waiting-clause-had g c honest are =
-    rw c.in-Waiting.is (rw c.in-Waiting.is at (c.note_token-in-Waiting.ensures.had honest are))
+returns-in-Waiting-clause-had g c honest =
+    rw c.in-Waiting.is (rw c.in-Waiting.is at (c.note_token-in-Waiting.ensures.had honest))
 
 pub returns-in-Accessor-clause-had : goal.returns-in-Accessor-clause-had
-returns-in-Accessor-clause-had g c honest are =
-    rw c.in-Accessor.is (rw c.in-Accessor.is at (c.had.ensures.had honest are))
+returns-in-Accessor-clause-had g c honest = rw c.in-Accessor.is (rw c.in-Accessor.is at (c.had.ensures.had honest))
 
 pub returns-in-Credential-clause-had : goal.returns-in-Credential-clause-had
-returns-in-Credential-clause-had g c honest are =
-    rw c.in-Credential.is (rw c.in-Credential.is at (c.had-in-Credential.ensures.had honest are))
+returns-in-Credential-clause-had g c honest =
+    rw c.in-Credential.is (rw c.in-Credential.is at (c.had-in-Credential.ensures.had honest))
 
 pub returns-in-Lease-clause-had : goal.returns-in-Lease-clause-had
-returns-in-Lease-clause-had g c honest are = rw c.in-Lease.is (c.note_lease.ensures.had honest are)
+returns-in-Lease-clause-had g c honest = rw c.in-Lease.is (c.note_lease.ensures.had honest)
 
 pub returns-in-Token-clause-broken : goal.returns-in-Token-clause-broken
 returns-in-Token-clause-broken g c honest owner = rw c.in-Token.is (c.note_token.ensures.broken honest)

@@ -4,10 +4,10 @@ use Rattle.soundness.specs.Words.{IsHad, noted}
 use Rattle.soundness.proofs.noting.note_response.Goals as goal
 
 pub returns-in-None-clause-had : goal.returns-in-None-clause-had
-returns-in-None-clause-had g c honest are =
+returns-in-None-clause-had g c honest =
     let read = c.in-Ok.ensures.exact in
     let rows = table_of (g.T.RecordsTx.seen c.args.tx.now).rows in
-    let had = of_none c.in_ok-had.field-0 c.in-None.is (c.in_ok-had.ensures.had honest are) in (
+    let had = of_none c.in_ok-had.field-0 c.in-None.is (c.in_ok-had.ensures.had honest) in (
       (
         c.in-Ok.waiting,
         (

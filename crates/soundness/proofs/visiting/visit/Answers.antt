@@ -1,21 +1,19 @@
-use Rattle.broker_model.specs.Words.{refl, sym, subst, ◌∙◌, of_none, of_some, honest_before, Rows, table_of}
-use Rattle.soundness.specs.Words.{Rule, EachMarked, Notes, BreaksAt, HasIdentifier, HasOrigin, IsKeyOf, StopsNoting}
-use Rattle.soundness.specs.Words.{noted}
+use Rattle.broker_model.specs.Words.{refl, ◌∙◌, of_none, of_some, honest_before, table_of}
+use Rattle.soundness.specs.Words.{Rule, Notes, BreaksAt, HasIdentifier, HasOrigin, IsKeyOf, StopsNoting, noted}
 use Rattle.soundness.proofs.NotingLemmas.{adds_none, identifier_breaks, origin_breaks, row_spared}
 use Rattle.soundness.proofs.WalkLemmas.{row_passed}
 use Rattle.soundness.proofs.visiting.visit.Goals as goal
 
 pub returns-clause-passed : goal.returns-clause-passed
-returns-clause-passed g c honest known =
+returns-clause-passed g c honest ends =
     let seen = g.T.RecordsTx.seen in
     let first = (seen c.args.tx.now).rows in
-    let marked = c.args.notes.now.known.marked in
     let two = honest_before (seen c.note_identifier.new.tx)
     (seen c.note_origin.new.tx) _ c.in_ok-origin.ensures.call.goes_on honest in
     let one = honest_before (seen c.test.new.tx)
     (seen c.note_identifier.new.tx) _ c.in_ok-place.ensures.call.goes_on two in
     let after : Notes = record {
-      known = c.args.notes.now.known;
+      rooted = c.args.notes.now.rooted;
       identifiers = c.note_identifier.new.places;
       origins = c.note_origin.new.places;
     } in
@@ -24,12 +22,9 @@ returns-clause-passed g c honest known =
     c.entry.inside.row c.args.entry.now
     ((λ i. ((c.entry.inside.kind, c.as_str-key.ensures i), c.entry.inside.row)) ∙ c.entry.view_is)
     (of_none c.in_ok-rule.field-0 c.in_default.is (c.in_ok-rule.ensures.sound one))
-    (of_none c.in_ok-place.field-0 c.in_default-2.is (c.in_ok-place.ensures.had two
-    (subst (λ (m : Rows). EachMarked (table_of m) marked) (sym (c.in_ok-rule.ensures.call.same one)) known.marked)))
-    (of_none c.in_ok-origin.field-0 c.in_default-3.is (c.in_ok-origin.ensures.had honest
-    (subst (λ (m : Rows). EachMarked (table_of m) marked)
-    (sym (c.in_ok-place.ensures.call.same two ∙ c.in_ok-rule.ensures.call.same one)) known.marked)))
-    c.chain.result (c.chain.ensures.sound (table_of first) known.ends)
+    (of_none c.in_ok-place.field-0 c.in_default-2.is (c.in_ok-place.ensures.had two))
+    (of_none c.in_ok-origin.field-0 c.in_default-3.is (c.in_ok-origin.ensures.had honest))
+    c.chain.result (c.chain.ensures.sound (table_of first) ends)
 
 pub returns-in-Some-2-clause-broken : goal.returns-in-Some-2-clause-broken
 returns-in-Some-2-clause-broken g c honest are fresh =
@@ -69,7 +64,7 @@ pub returns-in-Some-2-clause-spares : goal.returns-in-Some-2-clause-spares
 returns-in-Some-2-clause-spares g c honest here =
     let first = (g.T.RecordsTx.seen c.args.tx.now).rows in
     let after : Notes = record {
-      known = c.args.notes.now.known;
+      rooted = c.args.notes.now.rooted;
       identifiers = c.note_identifier.new.places;
       origins = c.args.notes.now.origins;
     } in
@@ -84,7 +79,7 @@ pub returns-in-Some-3-clause-spares : goal.returns-in-Some-3-clause-spares
 returns-in-Some-3-clause-spares g c honest here =
     let first = (g.T.RecordsTx.seen c.args.tx.now).rows in
     let after : Notes = record {
-      known = c.args.notes.now.known;
+      rooted = c.args.notes.now.rooted;
       identifiers = c.note_identifier.new.places;
       origins = c.note_origin.new.places;
     } in
@@ -97,7 +92,7 @@ pub returns-clause-spares : goal.returns-clause-spares
 returns-clause-spares g c honest here =
     let first = (g.T.RecordsTx.seen c.args.tx.now).rows in
     let after : Notes = record {
-      known = c.args.notes.now.known;
+      rooted = c.args.notes.now.rooted;
       identifiers = c.note_identifier.new.places;
       origins = c.note_origin.new.places;
     } in
