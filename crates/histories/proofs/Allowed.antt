@@ -1,4 +1,5 @@
 -- What is allowed is done: some commands always, some where what they ask for is there.
+use Rattle.std.proofs.Common.{◌≡◌, ◌≢◌, ◌⊎◌, ◌<◌, ◌==◌, ◌||◌, if◌then◌else◌, ◌-◌, ◌++◌, ◌∷◌}
 use Rattle.broker_model.specs.Words.{Renewed, renewed_end, times_of, with_renewed, Issued, IssuedLease, lease_id}
 use Rattle.broker_model.specs.Words.{issued_reply, issue, list_reply, listed, settings_reply}
 use Rattle.token_tree.specs.Tokens as tree
@@ -6,27 +7,26 @@ use Rattle.kv2.specs.Secrets as secrets
 use Rattle.leases.specs.Leases as leases
 use Rattle.broker_model.specs.parts.Leases as of_leases
 use Rattle.broker_model.specs.parts.Tokens as tokens
-use Rattle.histories.specs.Words.{◌≡◌, ◌≢◌, ◌⊎◌, ◌<◌, ◌==◌, ◌||◌, if◌then◌else◌, ◌-◌, ◌++◌, ◌∷◌, ℕ, [], Bool, true}
-use Rattle.histories.specs.Words.{false, nat_lt, is_some, Option, Some, None, Result, Ok, option_and_then, option_map}
-use Rattle.histories.specs.Words.{⊤, List, nat_eq, not, starts_with, option_map_or, refl, sym, ◌∙◌, ap, subst, inl, inr}
-use Rattle.histories.specs.Words.{eq-eqb, eqb-true, false_from_ne_true, false≢true, lt-ltb, none-some, Text, same}
-use Rattle.histories.specs.Words.{same_self, greatest_version, Map, entries, get, keys, put, without, get-change}
-use Rattle.histories.specs.Words.{Response, Broker, Mount, Role, Names, names_of, missing, nothing, plainly, reply}
-use Rattle.histories.specs.Words.{Done, OnePlaceEach, found_or_not, mapped_none, ◌>>=◌, some_or, unless, Key, Version}
-use Rattle.histories.specs.Words.{Sound, is_spent, one_less, Lease, Token, are_new, Refusal, Reply, children, folder}
-use Rattle.histories.specs.Words.{slash, token_entry, AccessorsNameTheirTokens, metadata_of, Written, secret_name}
-use Rattle.histories.specs.Words.{write_over, written, Found, asked_number, check_and_set, checked, key_or_new}
-use Rattle.histories.specs.Words.{numbered, is_last_use, new_lease, role_name, AllThatIsGranted, RootMayDoAll, is_root}
-use Rattle.histories.specs.Words.{text_of, lease_object, policy_object, role_object, lease_reply, plain_reply}
-use Rattle.histories.specs.Words.{LeaseRenewal, SecretWrite, TokenCreation, TokenRenewal, act, Command, command_of}
-use Rattle.histories.specs.Words.{on_cubbyhole, on_issued, on_lease, on_mount, on_policy, on_secret, on_token}
-use Rattle.histories.specs.Words.{on_wrapping, chained, forms, response_to, no_content, step, traits, are_none}
-use Rattle.histories.specs.Words.{without_kept, Place, metadata_reply, object_left, version_answered, version_reply}
-use Rattle.histories.specs.Words.{written_reply, auth_reply, token_reply, new_end, Denial, Field, Reason, Status}
-use Rattle.histories.specs.Words.{CubbyholeCommand, IssuedCommand, LeaseCommand, SecretCommand, TokenCommand, Making}
-use Rattle.histories.specs.Words.{AllDoAllowed, AreNew, HasAccessor, HasLease, HasVersion, MayChange, MayCreate}
-use Rattle.histories.specs.Words.{MayWrite, ShowsThere, is_done, IsAllowed, Asking, clocked, spent_by, PoliciesDecide}
-use Rattle.histories.specs.Words.{IsAccessorOf, named, MountCommand, PolicyCommand}
+use Rattle.histories.specs.Words.{ℕ, [], Bool, true, false, nat_lt, is_some, Option, Some, None, Result, Ok}
+use Rattle.histories.specs.Words.{option_and_then, option_map, ⊤, List, nat_eq, not, starts_with, option_map_or, refl}
+use Rattle.histories.specs.Words.{sym, ◌∙◌, ap, subst, inl, inr, eq-eqb, eqb-true, false_from_ne_true, false≢true}
+use Rattle.histories.specs.Words.{lt-ltb, none-some, Text, same, same_self, greatest_version, Map, entries, get, keys}
+use Rattle.histories.specs.Words.{put, without, get-change, Response, Broker, Mount, Role, Names, names_of, missing}
+use Rattle.histories.specs.Words.{nothing, plainly, reply, Done, OnePlaceEach, found_or_not, mapped_none, ◌>>=◌}
+use Rattle.histories.specs.Words.{some_or, unless, Key, Version, Sound, is_spent, one_less, Lease, Token, are_new}
+use Rattle.histories.specs.Words.{Refusal, Reply, children, folder, slash, token_entry, AccessorsNameTheirTokens}
+use Rattle.histories.specs.Words.{metadata_of, Written, secret_name, write_over, written, Found, asked_number}
+use Rattle.histories.specs.Words.{check_and_set, checked, key_or_new, numbered, is_last_use, new_lease, role_name}
+use Rattle.histories.specs.Words.{AllThatIsGranted, RootMayDoAll, is_root, text_of, lease_object, policy_object}
+use Rattle.histories.specs.Words.{role_object, lease_reply, plain_reply, LeaseRenewal, SecretWrite, TokenCreation}
+use Rattle.histories.specs.Words.{TokenRenewal, act, Command, command_of, on_cubbyhole, on_issued, on_lease, on_mount}
+use Rattle.histories.specs.Words.{on_policy, on_secret, on_token, on_wrapping, chained, forms, response_to, no_content}
+use Rattle.histories.specs.Words.{step, traits, are_none, without_kept, Place, metadata_reply, object_left}
+use Rattle.histories.specs.Words.{version_answered, version_reply, written_reply, auth_reply, token_reply, new_end}
+use Rattle.histories.specs.Words.{Denial, Field, Reason, Status, CubbyholeCommand, IssuedCommand, LeaseCommand}
+use Rattle.histories.specs.Words.{SecretCommand, TokenCommand, Making, AllDoAllowed, AreNew, HasAccessor, HasLease}
+use Rattle.histories.specs.Words.{HasVersion, MayChange, MayCreate, MayWrite, ShowsThere, is_done, IsAllowed, Asking}
+use Rattle.histories.specs.Words.{clocked, spent_by, PoliciesDecide, IsAccessorOf, named, MountCommand, PolicyCommand}
 use Rattle.histories.proofs.Carried.{answers, carried_for, without_ttl}
 use Rattle.histories.proofs.Found.{both_new, comes, goes, held_by_token, held_by_waiting, lease_found, removes, sets}
 use Rattle.histories.proofs.FolderChildren.{has_children, no_cons}

@@ -1,10 +1,11 @@
 -- What a command leads to that is not refused before its operation: what the operation answers is the answer.
-use Rattle.histories.specs.Words.{◌≡◌, ◌||◌, ◌&&◌, ◌∷◌, if◌then◌else◌, List, Bool, true, false, not, nat_lt, Option}
-use Rattle.histories.specs.Words.{Some, None, Result, Ok, refl, ◌∙◌, ap, inl, Text, Broker, Names, names_of, Done}
-use Rattle.histories.specs.Words.{◌>>=◌, unless, are_new, Refusal, act, Command, command_of, Outcome, Wrapped, finish}
-use Rattle.histories.specs.Words.{needed, permission_denied, response_to, unwrapped, wrap_200, wrapped, permits}
-use Rattle.histories.specs.Words.{Request, is_open, is_wrapped, operated, request_of, step, traits, Reason, IsAllowed}
-use Rattle.histories.specs.Words.{Asking, clocked, spent_by, PoliciesDecide}
+use Rattle.std.proofs.Common.{◌≡◌, ◌||◌, ◌&&◌, ◌∷◌, if◌then◌else◌}
+use Rattle.histories.specs.Words.{List, Bool, true, false, not, nat_lt, Option, Some, None, Result, Ok, refl, ◌∙◌, ap}
+use Rattle.histories.specs.Words.{inl, Text, Broker, Names, names_of, Done, ◌>>=◌, unless, are_new, Refusal, act}
+use Rattle.histories.specs.Words.{Command, command_of, Outcome, Wrapped, finish, needed, permission_denied}
+use Rattle.histories.specs.Words.{response_to, unwrapped, wrap_200, wrapped, permits, Request, is_open, is_wrapped}
+use Rattle.histories.specs.Words.{operated, request_of, step, traits, Reason, IsAllowed, Asking, clocked, spent_by}
+use Rattle.histories.specs.Words.{PoliciesDecide}
 use Rattle.histories.proofs.OrderCases.{with_caller}
 
 module _ (a : Asking) (is : a.outcome ≡ step a.broker a.moment a.words a.ask) (command : Command)

@@ -1,16 +1,16 @@
 -- How a request goes for tokens: it leaves them, or its client token spends a use, and it is refused or carried out.
+use Rattle.std.proofs.Common.{◌≡◌, ◌≢◌, ◌⊎◌, ◌&&◌, ◌||◌, ◌-◌, ◌==◌, if◌then◌else◌}
 use Rattle.broker_types.specs.IdentifierPlaces as place
-use Rattle.histories.specs.Words.{◌≡◌, ◌≢◌, ◌⊎◌, ◌&&◌, ◌||◌, ◌-◌, ◌==◌, if◌then◌else◌, not, nat_lt, ℕ, max, Bool, true}
-use Rattle.histories.specs.Words.{Ok, false, is_some, Option, Some, None, Result, Err, option_map, option_map_or, refl}
-use Rattle.histories.specs.Words.{sym, ◌∙◌, ap, subst, inl, inr, false≢true, none-some, same_Some, Text, same}
-use Rattle.histories.specs.Words.{same_self, same_true, get, valued_is, Broker, Waiting, is_under, names_of, nothing}
-use Rattle.histories.specs.Words.{reply, Done, found_or_not, identifier_at, token_identifier, unless, ok_step, Sound}
-use Rattle.histories.specs.Words.{end_spent, is_spent, one_less, Token, Tokens, alive_is, under_self, are_new, Refusal}
-use Rattle.histories.specs.Words.{Reply, ok_inj, act, Command, command_of, Does, forms, OperationsDoAsTold, Outcome}
-use Rattle.histories.specs.Words.{Wrapped, counted, finish, needed, permission_denied, response_to, serve, unwrapped}
-use Rattle.histories.specs.Words.{wrap, wrapped, permits, Request, no_content, is_open, request_of, step, traits}
-use Rattle.histories.specs.Words.{Reason, Status, Asking, clocked, spent_by, DiffersInWaiting, IsClient, has_no_use}
-use Rattle.histories.specs.Words.{left_by_caller}
+use Rattle.histories.specs.Words.{not, nat_lt, ℕ, max, Bool, true, Ok, false, is_some, Option, Some, None, Result, Err}
+use Rattle.histories.specs.Words.{option_map, option_map_or, refl, sym, ◌∙◌, ap, subst, inl, inr, false≢true}
+use Rattle.histories.specs.Words.{none-some, same_Some, Text, same, same_self, same_true, get, valued_is, Broker}
+use Rattle.histories.specs.Words.{Waiting, is_under, names_of, nothing, reply, Done, found_or_not, identifier_at}
+use Rattle.histories.specs.Words.{token_identifier, unless, ok_step, Sound, end_spent, is_spent, one_less, Token}
+use Rattle.histories.specs.Words.{Tokens, alive_is, under_self, are_new, Refusal, Reply, ok_inj, act, Command}
+use Rattle.histories.specs.Words.{command_of, Does, forms, OperationsDoAsTold, Outcome, Wrapped, counted, finish}
+use Rattle.histories.specs.Words.{needed, permission_denied, response_to, serve, unwrapped, wrap, wrapped, permits}
+use Rattle.histories.specs.Words.{Request, no_content, is_open, request_of, step, traits, Reason, Status, Asking}
+use Rattle.histories.specs.Words.{clocked, spent_by, DiffersInWaiting, IsClient, has_no_use, left_by_caller}
 use Rattle.histories.proofs.InOrder.{in_order}
 use Rattle.histories.proofs.Lasting.{waited_before}
 use Rattle.histories.proofs.Routes.{changes_no_token}

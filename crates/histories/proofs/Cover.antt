@@ -1,7 +1,8 @@
 -- Laws of what a history gives out: it is all that is used.
-use Rattle.histories.specs.Words.{◌≡◌, ◌⊎◌, ◌<◌, ◌∷◌, ℕ, zero, suc, take, [], true, Some, None, sym, ◌∙◌, ap, subst}
-use Rattle.histories.specs.Words.{inl, list_any, inr, cases_order, none-some, same_Some, Text, same, get, Broker}
-use Rattle.histories.specs.Words.{IsUsed, member_new, Asking, AskedAt, History, given_out}
+use Rattle.std.proofs.Common.{◌≡◌, ◌⊎◌, ◌<◌, ◌∷◌}
+use Rattle.histories.specs.Words.{ℕ, zero, suc, take, [], true, Some, None, sym, ◌∙◌, ap, subst, inl, list_any, inr}
+use Rattle.histories.specs.Words.{cases_order, none-some, same_Some, Text, same, get, Broker, IsUsed, member_new}
+use Rattle.histories.specs.Words.{Asking, AskedAt, History, given_out}
 use Rattle.histories.proofs.Keeping.{EachKeeps, EachMarks}
 use Rattle.histories.proofs.Lasting.{asked_keeps, evolved_since}
 use Rattle.histories.proofs.Used.{any_left, any_right, member_used, used_or}

@@ -1,12 +1,13 @@
 -- What becomes of each token by a request, with its cubbyhole and its leases, and which token it makes.
+use Rattle.std.proofs.Common.{◌≡◌, ◌⊎◌, if◌then◌else◌, ◌≢◌}
 use Rattle.broker_model.specs.Traits.{revoke}
-use Rattle.histories.specs.Words.{edited, with_cubbyhole, with_end, create, renew_token, revoke_alone, revoke_token}
-use Rattle.histories.specs.Words.{◌≡◌, ◌⊎◌, if◌then◌else◌, ◌≢◌, ℕ, Bool, true, false, not, cond, is_some, Option, Some}
-use Rattle.histories.specs.Words.{Ok, None, option_map, option_and_then, ⊤, refl, sym, ◌∙◌, ap, subst, inl, inr}
-use Rattle.histories.specs.Words.{false≢true, none-some, same_Some, Text, same, same_self, same_true, Map, get, put}
-use Rattle.histories.specs.Words.{without, get-change, get-map_values, get-put, get-without, Broker, names_of, Names}
-use Rattle.histories.specs.Words.{Response, nothing, Done, some_or, unless, ok_step, unless_ok, Token, Tokens, Lease}
-use Rattle.histories.specs.Words.{is_under, orphaned_by, get-revoke, token_text, Sound, is_there, ok_inj, token_entry}
+use Rattle.histories.specs.Words.{edited, with_cubbyhole, with_end, create, renew_token, revoke_alone, revoke_token, ℕ}
+use Rattle.histories.specs.Words.{Bool, true, false, not, cond, is_some, Option, Some, Ok, None, option_map}
+use Rattle.histories.specs.Words.{option_and_then, ⊤, refl, sym, ◌∙◌, ap, subst, inl, inr, false≢true, none-some}
+use Rattle.histories.specs.Words.{same_Some, Text, same, same_self, same_true, Map, get, put, without, get-change}
+use Rattle.histories.specs.Words.{get-map_values, get-put, get-without, Broker, names_of, Names, Response, nothing}
+use Rattle.histories.specs.Words.{Done, some_or, unless, ok_step, unless_ok, Token, Tokens, Lease, is_under}
+use Rattle.histories.specs.Words.{orphaned_by, get-revoke, token_text, Sound, is_there, ok_inj, token_entry}
 use Rattle.histories.specs.Words.{TokenCreation, Command, on_cubbyhole, on_issued, on_lease, on_mount, on_policy}
 use Rattle.histories.specs.Words.{on_secret, on_token, on_wrapping, traits, step, may_change, stay, Fate, Named, make}
 use Rattle.histories.specs.Words.{orphan, renew, text_named, cubbyhole_changes, issued_changes, lease_changes}

@@ -1,19 +1,20 @@
 -- A mount that is disabled leaves nothing, and what is of other mounts stays.
+use Rattle.std.proofs.Common.{◌≡◌, ◌≢◌, if◌then◌else◌, ◌⊎◌}
 use Rattle.leases.specs.Leases as leases
 use Rattle.kv2.specs.Secrets as secrets
 use Rattle.leases.specs.Roles as roles
-use Rattle.histories.specs.Words.{◌≡◌, ◌≢◌, if◌then◌else◌, true, false, not, cond, is_some, Option, Some, None, Ok}
-use Rattle.histories.specs.Words.{Bool, ⊤, option_and_then, refl, sym, ◌∙◌, ap, subst, inl, inr, arith, Text, same}
-use Rattle.histories.specs.Words.{same_self, same_true, Map, get, keep, without, get-change, get-keep, get-without}
-use Rattle.histories.specs.Words.{valued_is, Broker, Mount, Waiting, names_of, Done, found_or_not, mapped, lease_of}
-use Rattle.histories.specs.Words.{no_ok, ok_step, one_less, spend, status_code, Token, Tokens, ok_inj, disabled, may_go}
-use Rattle.histories.specs.Words.{act, Command, on_mount, OperationsDoAsTold, Outcome, Wrapped, counted, wrapped}
-use Rattle.histories.specs.Words.{permits, request_of, step, traits, without_kept, MountCommand, AllDisabledMountsGo}
-use Rattle.histories.specs.Words.{Disables, KeepsOthers, LeavesNothing, Asking, clocked, is_below, ◌⊎◌, nat_lt, max}
-use Rattle.histories.specs.Words.{option_map_or, false≢true, IsRefused, without_is, Names, nothing, kept_get, Lease}
-use Rattle.histories.specs.Words.{alive_is, command_of, on_lease, chained, response_to, unwrapped, no_content}
-use Rattle.histories.specs.Words.{act_on_leases, act_on_mounts, Status, LeaseCommand, unwrapped_body}
-use Rattle.histories.specs.Words.{AllLeasesStayRevoked, EndsLease, NamesBelow, NamesMount}
+use Rattle.histories.specs.Words.{true, false, not, cond, is_some, Option, Some, None, Ok, Bool, ⊤, option_and_then}
+use Rattle.histories.specs.Words.{refl, sym, ◌∙◌, ap, subst, inl, inr, arith, Text, same, same_self, same_true, Map}
+use Rattle.histories.specs.Words.{get, keep, without, get-change, get-keep, get-without, valued_is, Broker, Mount}
+use Rattle.histories.specs.Words.{Waiting, names_of, Done, found_or_not, mapped, lease_of, no_ok, ok_step, one_less}
+use Rattle.histories.specs.Words.{spend, status_code, Token, Tokens, ok_inj, disabled, may_go, act, Command, on_mount}
+use Rattle.histories.specs.Words.{OperationsDoAsTold, Outcome, Wrapped, counted, wrapped, permits, request_of, step}
+use Rattle.histories.specs.Words.{traits, without_kept, MountCommand, AllDisabledMountsGo, Disables, KeepsOthers}
+use Rattle.histories.specs.Words.{LeavesNothing, Asking, clocked, is_below, nat_lt, max, option_map_or, false≢true}
+use Rattle.histories.specs.Words.{IsRefused, without_is, Names, nothing, kept_get, Lease, alive_is, command_of}
+use Rattle.histories.specs.Words.{on_lease, chained, response_to, unwrapped, no_content, act_on_leases, act_on_mounts}
+use Rattle.histories.specs.Words.{Status, LeaseCommand, unwrapped_body, AllLeasesStayRevoked, EndsLease, NamesBelow}
+use Rattle.histories.specs.Words.{NamesMount}
 use Rattle.histories.proofs.Clients.{end_is}
 use Rattle.histories.proofs.Order.{spent, end_spent_same, wrapped_cases, asked_at, means_at_clock, Served, served}
 use Rattle.histories.proofs.Order.{history_keeps, spent_mounts, nothing_is_no_reply, refused_or_served}

@@ -1,4 +1,5 @@
 -- Permission and look-ups are as they are documented.
+use Rattle.std.proofs.Common.{◌≡◌, ◌⊎◌, ◌||◌, ◌++◌, if◌then◌else◌, ◌∷◌}
 use Rattle.broker_model.specs.Words.{ℕ, drop, length, nat_eq, not, List, [], Bool, Contains, true, false, is_some}
 use Rattle.broker_model.specs.Words.{codes, Option, Some, None, Result, Ok, Err, option_and_then, unwrap_or, get-empty}
 use Rattle.broker_model.specs.Words.{find, flat_map, list_any, starts_with, option_map_or, refl, sym, ◌∙◌, ap, subst}
@@ -14,8 +15,8 @@ use Rattle.broker_model.specs.Words.{capability, has_stored, stands_there, store
 use Rattle.broker_model.specs.Words.{act_on_tokens, known, named, MountType, CubbyholeOperation}
 use Rattle.mounts.specs.Words.{nothing}
 use Rattle.mounts.specs.declared.operation.Operation.TheVariants.{Tokens}
-use Rattle.histories.specs.Words.{◌≡◌, ◌⊎◌, ◌||◌, ◌++◌, if◌then◌else◌, ◌∷◌, Issued, SecretOperation, TokenCommand}
-use Rattle.histories.specs.Words.{AccessorsHideTokens, AreAsDocumented, AsksByVerb, MakesAnew, SudoIsNeeded}
+use Rattle.histories.specs.Words.{Issued, SecretOperation, TokenCommand, AccessorsHideTokens, AreAsDocumented}
+use Rattle.histories.specs.Words.{AsksByVerb, MakesAnew, SudoIsNeeded}
 use Rattle.histories.proofs.Routes.{whole}
 use Rattle.histories.proofs.Folders.{folders_listed}
 use Rattle.histories.proofs.OrderCases.{some_ok}

@@ -1,9 +1,9 @@
 -- What a request leaves of the secrets, and its status.
-use Rattle.histories.specs.Words.{◌≡◌, ◌⊎◌, if◌then◌else◌, true, false, Option, Some, None, refl, sym, ◌∙◌, ap, subst}
-use Rattle.histories.specs.Words.{inl, option_map_or, inr, Text, get, Broker, revoke, Names, names_of, Answered}
-use Rattle.histories.specs.Words.{nothing, missing, reply, Done, end_spent, is_spent, Reply, act, Command, Outcome}
-use Rattle.histories.specs.Words.{Wrapped, counted, response_to, wrapped, permits, Request, request_of, step, traits}
-use Rattle.histories.specs.Words.{Status, Asking, clocked}
+use Rattle.std.proofs.Common.{◌≡◌, ◌⊎◌, if◌then◌else◌}
+use Rattle.histories.specs.Words.{true, false, Option, Some, None, refl, sym, ◌∙◌, ap, subst, inl, option_map_or, inr}
+use Rattle.histories.specs.Words.{Text, get, Broker, revoke, Names, names_of, Answered, nothing, missing, reply, Done}
+use Rattle.histories.specs.Words.{end_spent, is_spent, Reply, act, Command, Outcome, Wrapped, counted, response_to}
+use Rattle.histories.specs.Words.{wrapped, permits, Request, request_of, step, traits, Status, Asking, clocked}
 use Rattle.histories.proofs.Order.{IsServed, IsTurnedAway, IsTurnedDown, order_cases, spent, wrapped_cases, Served}
 
 -- ---- the secrets

@@ -1,10 +1,11 @@
 -- Which names the list of a folder has.
+use Rattle.std.proofs.Common.{◌≡◌, ◌==◌, ◌&&◌, ◌++◌, ◌∷◌}
 use Rattle.broker_model.specs.Words.{is_sorted, is_ascending, T_true, eqb_self, lacks, entries_sorted}
-use Rattle.histories.specs.Words.{◌≡◌, ◌==◌, ◌&&◌, ◌++◌, ◌∷◌, List, [], Bool, true, false, cond, drop, filter, length}
-use Rattle.histories.specs.Words.{map, nat_eq, not, starts_with, refl, sym, ◌∙◌, ap, subst, inl, inr, and_parts}
-use Rattle.histories.specs.Words.{eqb-true, false≢true, or_cases, or_left, or_right, not-true, Text, same, text_cmp}
-use Rattle.histories.specs.Words.{same_self, same_true, entries, below, child, children, has, set_of, slash, has_set}
-use Rattle.histories.specs.Words.{IsFirstPart, ListsFolder}
+use Rattle.histories.specs.Words.{List, [], Bool, true, false, cond, drop, filter, length, map, nat_eq, not}
+use Rattle.histories.specs.Words.{starts_with, refl, sym, ◌∙◌, ap, subst, inl, inr, and_parts, eqb-true, false≢true}
+use Rattle.histories.specs.Words.{or_cases, or_left, or_right, not-true, Text, same, text_cmp, same_self, same_true}
+use Rattle.histories.specs.Words.{entries, below, child, children, has, set_of, slash, has_set, IsFirstPart}
+use Rattle.histories.specs.Words.{ListsFolder}
 
 -- ---- the first part of a path
 

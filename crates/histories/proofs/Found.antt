@@ -1,15 +1,15 @@
 -- Steps of operations that are not refused: what a request names is found, and what it may change is changed.
+use Rattle.std.proofs.Common.{◌≡◌, ◌≢◌, ◌||◌, ◌&&◌, ◌∷◌}
 use Rattle.broker_model.specs.Words.{same_false, has_accessor, deleted, fixed, set, is_policy, unsupported}
 use Rattle.token_tree.specs.Tokens as tree
 use Rattle.wrapping.specs.Wrapping as wrapping
-use Rattle.histories.specs.Words.{◌≡◌, ◌≢◌, ◌||◌, ◌&&◌, ◌∷◌, [], Bool, true, false, not, Option, Some, None, Result, Ok}
-use Rattle.histories.specs.Words.{ap, ⊤, List, is_some, is_none, option_and_then, option_map, codes, list_any}
-use Rattle.histories.specs.Words.{option_map_or, sym, ◌∙◌, inl, inr, false≢true, Text, same, same_self, Map}
-use Rattle.histories.specs.Words.{first_where, get, put, without, is_name, reserved_names, first_where_is}
-use Rattle.histories.specs.Words.{first_where_none, Lease, Token, Broker, Engine, Mount, Waiting, issued, kv, are_new}
-use Rattle.histories.specs.Words.{found_or_not, ◌>>=◌, some_or, unless, Refusal, has_lease, enabled, engine_asked}
-use Rattle.histories.specs.Words.{may_go, plain_mount, is_root, policy_of, Rule, MountCreation, holder, Reason, find}
-use Rattle.histories.specs.Words.{MayEnable, Asking, clocked, MeansEngine}
+use Rattle.histories.specs.Words.{[], Bool, true, false, not, Option, Some, None, Result, Ok, ap, ⊤, List, is_some}
+use Rattle.histories.specs.Words.{is_none, option_and_then, option_map, codes, list_any, option_map_or, sym, ◌∙◌, inl}
+use Rattle.histories.specs.Words.{inr, false≢true, Text, same, same_self, Map, first_where, get, put, without, is_name}
+use Rattle.histories.specs.Words.{reserved_names, first_where_is, first_where_none, Lease, Token, Broker, Engine}
+use Rattle.histories.specs.Words.{Mount, Waiting, issued, kv, are_new, found_or_not, ◌>>=◌, some_or, unless, Refusal}
+use Rattle.histories.specs.Words.{has_lease, enabled, engine_asked, may_go, plain_mount, is_root, policy_of, Rule}
+use Rattle.histories.specs.Words.{MountCreation, holder, Reason, find, MayEnable, Asking, clocked, MeansEngine}
 
 -- ---- an accessor
 

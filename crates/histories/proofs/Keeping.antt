@@ -1,7 +1,8 @@
 -- What one request keeps, on which the laws of histories rest.
-use Rattle.histories.specs.Words.{◌≡◌, ◌<◌, ◌⊎◌, ◌∷◌, ℕ, true, [], Some, None, ⊤, list_any, Text, same, get, Broker}
-use Rattle.histories.specs.Words.{Waiting, Evolves, OriginIsGone, IsTakenOut, WaitedBefore, are_new, use_up, Outcome}
-use Rattle.histories.specs.Words.{ok, Asking, AskedAt, History, clocked, KeepsReply}
+use Rattle.std.proofs.Common.{◌≡◌, ◌<◌, ◌⊎◌, ◌∷◌}
+use Rattle.histories.specs.Words.{ℕ, true, [], Some, None, ⊤, list_any, Text, same, get, Broker, Waiting, Evolves}
+use Rattle.histories.specs.Words.{OriginIsGone, IsTakenOut, WaitedBefore, are_new, use_up, Outcome, ok, Asking}
+use Rattle.histories.specs.Words.{AskedAt, History, clocked, KeepsReply}
 
 -- The response of the origin o is handed out: it waited at the request's clock, its text is the answer, and neither its
 -- origin nor its wrapping token waits any more.

@@ -1,23 +1,24 @@
 -- Responses that were kept are handed out once, as they were.
+use Rattle.std.proofs.Common.{◌≡◌, ◌≢◌, ◌<◌, ◌≤◌, ◌⊎◌, ◌&&◌, ◌∷◌, if◌then◌else◌}
 use Rattle.broker_types.specs.Broker.{revoke, revoke_orphan}
-use Rattle.histories.specs.Words.{◌≡◌, ◌≢◌, ◌<◌, ◌≤◌, ◌⊎◌, ◌&&◌, ◌∷◌, if◌then◌else◌, nat_lt, ℕ, max, [], Bool, true}
-use Rattle.histories.specs.Words.{false, cond, is_some, Option, Some, None, Ok, option_map, option_map_or, refl, sym}
-use Rattle.histories.specs.Words.{◌∙◌, ap, subst, inl, inr, arith, false≢true, false_from_ne_true, none-some, same_Some}
-use Rattle.histories.specs.Words.{Text, same, IsRefused, Response, same_true, Map, get, without, get-put}
-use Rattle.histories.specs.Words.{get-without_self, no_entry, Broker, Waiting, waiting_ends, Evolves, IsTakenOut}
-use Rattle.histories.specs.Words.{names_of, reply, plainly, Done, found_or_not, mapped, token_identifier}
-use Rattle.histories.specs.Words.{wrapping_token, ◌>>=◌, some_or, ok_step, Sound, spend, drop_waiting, status_code}
-use Rattle.histories.specs.Words.{token_text, are_new, use_up, Refusal, ok_inj, moved, with_waiting, reply_text}
-use Rattle.histories.specs.Words.{wrap_reply, act, Command, on_wrapping, command_of, forms, OperationsDoAsTold, Outcome}
-use Rattle.histories.specs.Words.{Wrapped, denied, finish, for_caller, response_to, serve, wrap_info, wrapped, wraps}
-use Rattle.histories.specs.Words.{permits, ok, request_of, step, traits, wrapping_names, wrapping_traits, FoundResponse}
-use Rattle.histories.specs.Words.{found, found_at, found_under, handed_out, rewrapped, shown_response, act_on_wrappings}
-use Rattle.histories.specs.Words.{Reason, Status, WrappingCommand, AreAsked, Asking, AskedAt, Beginning, History, begun}
-use Rattle.histories.specs.Words.{clocked, spent_by, EndsWrappingToken, HandedOutOnce, HandsOutKept, HasAsClient}
-use Rattle.histories.specs.Words.{IsKeptReply, KeepsReply, Rewraps, SameReply, looked_up_text, rewrapped_text}
-use Rattle.histories.specs.Words.{TakesTokenOut, Tells, Unwraps, WaitedFirst, unwrapped_answer, unwrapped_body, Revokes}
-use Rattle.histories.specs.Words.{RevokesAlone, lt-ltb, and_from, Names, Answered, nothing, kept_text, missing, is_kept}
-use Rattle.histories.specs.Words.{kept_entry, unwrapped, wrap_200, are_proper, Request, stays_plain}
+use Rattle.histories.specs.Words.{nat_lt, ℕ, max, [], Bool, true, false, cond, is_some, Option, Some, None, Ok}
+use Rattle.histories.specs.Words.{option_map, option_map_or, refl, sym, ◌∙◌, ap, subst, inl, inr, arith, false≢true}
+use Rattle.histories.specs.Words.{false_from_ne_true, none-some, same_Some, Text, same, IsRefused, Response, same_true}
+use Rattle.histories.specs.Words.{Map, get, without, get-put, get-without_self, no_entry, Broker, Waiting}
+use Rattle.histories.specs.Words.{waiting_ends, Evolves, IsTakenOut, names_of, reply, plainly, Done, found_or_not}
+use Rattle.histories.specs.Words.{mapped, token_identifier, wrapping_token, ◌>>=◌, some_or, ok_step, Sound, spend}
+use Rattle.histories.specs.Words.{drop_waiting, status_code, token_text, are_new, use_up, Refusal, ok_inj, moved}
+use Rattle.histories.specs.Words.{with_waiting, reply_text, wrap_reply, act, Command, on_wrapping, command_of, forms}
+use Rattle.histories.specs.Words.{OperationsDoAsTold, Outcome, Wrapped, denied, finish, for_caller, response_to, serve}
+use Rattle.histories.specs.Words.{wrap_info, wrapped, wraps, permits, ok, request_of, step, traits, wrapping_names}
+use Rattle.histories.specs.Words.{wrapping_traits, FoundResponse, found, found_at, found_under, handed_out, rewrapped}
+use Rattle.histories.specs.Words.{shown_response, act_on_wrappings, Reason, Status, WrappingCommand, AreAsked, Asking}
+use Rattle.histories.specs.Words.{AskedAt, Beginning, History, begun, clocked, spent_by, EndsWrappingToken}
+use Rattle.histories.specs.Words.{HandedOutOnce, HandsOutKept, HasAsClient, IsKeptReply, KeepsReply, Rewraps}
+use Rattle.histories.specs.Words.{SameReply, looked_up_text, rewrapped_text, TakesTokenOut, Tells, Unwraps}
+use Rattle.histories.specs.Words.{WaitedFirst, unwrapped_answer, unwrapped_body, Revokes, RevokesAlone, lt-ltb}
+use Rattle.histories.specs.Words.{and_from, Names, Answered, nothing, kept_text, missing, is_kept, kept_entry}
+use Rattle.histories.specs.Words.{unwrapped, wrap_200, are_proper, Request, stays_plain}
 use Rattle.histories.proofs.Cover.{one_birth}
 use Rattle.histories.proofs.Ending.{out_lasts}
 use Rattle.histories.proofs.Keeping.{EachKeeps, Keeps}

@@ -1,17 +1,18 @@
 -- A kept response stays where it waits, until it is taken away.
-use Rattle.histories.specs.Words.{revoke, revoke_orphan, revoke_token, ◌≡◌, ◌≢◌, ◌⊎◌, ◌∷◌, if◌then◌else◌, [], nat_lt}
-use Rattle.histories.specs.Words.{max, cond, Bool, true, false, Option, Some, None, Ok, option_map, ⊤, option_map_or}
-use Rattle.histories.specs.Words.{refl, sym, ◌∙◌, ap, subst, inl, inr, false≢true, false_from_ne_true, ltb-false}
-use Rattle.histories.specs.Words.{none-some, same_Some, Text, same, same_self, same_true, Map, get, get-keep, get-put}
-use Rattle.histories.specs.Words.{get-without, Broker, Waiting, waiting_ends, names_of, Answered, Done, nothing}
-use Rattle.histories.specs.Words.{token_identifier, wrapping_token, ◌>>=◌, some_or, ok_step, Sound, drop_waiting}
-use Rattle.histories.specs.Words.{token_text, are_new, Status, Words, ok_inj, moved_waits, others_wait, act, Command}
-use Rattle.histories.specs.Words.{command_of, on_cubbyhole, on_issued, on_lease, on_mount, on_policy, on_secret}
-use Rattle.histories.specs.Words.{on_token, on_wrapping, Does, SameUnless, is_kept, forms, OperationsDoAsTold, Outcome}
-use Rattle.histories.specs.Words.{Wrapped, counted, kept_entry, response_to, wrapped, permits, request_of, step, traits}
-use Rattle.histories.specs.Words.{may_change, FoundResponse, act_on_wrappings, found, found_at, found_under, handed_out}
-use Rattle.histories.specs.Words.{rewrapped, Kind, CubbyholeCommand, IssuedCommand, LeaseCommand, MountCommand}
-use Rattle.histories.specs.Words.{PolicyCommand, SecretCommand, TokenCommand, WrappingCommand, Asking, clocked, Rewraps}
+use Rattle.std.proofs.Common.{◌≡◌, ◌≢◌, ◌⊎◌, ◌∷◌, if◌then◌else◌}
+use Rattle.histories.specs.Words.{revoke, revoke_orphan, revoke_token, [], nat_lt, max, cond, Bool, true, false}
+use Rattle.histories.specs.Words.{Option, Some, None, Ok, option_map, ⊤, option_map_or, refl, sym, ◌∙◌, ap, subst, inl}
+use Rattle.histories.specs.Words.{inr, false≢true, false_from_ne_true, ltb-false, none-some, same_Some, Text, same}
+use Rattle.histories.specs.Words.{same_self, same_true, Map, get, get-keep, get-put, get-without, Broker, Waiting}
+use Rattle.histories.specs.Words.{waiting_ends, names_of, Answered, Done, nothing, token_identifier, wrapping_token}
+use Rattle.histories.specs.Words.{◌>>=◌, some_or, ok_step, Sound, drop_waiting, token_text, are_new, Status, Words}
+use Rattle.histories.specs.Words.{ok_inj, moved_waits, others_wait, act, Command, command_of, on_cubbyhole, on_issued}
+use Rattle.histories.specs.Words.{on_lease, on_mount, on_policy, on_secret, on_token, on_wrapping, Does, SameUnless}
+use Rattle.histories.specs.Words.{is_kept, forms, OperationsDoAsTold, Outcome, Wrapped, counted, kept_entry}
+use Rattle.histories.specs.Words.{response_to, wrapped, permits, request_of, step, traits, may_change, FoundResponse}
+use Rattle.histories.specs.Words.{act_on_wrappings, found, found_at, found_under, handed_out, rewrapped, Kind}
+use Rattle.histories.specs.Words.{CubbyholeCommand, IssuedCommand, LeaseCommand, MountCommand, PolicyCommand}
+use Rattle.histories.specs.Words.{SecretCommand, TokenCommand, WrappingCommand, Asking, clocked, Rewraps}
 use Rattle.histories.specs.Words.{TakesTokenOut, Unwraps, AllKeptResponsesStay, IsOver, moved_by, IsGranted}
 use Rattle.histories.specs.Words.{orphaning_by, revoked_by}
 use Rattle.histories.proofs.KeptReplies.{acted, bad, command_is, found_under_meant, handed_same, next_waiting}

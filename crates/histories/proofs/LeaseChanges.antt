@@ -1,22 +1,22 @@
 -- What becomes of the leases of a token that a request leaves, one by one.
+use Rattle.std.proofs.Common.{◌≡◌, ◌<◌, ◌+◌, ◌-◌, ◌==◌, if◌then◌else◌}
 use Rattle.broker_model.specs.Words.{min-eq_left, Issued, longest, policy_changes, secret_changes, token_changes}
 use Rattle.leases.specs.Leases as leases
 use Rattle.leases.specs.Roles as roles
-use Rattle.histories.specs.Words.{◌≡◌, ◌<◌, ◌+◌, ◌-◌, ◌==◌, if◌then◌else◌, ℕ, min, Bool, true, false, not, cond, nat_lt}
-use Rattle.histories.specs.Words.{Ok, is_some, Option, Some, None, option_map, option_map_or, refl, sym, ◌∙◌, ap, subst}
-use Rattle.histories.specs.Words.{inl, inr, arith, false≢true, ltb-false, ltb-true, ne_eqb, not-true, same_Some, Text}
-use Rattle.histories.specs.Words.{same, same_true, Map, change, get, keep, map_values, put, without, get-change}
-use Rattle.histories.specs.Words.{get-keep, get-put, get-without, valued_is, Broker, Mount, Role, longest_ttl, names_of}
-use Rattle.histories.specs.Words.{Names, Response, nothing, plainly, reply, Done, some_or, unless, ok_step, unless_ok}
-use Rattle.histories.specs.Words.{is_spent, Token, Tokens, Lease, Reply, Part, ok_inj, is_last_use, new_lease, disabled}
-use Rattle.histories.specs.Words.{credential_object, lease_reply, LeaseRenewal, Command, command_of, on_cubbyhole}
-use Rattle.histories.specs.Words.{on_issued, on_lease, on_mount, on_policy, on_secret, on_token, on_wrapping, traits}
-use Rattle.histories.specs.Words.{may_change, stay, cubbyhole_changes, act_on_issued, issued_changes, lease_changes}
-use Rattle.histories.specs.Words.{mount_changes, without_kept, Place, token_fate, wrapping_changes, Status, Refusal}
-use Rattle.histories.specs.Words.{Reason, Kind, CubbyholeCommand, IssuedCommand, LeaseCommand, MountCommand}
-use Rattle.histories.specs.Words.{PolicyCommand, SecretCommand, TokenCommand, WrappingCommand, Asking, clocked}
-use Rattle.histories.specs.Words.{spent_by, EndsLease, IsIssuedTo, IsOfRole, IsRenewedLease, LeaseBecomes, RenewsLease}
-use Rattle.histories.specs.Words.{IsClient}
+use Rattle.histories.specs.Words.{ℕ, min, Bool, true, false, not, cond, nat_lt, Ok, is_some, Option, Some, None}
+use Rattle.histories.specs.Words.{option_map, option_map_or, refl, sym, ◌∙◌, ap, subst, inl, inr, arith, false≢true}
+use Rattle.histories.specs.Words.{ltb-false, ltb-true, ne_eqb, not-true, same_Some, Text, same, same_true, Map, change}
+use Rattle.histories.specs.Words.{get, keep, map_values, put, without, get-change, get-keep, get-put, get-without}
+use Rattle.histories.specs.Words.{valued_is, Broker, Mount, Role, longest_ttl, names_of, Names, Response, nothing}
+use Rattle.histories.specs.Words.{plainly, reply, Done, some_or, unless, ok_step, unless_ok, is_spent, Token, Tokens}
+use Rattle.histories.specs.Words.{Lease, Reply, Part, ok_inj, is_last_use, new_lease, disabled, credential_object}
+use Rattle.histories.specs.Words.{lease_reply, LeaseRenewal, Command, command_of, on_cubbyhole, on_issued, on_lease}
+use Rattle.histories.specs.Words.{on_mount, on_policy, on_secret, on_token, on_wrapping, traits, may_change, stay}
+use Rattle.histories.specs.Words.{cubbyhole_changes, act_on_issued, issued_changes, lease_changes, mount_changes}
+use Rattle.histories.specs.Words.{without_kept, Place, token_fate, wrapping_changes, Status, Refusal, Reason, Kind}
+use Rattle.histories.specs.Words.{CubbyholeCommand, IssuedCommand, LeaseCommand, MountCommand, PolicyCommand}
+use Rattle.histories.specs.Words.{SecretCommand, TokenCommand, WrappingCommand, Asking, clocked, spent_by, EndsLease}
+use Rattle.histories.specs.Words.{IsIssuedTo, IsOfRole, IsRenewedLease, LeaseBecomes, RenewsLease, IsClient}
 use Rattle.histories.proofs.Clients.{CarriesOut, from_clock}
 use Rattle.histories.proofs.OrderCases.{some_ok}
 

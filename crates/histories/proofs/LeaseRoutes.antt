@@ -1,6 +1,7 @@
 -- What the paths mean that end leases.
-use Rattle.histories.specs.Words.{◌++◌, ◌∷◌, [], codes, refl, same, AreInOrder, FoundByForm, NoneFoundByForm, Leases}
-use Rattle.histories.specs.Words.{Mounts, Verb, MountType, LeaseOperation, MountOperation, PathsEndLeases}
+use Rattle.std.proofs.Common.{◌++◌, ◌∷◌}
+use Rattle.histories.specs.Words.{[], codes, refl, same, AreInOrder, FoundByForm, NoneFoundByForm, Leases, Mounts}
+use Rattle.histories.specs.Words.{Verb, MountType, LeaseOperation, MountOperation, PathsEndLeases}
 use Rattle.histories.proofs.Routes.{asked}
 
 module _ (found : FoundByForm) (none : NoneFoundByForm) (ordered : AreInOrder) where

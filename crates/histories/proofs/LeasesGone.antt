@@ -1,8 +1,9 @@
 -- A lease that a request ends does not come back.
+use Rattle.std.proofs.Common.{◌≡◌, ◌⊎◌}
 use Rattle.broker_types.specs.IdentifierPlaces as place
-use Rattle.histories.specs.Words.{◌≡◌, ◌⊎◌, Some, None, option_map, sym, ◌∙◌, ap, inl, inr, none-some, Text, get}
-use Rattle.histories.specs.Words.{Broker, Evolves, identifier_at, lease_identifier, lease_of, Sound, Lease, forms}
-use Rattle.histories.specs.Words.{Asking, unwrapped_body, LacksLease}
+use Rattle.histories.specs.Words.{Some, None, option_map, sym, ◌∙◌, ap, inl, inr, none-some, Text, get, Broker}
+use Rattle.histories.specs.Words.{Evolves, identifier_at, lease_identifier, lease_of, Sound, Lease, forms, Asking}
+use Rattle.histories.specs.Words.{unwrapped_body, LacksLease}
 use Rattle.histories.proofs.Ending.{IsLeaseGone, lease_lasts}
 use Rattle.histories.proofs.Keeping.{Keeps}
 use Rattle.histories.proofs.Lasting.{kept_evolves}

@@ -1,15 +1,15 @@
 -- A creation that may be made passes each test of the definition.
+use Rattle.std.proofs.Common.{◌≡◌, ◌⊎◌, ◌==◌, ◌||◌, ◌&&◌, ◌∷◌}
 use Rattle.broker_model.specs.CreationLaws as creation
-use Rattle.histories.specs.Words.{◌≡◌, ◌⊎◌, ◌==◌, ◌||◌, ◌&&◌, ◌∷◌, [], List, All, Bool, true, false, not, Some, None}
-use Rattle.histories.specs.Words.{codes, ℕ, Option, Result, Ok, is_none, ⊤, list_all, refl, sym, ◌∙◌, ap, inl, inr}
-use Rattle.histories.specs.Words.{false≢true, and_parts, eq-eqb, eqb-true, false_from_ne_true, or_cases, or_right}
-use Rattle.histories.specs.Words.{All-head, All-tail, Text, same, same_self, same_true, Broker, is_name, Names, Done}
-use Rattle.histories.specs.Words.{reply, ◌>>=◌, some_or, unless, Sound, Token, alive_is, Refusal, Reply, has, grants}
-use Rattle.histories.specs.Words.{AllThatIsGranted, RootMayDoAll, Sudo, TokenCreation, forms, has_no_end, have_root}
-use Rattle.histories.specs.Words.{is_privileged, makes_orphans, making_path, may_make, new_parent, new_policies}
-use Rattle.histories.specs.Words.{new_token, create, made, Verb, Denial, Reason, Making, AsksItsOwn, AsksNoRoot}
-use Rattle.histories.specs.Words.{MayCreate, IsAllowed, HasPolicies, HasRoot, HasSudo, Asking, clocked, spent_by}
-use Rattle.histories.specs.Words.{path_of}
+use Rattle.histories.specs.Words.{[], List, All, Bool, true, false, not, Some, None, codes, ℕ, Option, Result, Ok}
+use Rattle.histories.specs.Words.{is_none, ⊤, list_all, refl, sym, ◌∙◌, ap, inl, inr, false≢true, and_parts, eq-eqb}
+use Rattle.histories.specs.Words.{eqb-true, false_from_ne_true, or_cases, or_right, All-head, All-tail, Text, same}
+use Rattle.histories.specs.Words.{same_self, same_true, Broker, is_name, Names, Done, reply, ◌>>=◌, some_or, unless}
+use Rattle.histories.specs.Words.{Sound, Token, alive_is, Refusal, Reply, has, grants, AllThatIsGranted, RootMayDoAll}
+use Rattle.histories.specs.Words.{Sudo, TokenCreation, forms, has_no_end, have_root, is_privileged, makes_orphans}
+use Rattle.histories.specs.Words.{making_path, may_make, new_parent, new_policies, new_token, create, made, Verb}
+use Rattle.histories.specs.Words.{Denial, Reason, Making, AsksItsOwn, AsksNoRoot, MayCreate, IsAllowed, HasPolicies}
+use Rattle.histories.specs.Words.{HasRoot, HasSudo, Asking, clocked, spent_by, path_of}
 use Rattle.histories.proofs.Clients.{from_clock}
 use Rattle.histories.proofs.Created.{has_policies}
 use Rattle.histories.proofs.TokenLaws.{granted_so, path_is}

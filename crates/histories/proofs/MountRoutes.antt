@@ -1,13 +1,14 @@
 -- What the paths mean in a mount that was enabled, and those of policies, of mounts and of cubbyholes.
+use Rattle.std.proofs.Common.{◌≡◌, ◌&&◌, ◌||◌, ◌++◌, ◌∷◌, if◌then◌else◌}
 use Rattle.broker_model.specs.Words.{is_mount_name, split-lacking, mount_no_slash}
-use Rattle.histories.specs.Words.{◌≡◌, ◌&&◌, ◌||◌, ◌++◌, ◌∷◌, if◌then◌else◌, [], ℕ, Bool, true, false, not, Option}
-use Rattle.histories.specs.Words.{Some, None, Result, codes, unwrap_or, list_all, refl, ◌∙◌, ap, and_parts, false≢true}
-use Rattle.histories.specs.Words.{is_name, Engine, Mount, issued, kv, ◌>>=◌, Text, same, Verb, Refusal, or_else, slash}
-use Rattle.histories.specs.Words.{are_bytes, parameter, AreInOrder, FoundByForm, NoneFoundByForm, Route, operation_for}
-use Rattle.histories.specs.Words.{route_of, route_rows, engine_type, fixed_type, type_at, type_of, MountType, Operation}
-use Rattle.histories.specs.Words.{Cubbyholes, Mounts, Policies, Secrets, Command, command_for, CubbyholeOperation}
-use Rattle.histories.specs.Words.{IssuedOperation, MountOperation, Issued, PolicyOperation, SecretOperation, MeansIn}
-use Rattle.histories.specs.Words.{PathsOfIssued, PathsOfSecrets, PathsOfSettings}
+use Rattle.histories.specs.Words.{[], ℕ, Bool, true, false, not, Option, Some, None, Result, codes, unwrap_or}
+use Rattle.histories.specs.Words.{list_all, refl, ◌∙◌, ap, and_parts, false≢true, is_name, Engine, Mount, issued, kv}
+use Rattle.histories.specs.Words.{◌>>=◌, Text, same, Verb, Refusal, or_else, slash, are_bytes, parameter, AreInOrder}
+use Rattle.histories.specs.Words.{FoundByForm, NoneFoundByForm, Route, operation_for, route_of, route_rows}
+use Rattle.histories.specs.Words.{engine_type, fixed_type, type_at, type_of, MountType, Operation, Cubbyholes, Mounts}
+use Rattle.histories.specs.Words.{Policies, Secrets, Command, command_for, CubbyholeOperation, IssuedOperation}
+use Rattle.histories.specs.Words.{MountOperation, Issued, PolicyOperation, SecretOperation, MeansIn, PathsOfIssued}
+use Rattle.histories.specs.Words.{PathsOfSecrets, PathsOfSettings}
 use Rattle.histories.proofs.Routes.{StandsFor, asked, route_to, routed_at}
 
 -- ---- the name of a mount

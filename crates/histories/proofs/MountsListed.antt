@@ -1,11 +1,12 @@
 -- Which mounts the list shows.
+use Rattle.std.proofs.Common.{◌≡◌, ◌≢◌, ◌∷◌}
 use Rattle.broker_model.specs.Words.{List, [], map, true, false, cond, Some, None, codes, option_map, refl, fold}
 use Rattle.broker_model.specs.Words.{lookup, sym, ◌∙◌, ap, subst, inl, inr, All-head, All-tail, none-some, Text, same}
 use Rattle.broker_model.specs.Words.{text_cmp, same_true, Map, empty, entries, get, map_values, put, with_values}
 use Rattle.broker_model.specs.Words.{entries-map_values, get-lookup, get-map_values, Engine, Mount, issued, kv, mapped}
 use Rattle.broker_model.specs.Words.{put_is, put_keeps, put_there, each_entry, listed_types, printed, typed, with_type}
 use Rattle.broker_model.specs.Words.{engine_type, type_of, MountType, MountObject, shown_mount, get-empty}
-use Rattle.histories.specs.Words.{◌≡◌, ◌≢◌, ◌∷◌, All, IsMountShown, mount_shown}
+use Rattle.histories.specs.Words.{All, IsMountShown, mount_shown}
 
 -- ---- types put one after another
 

@@ -1,10 +1,10 @@
 -- The cases of the order of one request.
-use Rattle.histories.specs.Words.{◌≡◌, ◌⊎◌, ◌||◌, if◌then◌else◌, ℕ, Bool, true, false, not, nat_lt, Option, Some, None}
-use Rattle.histories.specs.Words.{Ok, Result, Err, is_some, refl, sym, ◌∙◌, ap, subst, inl, inr, Text, get, Broker}
-use Rattle.histories.specs.Words.{at_moment, Names, Done, some_or, unless, no_ok, ok_step, unless_ok, spend}
-use Rattle.histories.specs.Words.{drop_waiting, are_new, Verb, Refusal, ok_inj, Outcome, Traits, Wrapped, denied}
-use Rattle.histories.specs.Words.{for_caller, finish, needed, ordered, permission_denied, serve, wrapped, Request}
-use Rattle.histories.specs.Words.{Reason}
+use Rattle.std.proofs.Common.{◌≡◌, ◌⊎◌, ◌||◌, if◌then◌else◌}
+use Rattle.histories.specs.Words.{ℕ, Bool, true, false, not, nat_lt, Option, Some, None, Ok, Result, Err, is_some}
+use Rattle.histories.specs.Words.{refl, sym, ◌∙◌, ap, subst, inl, inr, Text, get, Broker, at_moment, Names, Done}
+use Rattle.histories.specs.Words.{some_or, unless, no_ok, ok_step, unless_ok, spend, drop_waiting, are_new, Verb}
+use Rattle.histories.specs.Words.{Refusal, ok_inj, Outcome, Traits, Wrapped, denied, for_caller, finish, needed}
+use Rattle.histories.specs.Words.{ordered, permission_denied, serve, wrapped, Request, Reason}
 
 -- ---- steps of a definition
 

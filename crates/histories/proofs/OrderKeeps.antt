@@ -1,17 +1,19 @@
 -- What a request keeps, whatever the operations are, as long as each is proper.
-use Rattle.broker_model.specs.Words.{ℕ, max, List, [], Bool, true, false, not, cond, nat_lt, Option, Some, None, Result}
-use Rattle.broker_model.specs.Words.{Ok, Err, is_none, option_map, ⊤, list_any, option_map_or, refl, sym, ◌∙◌, ap}
-use Rattle.broker_model.specs.Words.{subst, inl, inr, false≢true, and_parts, ltb-true, and_from, none-some, same_Some}
-use Rattle.broker_model.specs.Words.{Text, same, Map, get, without, get-put, get-put_self, get-without_self, without_is}
-use Rattle.broker_model.specs.Words.{put_is, same_self, token_text, Broker, Waiting, at_moment, revoke, waiting_ends}
-use Rattle.broker_model.specs.Words.{Evolves, WaitedBefore, IsNew, evolves_trans, Names, names_of, is_nothing, Answered}
-use Rattle.broker_model.specs.Words.{nothing, reply, kept_text, missing, Done, IsUsed, token_identifier, wrapping_token}
-use Rattle.broker_model.specs.Words.{at_moment_evolves, kept_get, SoundIdentifiers, SoundWaiting, end_spent, is_spent}
-use Rattle.broker_model.specs.Words.{evolves_self, spend_evolves, end_spent_evolves, drop_evolves, are_new, use_up}
-use Rattle.broker_model.specs.Words.{Verb, Reply, Refusal, rest_new, store_evolves, with_waiting, Outcome, Traits}
-use Rattle.broker_model.specs.Words.{Wrapped, denied, finish, kept_entry, needed, ordered, response_to, unwrapped, wrap}
-use Rattle.broker_model.specs.Words.{wrap_200, wrap_info, wrapped, wraps, IsProper, reply_text, wrap_reply, Request, ok}
-use Rattle.histories.specs.Words.{◌≡◌, ◌≢◌, ◌⊎◌, ◌||◌, ◌∷◌, if◌then◌else◌, Asking, clocked, KeepsReply, first_entry}
+use Rattle.std.proofs.Common.{◌≡◌, ◌≢◌, ◌⊎◌, ◌||◌, ◌∷◌, if◌then◌else◌}
+use Rattle.broker_model.specs.Words.{ℕ, max, List, [], Bool, true, false, not, cond, nat_lt, Option, Some, None}
+use Rattle.broker_model.specs.Words.{Result, Ok, Err, is_none, option_map, ⊤, list_any, option_map_or, refl, sym, ◌∙◌}
+use Rattle.broker_model.specs.Words.{ap, subst, inl, inr, false≢true, and_parts, ltb-true, and_from, none-some}
+use Rattle.broker_model.specs.Words.{same_Some, Text, same, Map, get, without, get-put, get-put_self, get-without_self}
+use Rattle.broker_model.specs.Words.{without_is, put_is, same_self, token_text, Broker, Waiting, at_moment, revoke}
+use Rattle.broker_model.specs.Words.{waiting_ends, Evolves, WaitedBefore, IsNew, evolves_trans, Names, names_of}
+use Rattle.broker_model.specs.Words.{is_nothing, Answered, nothing, reply, kept_text, missing, Done, IsUsed}
+use Rattle.broker_model.specs.Words.{token_identifier, wrapping_token, at_moment_evolves, kept_get, SoundIdentifiers}
+use Rattle.broker_model.specs.Words.{SoundWaiting, end_spent, is_spent, evolves_self, spend_evolves, end_spent_evolves}
+use Rattle.broker_model.specs.Words.{drop_evolves, are_new, use_up, Verb, Reply, Refusal, rest_new, store_evolves}
+use Rattle.broker_model.specs.Words.{with_waiting, Outcome, Traits, Wrapped, denied, finish, kept_entry, needed}
+use Rattle.broker_model.specs.Words.{ordered, response_to, unwrapped, wrap, wrap_200, wrap_info, wrapped, wraps}
+use Rattle.broker_model.specs.Words.{IsProper, reply_text, wrap_reply, Request, ok}
+use Rattle.histories.specs.Words.{Asking, clocked, KeepsReply, first_entry}
 use Rattle.histories.proofs.Keeping.{HandedOut, IsBorn, Keeps}
 use Rattle.histories.proofs.Lasting.{waited_before}
 use Rattle.histories.proofs.OrderCases.{IsServed, IsTurnedAway, IsTurnedDown, order_cases, spent}

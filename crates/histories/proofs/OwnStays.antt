@@ -1,19 +1,20 @@
 -- What is another's stays: what makes a token go, what changes of one that stands, and who reads a cubbyhole.
+use Rattle.std.proofs.Common.{◌≡◌, ◌≢◌, ◌⊎◌, ◌&&◌, ◌||◌, ◌-◌, ◌==◌, if◌then◌else◌}
 use Rattle.cubbyhole.specs.Cubbyhole as of_cubbyhole
-use Rattle.histories.specs.Words.{◌≡◌, ◌≢◌, ◌⊎◌, ◌&&◌, ◌||◌, ◌-◌, ◌==◌, if◌then◌else◌, ℕ, zero, suc, [], true, false}
-use Rattle.histories.specs.Words.{not, nat_lt, Option, Some, None, Ok, is_none, is_some, option_map, list_any}
-use Rattle.histories.specs.Words.{option_map_or, refl, sym, ◌∙◌, ap, subst, inl, inr, arith, false≢true, and_parts}
-use Rattle.histories.specs.Words.{eqb-true, none-some, same_Some, get-empty, Text, same, text_cmp, IsTree, Map, get}
-use Rattle.histories.specs.Words.{keys, len, valued_none, Broker, climb, ends_within, is_under, climb_above, climb_at}
-use Rattle.histories.specs.Words.{ends_above, ends_at, names_of, reply, Done, found_or_not, some_or, unless, no_ok}
-use Rattle.histories.specs.Words.{ok_step, Sound, is_spent, one_less, Token, Tokens, status_code, Reply, children}
-use Rattle.histories.specs.Words.{folder, ok_inj, keys_object, plain_reply, reply_text, act, Command, on_cubbyhole}
-use Rattle.histories.specs.Words.{command_of, allowed, chained, forms, OperationsDoAsTold, Outcome, Wrapped}
-use Rattle.histories.specs.Words.{response_to, permits, ok, request_of, step, traits, are_none, is_privileged}
-use Rattle.histories.specs.Words.{making_path, new_policies, Refusal, Status, CubbyholeCommand, Asking, clocked}
-use Rattle.histories.specs.Words.{spent_by, AllOwnStays, AnswersOwn, EndsWithClient, TokenGoes, IsListAt, IsObjectAt}
-use Rattle.histories.specs.Words.{IsClient, has_no_use, left_by_caller, same_self, put, without, get-change}
-use Rattle.histories.specs.Words.{get-put_self, get-without_self, mapped, edited, with_cubbyhole, LeavesAt}
+use Rattle.histories.specs.Words.{ℕ, zero, suc, [], true, false, not, nat_lt, Option, Some, None, Ok, is_none, is_some}
+use Rattle.histories.specs.Words.{option_map, list_any, option_map_or, refl, sym, ◌∙◌, ap, subst, inl, inr, arith}
+use Rattle.histories.specs.Words.{false≢true, and_parts, eqb-true, none-some, same_Some, get-empty, Text, same}
+use Rattle.histories.specs.Words.{text_cmp, IsTree, Map, get, keys, len, valued_none, Broker, climb, ends_within}
+use Rattle.histories.specs.Words.{is_under, climb_above, climb_at, ends_above, ends_at, names_of, reply, Done}
+use Rattle.histories.specs.Words.{found_or_not, some_or, unless, no_ok, ok_step, Sound, is_spent, one_less, Token}
+use Rattle.histories.specs.Words.{Tokens, status_code, Reply, children, folder, ok_inj, keys_object, plain_reply}
+use Rattle.histories.specs.Words.{reply_text, act, Command, on_cubbyhole, command_of, allowed, chained, forms}
+use Rattle.histories.specs.Words.{OperationsDoAsTold, Outcome, Wrapped, response_to, permits, ok, request_of, step}
+use Rattle.histories.specs.Words.{traits, are_none, is_privileged, making_path, new_policies, Refusal, Status}
+use Rattle.histories.specs.Words.{CubbyholeCommand, Asking, clocked, spent_by, AllOwnStays, AnswersOwn, EndsWithClient}
+use Rattle.histories.specs.Words.{TokenGoes, IsListAt, IsObjectAt, IsClient, has_no_use, left_by_caller, same_self}
+use Rattle.histories.specs.Words.{put, without, get-change, get-put_self, get-without_self, mapped, edited}
+use Rattle.histories.specs.Words.{with_cubbyhole, LeavesAt}
 use Rattle.histories.proofs.Clients.{CarriesOut, Course, from_clock, is_client}
 use Rattle.histories.proofs.Created.{new_unspent}
 use Rattle.histories.proofs.Descent.{Makes, follows, keeps, leaves}

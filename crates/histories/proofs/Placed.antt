@@ -1,13 +1,14 @@
 -- Where the identifiers of a broker come from that follows another one.
+use Rattle.std.proofs.Common.{◌≡◌, ◌⊎◌, if◌then◌else◌}
 use Rattle.records.specs.Words.{revoke_orphan, with_live_leases, Place}
 use Rattle.broker_types.specs.IdentifierPlaces as place
-use Rattle.histories.specs.Words.{◌≡◌, ◌⊎◌, if◌then◌else◌, not, nat_lt, ℕ, max, List, [], Bool, true, false, Option}
-use Rattle.histories.specs.Words.{Some, None, option_map, option_and_then, list_any, option_map_or, refl, sym, ◌∙◌, ap}
-use Rattle.histories.specs.Words.{subst, inl, inr, false≢true, Text, same, Map, get, keep, map_values, without}
-use Rattle.histories.specs.Words.{valued_is, without_is, Broker, Waiting, at_moment, revoke, waiting_ends, is_under}
-use Rattle.histories.specs.Words.{orphaned_by, mapped, OnePlaceEach, identifier_at, lease_identifier, lease_of}
-use Rattle.histories.specs.Words.{token_identifier, kept_get, drop_waiting, end_spent, is_spent, one_less, spend, Token}
-use Rattle.histories.specs.Words.{Tokens, Lease, alive_is, chained}
+use Rattle.histories.specs.Words.{not, nat_lt, ℕ, max, List, [], Bool, true, false, Option, Some, None, option_map}
+use Rattle.histories.specs.Words.{option_and_then, list_any, option_map_or, refl, sym, ◌∙◌, ap, subst, inl, inr}
+use Rattle.histories.specs.Words.{false≢true, Text, same, Map, get, keep, map_values, without, valued_is, without_is}
+use Rattle.histories.specs.Words.{Broker, Waiting, at_moment, revoke, waiting_ends, is_under, orphaned_by, mapped}
+use Rattle.histories.specs.Words.{OnePlaceEach, identifier_at, lease_identifier, lease_of, token_identifier, kept_get}
+use Rattle.histories.specs.Words.{drop_waiting, end_spent, is_spent, one_less, spend, Token, Tokens, Lease, alive_is}
+use Rattle.histories.specs.Words.{chained}
 use Rattle.histories.proofs.OrderCases.{spent}
 
 -- ---- where an identifier was

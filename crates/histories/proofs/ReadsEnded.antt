@@ -1,17 +1,17 @@
 -- What a 404 to a read of a version shows: one that is deleted or destroyed, without what it held; or there is none.
+use Rattle.std.proofs.Common.{◌≡◌, ◌≢◌, ◌⊎◌, ◌==◌, if◌then◌else◌, ◌||◌}
 use Rattle.broker_model.specs.Words.{version_shown}
 use Rattle.kv2.specs.Secrets as secrets
-use Rattle.histories.specs.Words.{◌≡◌, ◌≢◌, ◌⊎◌, ◌==◌, if◌then◌else◌, ℕ, Bool, true, false, is_some, Option, Some, None}
-use Rattle.histories.specs.Words.{Ok, Result, Err, option_and_then, option_map, refl, sym, ◌∙◌, ap, subst, inl, inr}
-use Rattle.histories.specs.Words.{eqb-true, none-some, Text, entries, get, Response, refused, names_of, missing, reply}
-use Rattle.histories.specs.Words.{Done, mapped, mapped_none, not_there, some_or, no_ok, ok_step, Key, Version, spend}
-use Rattle.histories.specs.Words.{Refusal, Reply, Status, ok_inj, secret_name, Found, asked_number, numbered}
-use Rattle.histories.specs.Words.{secret_object, plain_reply, reply_text, act, Command, command_of, on_secret, chained}
-use Rattle.histories.specs.Words.{Outcome, Wrapped, permission_denied, response_to, permits, not_found, request_of}
-use Rattle.histories.specs.Words.{step, traits, Place, object_left, version_answered, version_reply, Reason}
-use Rattle.histories.specs.Words.{SecretCommand, Asking, clocked, LacksVersion, ShowsEnded, ◌||◌, not, nat_lt, ⊤, Map}
-use Rattle.histories.specs.Words.{Broker, Mount, ◌>>=◌, unless, unless_ok, are_new, finish, needed, serve, wrapped}
-use Rattle.histories.specs.Words.{Request}
+use Rattle.histories.specs.Words.{ℕ, Bool, true, false, is_some, Option, Some, None, Ok, Result, Err, option_and_then}
+use Rattle.histories.specs.Words.{option_map, refl, sym, ◌∙◌, ap, subst, inl, inr, eqb-true, none-some, Text, entries}
+use Rattle.histories.specs.Words.{get, Response, refused, names_of, missing, reply, Done, mapped, mapped_none}
+use Rattle.histories.specs.Words.{not_there, some_or, no_ok, ok_step, Key, Version, spend, Refusal, Reply, Status}
+use Rattle.histories.specs.Words.{ok_inj, secret_name, Found, asked_number, numbered, secret_object, plain_reply}
+use Rattle.histories.specs.Words.{reply_text, act, Command, command_of, on_secret, chained, Outcome, Wrapped}
+use Rattle.histories.specs.Words.{permission_denied, response_to, permits, not_found, request_of, step, traits, Place}
+use Rattle.histories.specs.Words.{object_left, version_answered, version_reply, Reason, SecretCommand, Asking, clocked}
+use Rattle.histories.specs.Words.{LacksVersion, ShowsEnded, not, nat_lt, ⊤, Map, Broker, Mount, ◌>>=◌, unless}
+use Rattle.histories.specs.Words.{unless_ok, are_new, finish, needed, serve, wrapped, Request}
 use Rattle.histories.proofs.EventSecrets.{is_200}
 use Rattle.histories.proofs.Order.{some_ok, spent, wrapped_cases, means_at_clock, Served, IsCaller, spent_mounts}
 use Rattle.histories.proofs.InOrder.{in_order}

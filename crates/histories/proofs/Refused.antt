@@ -1,12 +1,13 @@
 -- What a refused request leaves, and what policies decide.
-use Rattle.histories.specs.Words.{◌≡◌, ◌≢◌, ◌≤◌, ◌||◌, if◌then◌else◌, ℕ, List, Bool, true, false, not, nat_lt, is_some}
-use Rattle.histories.specs.Words.{Ok, Option, Some, None, Result, Err, ⊤, option_map_or, refl, sym, ◌∙◌, ap, subst, inl}
-use Rattle.histories.specs.Words.{inr, arith, false≢true, none-some, Text, same, Map, get, valued_is, IsRefused, Broker}
-use Rattle.histories.specs.Words.{Mount, Waiting, at_moment, Names, names_of, Answered, nothing, reply, kept_text}
-use Rattle.histories.specs.Words.{missing, Done, ◌>>=◌, unless, ok_step, unless_ok, spend, drop_waiting, end_spent}
-use Rattle.histories.specs.Words.{one_less, status_code, Token, are_new, use_up, Ask, Refusal, Words, ok_inj, act}
-use Rattle.histories.specs.Words.{Command, on_wrapping, command_of, OperationsDoAsTold, Outcome, Wrapped, counted}
-use Rattle.histories.specs.Words.{denied, finish, for_caller, needed, permission_denied, response_to, serve, unwrapped}
+use Rattle.std.proofs.Common.{◌≡◌, ◌≢◌, ◌≤◌, ◌||◌, if◌then◌else◌}
+use Rattle.histories.specs.Words.{ℕ, List, Bool, true, false, not, nat_lt, is_some, Ok, Option, Some, None, Result}
+use Rattle.histories.specs.Words.{Err, ⊤, option_map_or, refl, sym, ◌∙◌, ap, subst, inl, inr, arith, false≢true}
+use Rattle.histories.specs.Words.{none-some, Text, same, Map, get, valued_is, IsRefused, Broker, Mount, Waiting}
+use Rattle.histories.specs.Words.{at_moment, Names, names_of, Answered, nothing, reply, kept_text, missing, Done}
+use Rattle.histories.specs.Words.{◌>>=◌, unless, ok_step, unless_ok, spend, drop_waiting, end_spent, one_less}
+use Rattle.histories.specs.Words.{status_code, Token, are_new, use_up, Ask, Refusal, Words, ok_inj, act, Command}
+use Rattle.histories.specs.Words.{on_wrapping, command_of, OperationsDoAsTold, Outcome, Wrapped, counted, denied}
+use Rattle.histories.specs.Words.{finish, for_caller, needed, permission_denied, response_to, serve, unwrapped}
 use Rattle.histories.specs.Words.{may_ask, permits, Request, operated, request_of, step, traits, Reason}
 use Rattle.histories.specs.Words.{WrappingCommand, Calls, ChangesNothingElse, HasNoCaller, HasResponse, IsDenial}
 use Rattle.histories.specs.Words.{PoliciesDecide, RefusedChangeNothing, WrapNeedsTtl, is_granted}

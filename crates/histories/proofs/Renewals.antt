@@ -1,15 +1,16 @@
 -- What a renewal that was answered with 200 renewed.
+use Rattle.std.proofs.Common.{◌≡◌, ◌≢◌, ◌+◌, ◌-◌, ◌==◌, if◌then◌else◌}
 use Rattle.leases.specs.Leases as leases
-use Rattle.histories.specs.Words.{with_end, ◌≡◌, ◌≢◌, ◌+◌, ◌-◌, ◌==◌, if◌then◌else◌, ℕ, min, is_some, Some, None, Ok}
-use Rattle.histories.specs.Words.{option_and_then, option_map, refl, sym, ◌∙◌, ap, subst, inl, inr, arith, ne_eqb}
-use Rattle.histories.specs.Words.{none-some, same_Some, Text, same, same_self, change, first_where, get, get-change}
-use Rattle.histories.specs.Words.{valued_is, Broker, names_of, Done, found_or_not, is_there, lease_of, unless, no_ok}
-use Rattle.histories.specs.Words.{ok_step, unless_ok, first_where_is, status_code, Lease, Token, Tokens, has_lease}
-use Rattle.histories.specs.Words.{token_entry, ok_inj, auth_object, lease_reply, reply_text, on_lease, on_token}
-use Rattle.histories.specs.Words.{chained, OperationsDoAsTold, step, act_on_tokens, known, new_end, renew_token, Reason}
-use Rattle.histories.specs.Words.{Refusal, LeaseCommand, TokenCommand, told_of, with_token, Asking, clocked, spent_by}
-use Rattle.histories.specs.Words.{IsRenewedLease, IsRenewedTo, RenewalOf, RenewsLease, RenewsToken, increment_of}
-use Rattle.histories.specs.Words.{TellsRenewed, TellsRenewedLease}
+use Rattle.histories.specs.Words.{with_end, ℕ, min, is_some, Some, None, Ok, option_and_then, option_map, refl, sym}
+use Rattle.histories.specs.Words.{◌∙◌, ap, subst, inl, inr, arith, ne_eqb, none-some, same_Some, Text, same, same_self}
+use Rattle.histories.specs.Words.{change, first_where, get, get-change, valued_is, Broker, names_of, Done}
+use Rattle.histories.specs.Words.{found_or_not, is_there, lease_of, unless, no_ok, ok_step, unless_ok, first_where_is}
+use Rattle.histories.specs.Words.{status_code, Lease, Token, Tokens, has_lease, token_entry, ok_inj, auth_object}
+use Rattle.histories.specs.Words.{lease_reply, reply_text, on_lease, on_token, chained, OperationsDoAsTold, step}
+use Rattle.histories.specs.Words.{act_on_tokens, known, new_end, renew_token, Reason, Refusal, LeaseCommand}
+use Rattle.histories.specs.Words.{TokenCommand, told_of, with_token, Asking, clocked, spent_by, IsRenewedLease}
+use Rattle.histories.specs.Words.{IsRenewedTo, RenewalOf, RenewsLease, RenewsToken, increment_of, TellsRenewed}
+use Rattle.histories.specs.Words.{TellsRenewedLease}
 use Rattle.histories.proofs.Clients.{from_clock}
 use Rattle.histories.proofs.Descent.{HasNewEnd, before_use, renewed_to}
 use Rattle.histories.proofs.Disabled.{token_left}

@@ -1,18 +1,18 @@
 -- What each request of a history keeps.
+use Rattle.std.proofs.Common.{◌≡◌, ◌⊎◌, ◌∷◌, ◌||◌}
 use Rattle.api_json.specs.Readers as reader
-use Rattle.histories.specs.Words.{◌≡◌, ◌⊎◌, ◌∷◌, ℕ, zero, suc, List, [], Bool, true, false, Option, Some, None, Result}
-use Rattle.histories.specs.Words.{Ok, Err, refl, sym, ◌∙◌, ap, subst, false≢true, none-some, same_Some, Text, Map}
-use Rattle.histories.specs.Words.{Response, Broker, Mount, Names, names_of, reply, Done, ◌>>=◌, ok_step, Sound, Ask}
-use Rattle.histories.specs.Words.{Refusal, Reply, Words, ok_inj, Route, route_of, Operation, WrappingOperation}
-use Rattle.histories.specs.Words.{body_members, plain_reply, reply_text, act, Command, on_cubbyhole, on_token}
-use Rattle.histories.specs.Words.{on_secret, on_policy, on_mount, on_lease, on_issued, on_wrapping, command_by}
-use Rattle.histories.specs.Words.{command_for, command_of, meant_by, forms, OperationsDoAsTold, Outcome, ordered}
-use Rattle.histories.specs.Words.{permits, are_proper, Request, ok, request_of, step, traits, unwrapped_ask, opens}
-use Rattle.histories.specs.Words.{token_meant, wrapping_command, act_on_wrappings, object, compact_text}
-use Rattle.histories.specs.Words.{WrappingCommand, AreAsked, Asking, AskedAt, History, IsAsked, clocked, answer_by}
-use Rattle.histories.specs.Words.{object_text, unwrapped_answer, unwrapped_body, ◌||◌, not, nat_lt, at_moment, unless}
-use Rattle.histories.specs.Words.{are_new, Verb, Traits, Wrapped, finish, needed, permission_denied, response_to, serve}
-use Rattle.histories.specs.Words.{unwrapped, wrapped, Reason}
+use Rattle.histories.specs.Words.{ℕ, zero, suc, List, [], Bool, true, false, Option, Some, None, Result, Ok, Err, refl}
+use Rattle.histories.specs.Words.{sym, ◌∙◌, ap, subst, false≢true, none-some, same_Some, Text, Map, Response, Broker}
+use Rattle.histories.specs.Words.{Mount, Names, names_of, reply, Done, ◌>>=◌, ok_step, Sound, Ask, Refusal, Reply}
+use Rattle.histories.specs.Words.{Words, ok_inj, Route, route_of, Operation, WrappingOperation, body_members}
+use Rattle.histories.specs.Words.{plain_reply, reply_text, act, Command, on_cubbyhole, on_token, on_secret, on_policy}
+use Rattle.histories.specs.Words.{on_mount, on_lease, on_issued, on_wrapping, command_by, command_for, command_of}
+use Rattle.histories.specs.Words.{meant_by, forms, OperationsDoAsTold, Outcome, ordered, permits, are_proper, Request}
+use Rattle.histories.specs.Words.{ok, request_of, step, traits, unwrapped_ask, opens, token_meant, wrapping_command}
+use Rattle.histories.specs.Words.{act_on_wrappings, object, compact_text, WrappingCommand, AreAsked, Asking, AskedAt}
+use Rattle.histories.specs.Words.{History, IsAsked, clocked, answer_by, object_text, unwrapped_answer, unwrapped_body}
+use Rattle.histories.specs.Words.{not, nat_lt, at_moment, unless, are_new, Verb, Traits, Wrapped, finish, needed}
+use Rattle.histories.specs.Words.{permission_denied, response_to, serve, unwrapped, wrapped, Reason}
 use Rattle.histories.proofs.Keeping.{EachKeeps, Keeps}
 use Rattle.histories.proofs.OrderCases.{IsServed, spent, with_caller}
 use Rattle.histories.proofs.OrderKeeps.{request_keeps, own_new}

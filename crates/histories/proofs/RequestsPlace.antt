@@ -1,17 +1,18 @@
 -- Each request gives out all that is new in the places of the broker that it leaves.
+use Rattle.std.proofs.Common.{◌≡◌, ◌⊎◌, ◌∷◌}
 use Rattle.broker_model.specs.Words.{with_token}
 use Rattle.broker_types.specs.Broker as broker
 use Rattle.broker_model.specs.Traits.{revoke}
-use Rattle.histories.specs.Words.{with_end, create, renew_token, ◌≡◌, ◌⊎◌, ◌∷◌, [], Bool, Option, Ok}
-use Rattle.histories.specs.Words.{Result, refl, sym, subst, inl, inr, Text, Broker, Names, names_of, Done, end_spent}
-use Rattle.histories.specs.Words.{token_text, Verb, Refusal, with_waiting, act, Traits, OperationsDoAsTold, later_in}
-use Rattle.histories.specs.Words.{Outcome, Wrapped, counted, kept_entry, ordered, wrapped, permits, Request, request_of}
-use Rattle.histories.specs.Words.{step, traits, Asking, clocked, ℕ, List, true, is_some, Some, option_and_then}
-use Rattle.histories.specs.Words.{option_map, list_any, ◌∙◌, ap, same, get, no_entry, put_is, Waiting, lease_identifier}
-use Rattle.histories.specs.Words.{token_identifier, unless, ok_step, drop_waiting, Token, Lease, Part, token_entry}
-use Rattle.histories.specs.Words.{ok_inj, TokenCreation, Command, both_there, Both, Does, IsFated, Stay, StaysAt}
-use Rattle.histories.specs.Words.{first_in, Fate, make, orphan, renew, stay, token_names, is_privileged, making_path}
-use Rattle.histories.specs.Words.{may_make, new_parent, new_policies, new_token, known, made, new_end, Reason, Making}
+use Rattle.histories.specs.Words.{with_end, create, renew_token, [], Bool, Option, Ok, Result, refl, sym, subst, inl}
+use Rattle.histories.specs.Words.{inr, Text, Broker, Names, names_of, Done, end_spent, token_text, Verb, Refusal}
+use Rattle.histories.specs.Words.{with_waiting, act, Traits, OperationsDoAsTold, later_in, Outcome, Wrapped, counted}
+use Rattle.histories.specs.Words.{kept_entry, ordered, wrapped, permits, Request, request_of, step, traits, Asking}
+use Rattle.histories.specs.Words.{clocked, ℕ, List, true, is_some, Some, option_and_then, option_map, list_any, ◌∙◌}
+use Rattle.histories.specs.Words.{ap, same, get, no_entry, put_is, Waiting, lease_identifier, token_identifier, unless}
+use Rattle.histories.specs.Words.{ok_step, drop_waiting, Token, Lease, Part, token_entry, ok_inj, TokenCreation}
+use Rattle.histories.specs.Words.{Command, both_there, Both, Does, IsFated, Stay, StaysAt, first_in, Fate, make}
+use Rattle.histories.specs.Words.{orphan, renew, stay, token_names, is_privileged, making_path, may_make, new_parent}
+use Rattle.histories.specs.Words.{new_policies, new_token, known, made, new_end, Reason, Making}
 use Rattle.histories.proofs.Order.{IsServed, IsTurnedAway, IsTurnedDown, order_cases, spent, IsWrapped, wrapped_cases}
 use Rattle.histories.proofs.Placed.{Placed, drop_placed, end_placed, placed_more, placed_self, placed_trans, same_maps}
 use Rattle.histories.proofs.Placed.{spent_placed, LeaseFrom, TokenFrom, WaitingFrom, from_maps, orphan_placed}

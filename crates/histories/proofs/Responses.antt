@@ -1,10 +1,11 @@
 -- What is done with a response that waits, whoever asks, is not refused.
-use Rattle.histories.specs.Words.{◌≡◌, ◌⊎◌, true, false, Option, Some, None, Ok, option_map, refl, ◌∙◌, ap, inl, inr, ⊤}
-use Rattle.histories.specs.Words.{Text, Map, get, Response, Broker, Waiting, Names, names_of, Done, plainly, reply}
-use Rattle.histories.specs.Words.{◌>>=◌, some_or, are_new, act, command_of, on_wrapping, finish, response_to, ok}
-use Rattle.histories.specs.Words.{is_open, operated, step, traits, is_wrap, FoundResponse, act_on_wrappings, found}
-use Rattle.histories.specs.Words.{found_under, handed_out, rewrapped, shown_response, Reason, Refusal, Status}
-use Rattle.histories.specs.Words.{WrappingCommand, AreNew, IsAllowed, Asking, clocked, spent_by, PoliciesDecide}
+use Rattle.std.proofs.Common.{◌≡◌, ◌⊎◌}
+use Rattle.histories.specs.Words.{true, false, Option, Some, None, Ok, option_map, refl, ◌∙◌, ap, inl, inr, ⊤, Text}
+use Rattle.histories.specs.Words.{Map, get, Response, Broker, Waiting, Names, names_of, Done, plainly, reply, ◌>>=◌}
+use Rattle.histories.specs.Words.{some_or, are_new, act, command_of, on_wrapping, finish, response_to, ok, is_open}
+use Rattle.histories.specs.Words.{operated, step, traits, is_wrap, FoundResponse, act_on_wrappings, found, found_under}
+use Rattle.histories.specs.Words.{handed_out, rewrapped, shown_response, Reason, Refusal, Status, WrappingCommand}
+use Rattle.histories.specs.Words.{AreNew, IsAllowed, Asking, clocked, spent_by, PoliciesDecide}
 use Rattle.histories.proofs.Carried.{answers, carried_for, carried_openly, never_wrapped}
 use Rattle.histories.proofs.Found.{both_new}
 

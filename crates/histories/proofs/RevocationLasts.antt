@@ -1,27 +1,27 @@
 -- What is revoked, and whatever else ended, does not come back.
+use Rattle.std.proofs.Common.{◌≡◌, ◌≢◌, ◌<◌, ◌≤◌, ◌⊎◌, ◌||◌, ◌&&◌, ◌∷◌, if◌then◌else◌}
 use Rattle.broker_model.specs.Words.{tree_of, at_moment_ends, alive_tree, left_outlasts, outlasting_is_left}
 use Rattle.broker_model.specs.Words.{values_tree, revoke_alone}
 use Rattle.broker_types.specs.Broker.{revoke, revoke_orphan}
 use Rattle.broker_types.specs.IdentifierPlaces as place
-use Rattle.histories.specs.Words.{◌≡◌, ◌≢◌, ◌<◌, ◌≤◌, ◌⊎◌, ◌||◌, ◌&&◌, ◌∷◌, if◌then◌else◌, not, nat_lt, ℕ, max, List}
-use Rattle.histories.specs.Words.{[], Bool, true, false, is_some, cond, Option, Some, None, Result, Ok, Err, option_map}
-use Rattle.histories.specs.Words.{option_and_then, refl, sym, ◌∙◌, ap, subst, inl, inr, arith, false≢true}
-use Rattle.histories.specs.Words.{false_from_ne_true, ltb-true, ltb-false, none-some, same_Some, Text, same, Map, get}
-use Rattle.histories.specs.Words.{get-change, get-without, valued_is, IsRefused, Response, refused, Broker, Waiting}
-use Rattle.histories.specs.Words.{Evolves, HasEnded, IsTree, Names, names_of, Answered, nothing, reply, kept_text}
-use Rattle.histories.specs.Words.{missing, Done, found_or_not, lease_of, token_identifier, ◌>>=◌, some_or, unless}
-use Rattle.histories.specs.Words.{at_moment_evolves, Sound, spend, drop_waiting, end_spent, one_less, status_code}
-use Rattle.histories.specs.Words.{Token, Lease, same_true, alive_is, under_tokens, are_new, use_up, Refusal, no_ok}
-use Rattle.histories.specs.Words.{ok_step, ok_inj, act, Command, on_token, on_wrapping, command_of, forms}
-use Rattle.histories.specs.Words.{OperationsDoAsTold, Outcome, Wrapped, denied, finish, for_caller, needed}
-use Rattle.histories.specs.Words.{permission_denied, response_to, serve, unwrapped, wrapped, permits, Request, ok}
-use Rattle.histories.specs.Words.{no_content, is_open, request_of, step, traits, wrapping_names, act_on_tokens, holder}
-use Rattle.histories.specs.Words.{revoke_token, FoundResponse, found, found_under, rewrapped, act_on_wrappings, Reason}
-use Rattle.histories.specs.Words.{Status, TokenCommand, WrappingCommand, AreAsked, Asking, AskedAt, History, clocked}
-use Rattle.histories.specs.Words.{spent_by, unwrapped_body, EndsToken, FindsNone, IsDue, IsGone, IsGranted, Revocation}
-use Rattle.histories.specs.Words.{Revokes, RevokesAlone, with_later_leases, is_orphaning, is_revocation, named_by}
-use Rattle.histories.specs.Words.{orphaning_by, orphaning_of, revoked_by, revoked_of, taken_as, option_map_or}
-use Rattle.histories.specs.Words.{lease_identifier, kept_get, chained, IsLeaseDue, LacksLease}
+use Rattle.histories.specs.Words.{not, nat_lt, ℕ, max, List, [], Bool, true, false, is_some, cond, Option, Some, None}
+use Rattle.histories.specs.Words.{Result, Ok, Err, option_map, option_and_then, refl, sym, ◌∙◌, ap, subst, inl, inr}
+use Rattle.histories.specs.Words.{arith, false≢true, false_from_ne_true, ltb-true, ltb-false, none-some, same_Some}
+use Rattle.histories.specs.Words.{Text, same, Map, get, get-change, get-without, valued_is, IsRefused, Response}
+use Rattle.histories.specs.Words.{refused, Broker, Waiting, Evolves, HasEnded, IsTree, Names, names_of, Answered}
+use Rattle.histories.specs.Words.{nothing, reply, kept_text, missing, Done, found_or_not, lease_of, token_identifier}
+use Rattle.histories.specs.Words.{◌>>=◌, some_or, unless, at_moment_evolves, Sound, spend, drop_waiting, end_spent}
+use Rattle.histories.specs.Words.{one_less, status_code, Token, Lease, same_true, alive_is, under_tokens, are_new}
+use Rattle.histories.specs.Words.{use_up, Refusal, no_ok, ok_step, ok_inj, act, Command, on_token, on_wrapping}
+use Rattle.histories.specs.Words.{command_of, forms, OperationsDoAsTold, Outcome, Wrapped, denied, finish, for_caller}
+use Rattle.histories.specs.Words.{needed, permission_denied, response_to, serve, unwrapped, wrapped, permits, Request}
+use Rattle.histories.specs.Words.{ok, no_content, is_open, request_of, step, traits, wrapping_names, act_on_tokens}
+use Rattle.histories.specs.Words.{holder, revoke_token, FoundResponse, found, found_under, rewrapped, act_on_wrappings}
+use Rattle.histories.specs.Words.{Reason, Status, TokenCommand, WrappingCommand, AreAsked, Asking, AskedAt, History}
+use Rattle.histories.specs.Words.{clocked, spent_by, unwrapped_body, EndsToken, FindsNone, IsDue, IsGone, IsGranted}
+use Rattle.histories.specs.Words.{Revocation, Revokes, RevokesAlone, with_later_leases, is_orphaning, is_revocation}
+use Rattle.histories.specs.Words.{named_by, orphaning_by, orphaning_of, revoked_by, revoked_of, taken_as}
+use Rattle.histories.specs.Words.{option_map_or, lease_identifier, kept_get, chained, IsLeaseDue, LacksLease}
 use Rattle.histories.proofs.Clients.{course}
 use Rattle.histories.proofs.Descent.{descends}
 use Rattle.histories.proofs.Ending.{IsLeaseGone, ended_lasts, gone_has_ended, lease_lasts, leases_are_gone}

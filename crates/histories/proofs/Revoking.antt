@@ -1,15 +1,16 @@
 -- Laws of what a revocation leaves.
+use Rattle.std.proofs.Common.{◌≡◌, ◌≢◌, ◌&&◌, ◌||◌, ◌⊎◌, ◌∷◌, if◌then◌else◌, ◌==◌}
 use Rattle.broker_model.specs.Words.{IsDistinct, ChainsEnd, lineage, without_descendants, without_parent, climb_enough}
 use Rattle.broker_model.specs.Words.{climb_distinct, is_under_trans, revoke_other, lineage_child, lineage_orphan}
-use Rattle.broker_model.specs.Words.{orphan_child, orphan_gone, orphan_none, orphan_tree, orphan_unrelated, orphaned_is}
-use Rattle.broker_model.specs.Words.{revoke_tree}
-use Rattle.histories.specs.Words.{◌≡◌, ◌≢◌, ◌&&◌, ◌||◌, ◌⊎◌, ◌∷◌, if◌then◌else◌, ◌==◌, ℕ, zero, suc, Bool, true, false}
-use Rattle.histories.specs.Words.{not, cond, Option, Some, None, is_none, option_and_then, List, [], AllByRecursion}
-use Rattle.histories.specs.Words.{list_any, option_map_or, refl, sym, ◌∙◌, ap, subst, inl, inr, and_parts, false≢true}
-use Rattle.histories.specs.Words.{false_from_ne_true, none-some, same_Some, Text, same, get, len, Token, Tokens, climb}
-use Rattle.histories.specs.Words.{ends_within, is_under, climb_above, climb_at, ends_above, ends_at, get-revoke, IsTree}
-use Rattle.histories.specs.Words.{Broker, revoke, found_or_not, end_spent, is_spent, same_self, same_true, under_self}
-use Rattle.histories.specs.Words.{under_tokens, revoke_under, EndsWithCaller, has_no_use, left_by_caller}
+use Rattle.broker_model.specs.Words.{orphan_child, orphan_gone, orphan_none, orphan_tree, orphan_unrelated}
+use Rattle.broker_model.specs.Words.{orphaned_is, revoke_tree}
+use Rattle.histories.specs.Words.{ℕ, zero, suc, Bool, true, false, not, cond, Option, Some, None, is_none}
+use Rattle.histories.specs.Words.{option_and_then, List, [], AllByRecursion, list_any, option_map_or, refl, sym, ◌∙◌}
+use Rattle.histories.specs.Words.{ap, subst, inl, inr, and_parts, false≢true, false_from_ne_true, none-some, same_Some}
+use Rattle.histories.specs.Words.{Text, same, get, len, Token, Tokens, climb, ends_within, is_under, climb_above}
+use Rattle.histories.specs.Words.{climb_at, ends_above, ends_at, get-revoke, IsTree, Broker, revoke, found_or_not}
+use Rattle.histories.specs.Words.{end_spent, is_spent, same_self, same_true, under_self, under_tokens, revoke_under}
+use Rattle.histories.specs.Words.{EndsWithCaller, has_no_use, left_by_caller}
 
 -- ---- lineages of what is left
 

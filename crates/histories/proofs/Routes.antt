@@ -1,32 +1,33 @@
 -- What POST and PUT of fixed paths mean, which path an ask has that means a creation, and what a request means and
 -- leaves that may need no caller.
+use Rattle.std.proofs.Common.{◌≡◌, ◌||◌, ◌&&◌, ◌++◌, ◌∷◌, if◌then◌else◌}
 use Rattle.broker_model.specs.Words.{found_alone, is_or_apart, has_pattern, bytes_of_rest, pattern_found, same_verb}
 use Rattle.broker_model.specs.Words.{place_of, token_command, Opens, OwnIsMeant, KeepsMaps, is_own, is_own_if_read}
 use Rattle.broker_model.specs.Words.{opened_by, opening, token_named}
 use Rattle.mounts.specs.declared.operation.Operation.TheVariants.{Tokens}
 use Rattle.api_json.specs.Readers as reader
 use Rattle.mounts.specs.Words.{nothing}
-use Rattle.histories.specs.Words.{◌≡◌, ◌||◌, ◌&&◌, ◌++◌, ◌∷◌, ℕ, List, [], Bool, true, false, not, Option, Some, None}
-use Rattle.histories.specs.Words.{Ok, option_map, Result, codes, list_all, option_map_or, refl, sym, ◌∙◌, ap, and_parts}
-use Rattle.histories.specs.Words.{none-some, Map, get, Mount, ◌>>=◌, some_or, Text, same, same_true, Verb, Refusal}
-use Rattle.histories.specs.Words.{or_else, form_of, has_form, are_bytes, parameter, row_of, AreInOrder, FoundByForm}
-use Rattle.histories.specs.Words.{NoneFoundByForm, Route, cut, methods_of, operation_at, operation_for, route_at}
-use Rattle.histories.specs.Words.{route_by, route_of, within, RouteRow, facts, route_rows, fixed_type, type_at, type_of}
-use Rattle.histories.specs.Words.{MountType, Never, Always, WithItsOwn, Operation, Cubbyholes, Leases, Wrappings}
-use Rattle.histories.specs.Words.{Command, command_for, on_token, CubbyholeOperation, LeaseOperation, TokenOperation}
-use Rattle.histories.specs.Words.{WrappingOperation, CubbyholeCommand, LeaseCommand, TokenCommand, WrappingCommand}
-use Rattle.histories.specs.Words.{OfCaller, WithoutParent, AskedMeans, PathsMeanCommands, WrittenMeans, on_found}
-use Rattle.histories.specs.Words.{on_found_lease, on_named, on_none, on_object, on_path, if◌then◌else◌, length, drop}
-use Rattle.histories.specs.Words.{nat_eq, unwrap_or, starts_with, eqb-true, false≢true, same_Some, Engine, kv, issued}
-use Rattle.histories.specs.Words.{ok_step, Ask, slash, split_once, lacking_split, ok_inj, is_ending, engine_type}
-use Rattle.histories.specs.Words.{Secrets, Policies, Mounts, body_members, TokenCreation, on_cubbyhole, on_secret}
-use Rattle.histories.specs.Words.{on_policy, on_mount, on_lease, on_issued, on_wrapping, command_by, meant_by, read_as}
-use Rattle.histories.specs.Words.{Members, Issued, Making, CreatesAtPath, path_of, nat_lt, Err, ⊤, subst, inl, inr}
-use Rattle.histories.specs.Words.{same_self, Broker, Waiting, at_moment, Names, names_of, Done, unless, no_ok, are_new}
-use Rattle.histories.specs.Words.{use_up, Words, act, command_of, OperationsDoAsTold, Outcome, Wrapped, counted, finish}
-use Rattle.histories.specs.Words.{needed, permission_denied, serve, wrap, wrapped, permits, Request, is_open}
-use Rattle.histories.specs.Words.{request_of, step, traits, token_meant, wrapping_changes, Reason, DiffersInWaiting}
-use Rattle.histories.specs.Words.{MeansItsOwn, OpenChangesNoToken, TheseAreOpen}
+use Rattle.histories.specs.Words.{ℕ, List, [], Bool, true, false, not, Option, Some, None, Ok, option_map, Result}
+use Rattle.histories.specs.Words.{codes, list_all, option_map_or, refl, sym, ◌∙◌, ap, and_parts, none-some, Map, get}
+use Rattle.histories.specs.Words.{Mount, ◌>>=◌, some_or, Text, same, same_true, Verb, Refusal, or_else, form_of}
+use Rattle.histories.specs.Words.{has_form, are_bytes, parameter, row_of, AreInOrder, FoundByForm, NoneFoundByForm}
+use Rattle.histories.specs.Words.{Route, cut, methods_of, operation_at, operation_for, route_at, route_by, route_of}
+use Rattle.histories.specs.Words.{within, RouteRow, facts, route_rows, fixed_type, type_at, type_of, MountType, Never}
+use Rattle.histories.specs.Words.{Always, WithItsOwn, Operation, Cubbyholes, Leases, Wrappings, Command, command_for}
+use Rattle.histories.specs.Words.{on_token, CubbyholeOperation, LeaseOperation, TokenOperation, WrappingOperation}
+use Rattle.histories.specs.Words.{CubbyholeCommand, LeaseCommand, TokenCommand, WrappingCommand, OfCaller}
+use Rattle.histories.specs.Words.{WithoutParent, AskedMeans, PathsMeanCommands, WrittenMeans, on_found, on_found_lease}
+use Rattle.histories.specs.Words.{on_named, on_none, on_object, on_path, length, drop, nat_eq, unwrap_or, starts_with}
+use Rattle.histories.specs.Words.{eqb-true, false≢true, same_Some, Engine, kv, issued, ok_step, Ask, slash, split_once}
+use Rattle.histories.specs.Words.{lacking_split, ok_inj, is_ending, engine_type, Secrets, Policies, Mounts}
+use Rattle.histories.specs.Words.{body_members, TokenCreation, on_cubbyhole, on_secret, on_policy, on_mount, on_lease}
+use Rattle.histories.specs.Words.{on_issued, on_wrapping, command_by, meant_by, read_as, Members, Issued, Making}
+use Rattle.histories.specs.Words.{CreatesAtPath, path_of, nat_lt, Err, ⊤, subst, inl, inr, same_self, Broker, Waiting}
+use Rattle.histories.specs.Words.{at_moment, Names, names_of, Done, unless, no_ok, are_new, use_up, Words, act}
+use Rattle.histories.specs.Words.{command_of, OperationsDoAsTold, Outcome, Wrapped, counted, finish, needed}
+use Rattle.histories.specs.Words.{permission_denied, serve, wrap, wrapped, permits, Request, is_open, request_of, step}
+use Rattle.histories.specs.Words.{traits, token_meant, wrapping_changes, Reason, DiffersInWaiting, MeansItsOwn}
+use Rattle.histories.specs.Words.{OpenChangesNoToken, TheseAreOpen}
 use Rattle.histories.proofs.OrderCases.{some_ok}
 use Rattle.histories.proofs.Order.{with_caller, wrapped_cases, is_wrap_of}
 

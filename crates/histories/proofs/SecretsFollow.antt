@@ -1,23 +1,24 @@
 -- What becomes of each secret by a request: versions follow the writes, deletions and destructions that were asked for.
+use Rattle.std.proofs.Common.{◌≡◌, ◌≢◌, ◌⊎◌, ◌<◌, ◌≤◌, ◌+◌, ◌-◌, ◌==◌, ◌||◌, ◌∷◌, if◌then◌else◌}
 use Rattle.broker_model.specs.Words.{le-ltb, not-false, write_is, next_versions, Settings, new_version, version_of}
 use Rattle.broker_model.specs.Words.{with_changed}
 use Rattle.kv2.specs.Secrets as secrets
-use Rattle.histories.specs.Words.{get-empty, ◌≡◌, ◌≢◌, ◌⊎◌, ◌<◌, ◌≤◌, ◌+◌, ◌-◌, ◌==◌, ◌||◌, ◌∷◌, if◌then◌else◌, ℕ, zero}
-use Rattle.histories.specs.Words.{suc, List, [], Bool, true, false, not, cond, Contains, is_none, is_some, nat_eq}
-use Rattle.histories.specs.Words.{Option, Some, None, Ok, option_map, ⊤, starts_with, refl, sym, ◌∙◌, ap, subst, inl}
-use Rattle.histories.specs.Words.{inr, arith, eq-eqb, eqb-true, false≢true, lt-ltb, ne_eqb, or_parts, none-some, Text}
-use Rattle.histories.specs.Words.{same, same_true, passing, Map, get, keep, change, put, without, get-change, get-keep}
-use Rattle.histories.specs.Words.{get-put, get-without, Broker, Mount, Names, names_of, nothing, reply, Done, some_or}
-use Rattle.histories.specs.Words.{unless, no_ok, ok_step, Key, Version, spend, Reply, ok_inj, Written, secret_name}
-use Rattle.histories.specs.Words.{get-change_versions, nat_cmp, checked, check_and_set, described, destroyed, is_among}
-use Rattle.histories.specs.Words.{key_or_new, restored, soft_deleted, versions_kept, with_version, disabled}
-use Rattle.histories.specs.Words.{KeySettings, SecretWrite, act, Command, command_of, on_cubbyhole, on_issued, on_lease}
-use Rattle.histories.specs.Words.{on_mount, on_policy, on_secret, on_token, on_wrapping, SameUnless, OperationsDoAsTold}
-use Rattle.histories.specs.Words.{step, traits, may_change, are_none, act_on_mounts, without_kept, Place}
-use Rattle.histories.specs.Words.{act_on_secrets, given_settings, Refusal, Reason, Kind, CubbyholeCommand}
-use Rattle.histories.specs.Words.{IssuedCommand, LeaseCommand, MountCommand, PolicyCommand, SecretCommand, Asking}
-use Rattle.histories.specs.Words.{clocked, AreKept, Commands, Comes, Deletes, SecretGoes, IsWritten, SecretStands}
-use Rattle.histories.specs.Words.{StandsUnwritten, VersionStands, Writes, TokenCommand, WrappingCommand}
+use Rattle.histories.specs.Words.{get-empty, ℕ, zero, suc, List, [], Bool, true, false, not, cond, Contains, is_none}
+use Rattle.histories.specs.Words.{is_some, nat_eq, Option, Some, None, Ok, option_map, ⊤, starts_with, refl, sym, ◌∙◌}
+use Rattle.histories.specs.Words.{ap, subst, inl, inr, arith, eq-eqb, eqb-true, false≢true, lt-ltb, ne_eqb, or_parts}
+use Rattle.histories.specs.Words.{none-some, Text, same, same_true, passing, Map, get, keep, change, put, without}
+use Rattle.histories.specs.Words.{get-change, get-keep, get-put, get-without, Broker, Mount, Names, names_of, nothing}
+use Rattle.histories.specs.Words.{reply, Done, some_or, unless, no_ok, ok_step, Key, Version, spend, Reply, ok_inj}
+use Rattle.histories.specs.Words.{Written, secret_name, get-change_versions, nat_cmp, checked, check_and_set}
+use Rattle.histories.specs.Words.{described, destroyed, is_among, key_or_new, restored, soft_deleted, versions_kept}
+use Rattle.histories.specs.Words.{with_version, disabled, KeySettings, SecretWrite, act, Command, command_of}
+use Rattle.histories.specs.Words.{on_cubbyhole, on_issued, on_lease, on_mount, on_policy, on_secret, on_token}
+use Rattle.histories.specs.Words.{on_wrapping, SameUnless, OperationsDoAsTold, step, traits, may_change, are_none}
+use Rattle.histories.specs.Words.{act_on_mounts, without_kept, Place, act_on_secrets, given_settings, Refusal, Reason}
+use Rattle.histories.specs.Words.{Kind, CubbyholeCommand, IssuedCommand, LeaseCommand, MountCommand, PolicyCommand}
+use Rattle.histories.specs.Words.{SecretCommand, Asking, clocked, AreKept, Commands, Comes, Deletes, SecretGoes}
+use Rattle.histories.specs.Words.{IsWritten, SecretStands, StandsUnwritten, VersionStands, Writes, TokenCommand}
+use Rattle.histories.specs.Words.{WrappingCommand}
 use Rattle.histories.proofs.EventSecrets.{is_200, is_204, same_or_served, served_left, spent_same}
 use Rattle.histories.proofs.Order.{spent, means_at_clock, Served}
 

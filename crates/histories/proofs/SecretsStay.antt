@@ -1,14 +1,15 @@
 -- What becomes of the versions of each secret by a request.
+use Rattle.std.proofs.Common.{◌≡◌, ◌==◌, ◌||◌, if◌then◌else◌}
 use Rattle.broker_model.specs.Words.{with_changed, secrets_same, AllGiven, SecretsStay}
 use Rattle.kv2.specs.Secrets as secrets
-use Rattle.histories.specs.Words.{◌≡◌, ◌==◌, ◌||◌, if◌then◌else◌, not, nat_lt, ℕ, List, true, Option, Some, None}
-use Rattle.histories.specs.Words.{Result, Ok, Err, refl, sym, ◌∙◌, ap, subst, arith, eq-eqb, any_contained, Text, same}
-use Rattle.histories.specs.Words.{same_self, Map, get, valued_is, Broker, Names, names_of, Done, nothing, plainly}
-use Rattle.histories.specs.Words.{mapped, unless, no_ok, ok_step, Key, Version, Sound, end_spent, status_code, are_new}
-use Rattle.histories.specs.Words.{Refusal, ok_inj, secret_name, get-change_versions, destroyed, is_among, act, Command}
-use Rattle.histories.specs.Words.{on_secret, command_of, forms, OperationsDoAsTold, Outcome, Wrapped, counted, finish}
-use Rattle.histories.specs.Words.{needed, permission_denied, serve, wrapped, permits, Request, request_of, step, traits}
-use Rattle.histories.specs.Words.{Place, Reason, Status, SecretCommand, Asking, clocked, AllSecretsStay}
+use Rattle.histories.specs.Words.{not, nat_lt, ℕ, List, true, Option, Some, None, Result, Ok, Err, refl, sym, ◌∙◌, ap}
+use Rattle.histories.specs.Words.{subst, arith, eq-eqb, any_contained, Text, same, same_self, Map, get, valued_is}
+use Rattle.histories.specs.Words.{Broker, Names, names_of, Done, nothing, plainly, mapped, unless, no_ok, ok_step, Key}
+use Rattle.histories.specs.Words.{Version, Sound, end_spent, status_code, are_new, Refusal, ok_inj, secret_name}
+use Rattle.histories.specs.Words.{get-change_versions, destroyed, is_among, act, Command, on_secret, command_of, forms}
+use Rattle.histories.specs.Words.{OperationsDoAsTold, Outcome, Wrapped, counted, finish, needed, permission_denied}
+use Rattle.histories.specs.Words.{serve, wrapped, permits, Request, request_of, step, traits, Place, Reason, Status}
+use Rattle.histories.specs.Words.{SecretCommand, Asking, clocked, AllSecretsStay}
 use Rattle.histories.proofs.EventSecrets.{end_same, spent_same, wrapped_same}
 use Rattle.histories.proofs.InOrder.{in_order}
 use Rattle.histories.proofs.Order.{spent, asked_at, means_at_clock, served}

@@ -1,7 +1,8 @@
 -- A request whose answer is no refusal was served.
-use Rattle.histories.specs.Words.{◌≡◌, ◌<◌, ◌≤◌, ◌⊎◌, ℕ, Option, sym, ◌∙◌, ap, subst, inl, inr, arith, IsRefused}
-use Rattle.histories.specs.Words.{refused, names_of, Answered, nothing, reply, status_code, Text, Refusal, Reply, act}
-use Rattle.histories.specs.Words.{Outcome, permission_denied, permits, request_of, step, traits, Asking, clocked}
+use Rattle.std.proofs.Common.{◌≡◌, ◌<◌, ◌≤◌, ◌⊎◌}
+use Rattle.histories.specs.Words.{ℕ, Option, sym, ◌∙◌, ap, subst, inl, inr, arith, IsRefused, refused, names_of}
+use Rattle.histories.specs.Words.{Answered, nothing, reply, status_code, Text, Refusal, Reply, act, Outcome}
+use Rattle.histories.specs.Words.{permission_denied, permits, request_of, step, traits, Asking, clocked}
 use Rattle.histories.proofs.OrderCases.{IsServed, IsTurnedAway, IsTurnedDown, order_cases}
 
 -- the code of its answer

@@ -1,27 +1,28 @@
 -- What becomes of roles, policies and mounts by a request.
+use Rattle.std.proofs.Common.{◌≡◌, ◌≢◌, ◌⊎◌, ◌==◌, ◌&&◌, ◌||◌, if◌then◌else◌}
 use Rattle.broker_model.specs.Words.{same_map, new_mount, RoleSettings, MountSettings}
 use Rattle.leases.specs.Roles as roles
 use Rattle.policies.specs.Policies as policies
-use Rattle.histories.specs.Words.{◌≡◌, ◌≢◌, ◌⊎◌, ◌==◌, ◌&&◌, ◌||◌, if◌then◌else◌, ℕ, [], Bool, true, false, not, cond}
-use Rattle.histories.specs.Words.{Some, is_some, nat_eq, Option, None, Ok, option_map, unwrap_or, codes, list_any}
-use Rattle.histories.specs.Words.{starts_with, option_map_or, refl, sym, ◌∙◌, ap, subst, inl, inr, arith, and_parts}
-use Rattle.histories.specs.Words.{eqb-true, false≢true, not-true, or_parts, none-some, same_Some, Text, same, same_self}
-use Rattle.histories.specs.Words.{same_true, Map, change, get, put, without, get-change, get-keep, get-put}
-use Rattle.histories.specs.Words.{get-put_self, get-without, get-without_self, Broker, Engine, Mount, Role, Waiting}
-use Rattle.histories.specs.Words.{issued, kv, is_name, reserved_names, nothing, Done, some_or, unless, no_ok, ok_step}
-use Rattle.histories.specs.Words.{unless_ok, status_code, Tokens, not_there, ok_inj, role_name, disabled, enabled}
-use Rattle.histories.specs.Words.{engine_asked, may_go, plain_mount, MountCreation, Command, command_of, on_cubbyhole}
-use Rattle.histories.specs.Words.{on_issued, on_lease, on_mount, on_policy, on_secret, on_token, on_wrapping}
-use Rattle.histories.specs.Words.{SameUnless, OperationsDoAsTold, Outcome, request_of, step, traits, may_change}
-use Rattle.histories.specs.Words.{without_kept, Place, Reason, Refusal, Status, Kind, with_settings, CubbyholeCommand}
-use Rattle.histories.specs.Words.{IssuedCommand, MountCommand, PolicyCommand, Asking, clocked, spent_by}
-use Rattle.histories.specs.Words.{AllSettingsFollow, Enables, IsEnabled, MeansEngine, MountBecomes, MountIsSet, OnMount}
-use Rattle.histories.specs.Words.{OnPolicy, OnRole, PolicyBecomes, RoleBecomes, Sets, SetsMount, role_given}
-use Rattle.histories.specs.Words.{LeaseCommand, SecretCommand, TokenCommand, WrappingCommand}
+use Rattle.histories.specs.Words.{ℕ, [], Bool, true, false, not, cond, Some, is_some, nat_eq, Option, None, Ok}
+use Rattle.histories.specs.Words.{option_map, unwrap_or, codes, list_any, starts_with, option_map_or, refl, sym, ◌∙◌}
+use Rattle.histories.specs.Words.{ap, subst, inl, inr, arith, and_parts, eqb-true, false≢true, not-true, or_parts}
+use Rattle.histories.specs.Words.{none-some, same_Some, Text, same, same_self, same_true, Map, change, get, put}
+use Rattle.histories.specs.Words.{without, get-change, get-keep, get-put, get-put_self, get-without, get-without_self}
+use Rattle.histories.specs.Words.{Broker, Engine, Mount, Role, Waiting, issued, kv, is_name, reserved_names, nothing}
+use Rattle.histories.specs.Words.{Done, some_or, unless, no_ok, ok_step, unless_ok, status_code, Tokens, not_there}
+use Rattle.histories.specs.Words.{ok_inj, role_name, disabled, enabled, engine_asked, may_go, plain_mount}
+use Rattle.histories.specs.Words.{MountCreation, Command, command_of, on_cubbyhole, on_issued, on_lease, on_mount}
+use Rattle.histories.specs.Words.{on_policy, on_secret, on_token, on_wrapping, SameUnless, OperationsDoAsTold, Outcome}
+use Rattle.histories.specs.Words.{request_of, step, traits, may_change, without_kept, Place, Reason, Refusal, Status}
+use Rattle.histories.specs.Words.{Kind, with_settings, CubbyholeCommand, IssuedCommand, MountCommand, PolicyCommand}
+use Rattle.histories.specs.Words.{Asking, clocked, spent_by, AllSettingsFollow, Enables, IsEnabled, MeansEngine}
+use Rattle.histories.specs.Words.{MountBecomes, MountIsSet, OnMount, OnPolicy, OnRole, PolicyBecomes, RoleBecomes}
+use Rattle.histories.specs.Words.{Sets, SetsMount, role_given, LeaseCommand, SecretCommand, TokenCommand}
+use Rattle.histories.specs.Words.{WrappingCommand}
 use Rattle.histories.proofs.Disabled.{left}
 use Rattle.histories.proofs.EventSecrets.{is_204}
-use Rattle.histories.proofs.Order.{IsTurnedAway, IsTurnedDown, some_ok, spent, end_spent_same, asked_at, means_at_clock}
-use Rattle.histories.proofs.Order.{Served, cases, served}
+use Rattle.histories.proofs.Order.{IsTurnedAway, IsTurnedDown, some_ok, spent, end_spent_same, asked_at}
+use Rattle.histories.proofs.Order.{means_at_clock, Served, cases, served}
 use Rattle.histories.proofs.ServedFor.{NeedsCaller, ServedFor, served_for}
 
 -- ---- a map that no token, response or identifier is in

@@ -1,4 +1,5 @@
 -- What look-ups answer.
+use Rattle.std.proofs.Common.{◌≡◌, ◌≢◌, ◌⊎◌, ◌<◌, ◌≤◌, ◌∷◌, if◌then◌else◌}
 use Rattle.broker_model.specs.Words.{put_filled, credential_is, lease_of_credential, oldest_of, version_metadata}
 use Rattle.broker_model.specs.Words.{NamedTokensHaveTheirAccessors, key_object, mounts_object, secret_told}
 use Rattle.broker_model.specs.Words.{version_told, look_up, named}
@@ -6,23 +7,22 @@ use Rattle.leases.specs.Leases as leases
 use Rattle.leases.specs.Roles as roles
 use Rattle.kv2.specs.Secrets as secrets
 use Rattle.policies.specs.Policies as policies
-use Rattle.histories.specs.Words.{entries, by_accessor, find_accessor, ◌≡◌, ◌≢◌, ◌⊎◌, ◌<◌, ◌≤◌, ◌∷◌, if◌then◌else◌, ℕ}
-use Rattle.histories.specs.Words.{nat_lt, List, [], map, Bool, true, false, not, is_none, is_some, Some, None, Result}
-use Rattle.histories.specs.Words.{Ok, option_and_then, option_map, codes, refl, sym, ◌∙◌, ap, subst, inl, inr, arith}
-use Rattle.histories.specs.Words.{false≢true, ltb-false, ltb-true, none-some, same_Some, Text, same, same_self}
-use Rattle.histories.specs.Words.{same_true, first_where, get, put, get-change, Response, Broker, Names, names_of}
-use Rattle.histories.specs.Words.{reply, Done, found_or_not, mapped, OnePlaceEach, lease_of, put_keeps, put_there}
-use Rattle.histories.specs.Words.{some_or, unless, no_ok, ok_step, first_where_is, first_where_none, Version, one_less}
-use Rattle.histories.specs.Words.{status_code, Lease, Token, Refusal, Reply, has_lease, ok_inj, metadata_of}
-use Rattle.histories.specs.Words.{AccessorsNameTheirTokens, keys_object, plain_reply, reply_text, Command, command_of}
-use Rattle.histories.specs.Words.{on_issued, on_lease, on_mount, on_policy, on_secret, on_token, on_wrapping, chained}
-use Rattle.histories.specs.Words.{OperationsDoAsTold, Outcome, step, unwrapped_ask, are_none, Place, known}
-use Rattle.histories.specs.Words.{IssuedCommand, LeaseCommand, MountCommand, PolicyCommand, SecretCommand, TokenCommand}
-use Rattle.histories.specs.Words.{WrappingCommand, Asking, clocked, spent_by, AllAnswersShow, IsAccessorOf}
-use Rattle.histories.specs.Words.{IsPolicyName, IsValid, Lists, ListsMounts, SaysValid, ShowsHolder, ShowsLease}
-use Rattle.histories.specs.Words.{ShowsPolicy, ShowsRole, ShowsSecret, ShowsSettings, ShowsToken, Succeeds}
-use Rattle.histories.specs.Words.{version_shown, answer_by, unwrapped_answer, unwrapped_body, IsClient}
-use Rattle.histories.specs.Words.{named as named_secret}
+use Rattle.histories.specs.Words.{entries, by_accessor, find_accessor, ℕ, nat_lt, List, [], map, Bool, true, false}
+use Rattle.histories.specs.Words.{not, is_none, is_some, Some, None, Result, Ok, option_and_then, option_map, codes}
+use Rattle.histories.specs.Words.{refl, sym, ◌∙◌, ap, subst, inl, inr, arith, false≢true, ltb-false, ltb-true}
+use Rattle.histories.specs.Words.{none-some, same_Some, Text, same, same_self, same_true, first_where, get, put}
+use Rattle.histories.specs.Words.{get-change, Response, Broker, Names, names_of, reply, Done, found_or_not, mapped}
+use Rattle.histories.specs.Words.{OnePlaceEach, lease_of, put_keeps, put_there, some_or, unless, no_ok, ok_step}
+use Rattle.histories.specs.Words.{first_where_is, first_where_none, Version, one_less, status_code, Lease, Token}
+use Rattle.histories.specs.Words.{Refusal, Reply, has_lease, ok_inj, metadata_of, AccessorsNameTheirTokens}
+use Rattle.histories.specs.Words.{keys_object, plain_reply, reply_text, Command, command_of, on_issued, on_lease}
+use Rattle.histories.specs.Words.{on_mount, on_policy, on_secret, on_token, on_wrapping, chained, OperationsDoAsTold}
+use Rattle.histories.specs.Words.{Outcome, step, unwrapped_ask, are_none, Place, known, IssuedCommand, LeaseCommand}
+use Rattle.histories.specs.Words.{MountCommand, PolicyCommand, SecretCommand, TokenCommand, WrappingCommand, Asking}
+use Rattle.histories.specs.Words.{clocked, spent_by, AllAnswersShow, IsAccessorOf, IsPolicyName, IsValid, Lists}
+use Rattle.histories.specs.Words.{ListsMounts, SaysValid, ShowsHolder, ShowsLease, ShowsPolicy, ShowsRole, ShowsSecret}
+use Rattle.histories.specs.Words.{ShowsSettings, ShowsToken, Succeeds, version_shown, answer_by, unwrapped_answer}
+use Rattle.histories.specs.Words.{unwrapped_body, IsClient, named as named_secret}
 use Rattle.histories.proofs.Clients.{from_clock}
 use Rattle.histories.proofs.MountsListed.{cubbyhole_shown, in_order, objects, only_shown, own_shown, system_shown}
 use Rattle.histories.proofs.Order.{some_ok, asked_at, tells_body, served}

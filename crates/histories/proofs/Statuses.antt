@@ -1,24 +1,25 @@
 -- How a request is answered that is not refused, command by command.
+use Rattle.std.proofs.Common.{◌≡◌, ◌⊎◌, if◌then◌else◌}
 use Rattle.broker_model.specs.Words.{act_on_policies, act_on_cubbyhole, named}
 use Rattle.cubbyhole.specs.Cubbyhole as cubbyholes
 use Rattle.leases.specs.Leases as leases
 use Rattle.leases.specs.Roles as roles
 use Rattle.kv2.specs.Secrets as secrets
 use Rattle.policies.specs.Policies as policies
-use Rattle.histories.specs.Words.{disabled, enabled, ◌≡◌, ◌⊎◌, if◌then◌else◌, ℕ, Bool, true, false, not, is_some}
-use Rattle.histories.specs.Words.{Option, Some, None, Result, Ok, codes, refl, sym, ◌∙◌, ap, subst, inl, inr}
-use Rattle.histories.specs.Words.{false≢true, Text, same, IsRefused, Broker, Names, names_of, kept_text, missing}
-use Rattle.histories.specs.Words.{nothing, reply, Answered, Done, some_or, unless, no_ok, ok_step, Refusal, Reply}
-use Rattle.histories.specs.Words.{ok_inj, Found, act, Command, command_of, on_cubbyhole, on_issued, on_lease, on_mount}
-use Rattle.histories.specs.Words.{on_policy, on_secret, on_token, on_wrapping, Outcome, Wrapped, response_to, permits}
-use Rattle.histories.specs.Words.{no_content, request_of, step, traits, act_on_issued, act_on_leases, are_none}
-use Rattle.histories.specs.Words.{act_on_mounts, Place, object_left, version_reply, act_on_secrets, is_privileged}
-use Rattle.histories.specs.Words.{making_path, may_make, new_policies, act_on_tokens, holder, known, revoke_token}
-use Rattle.histories.specs.Words.{act_on_wrappings, found, Reason, Status, CubbyholeCommand, IssuedCommand}
-use Rattle.histories.specs.Words.{LeaseCommand, MountCommand, PolicyCommand, SecretCommand, TokenCommand}
-use Rattle.histories.specs.Words.{WrappingCommand, Asking, clocked, AllStatusesFollow, IsNeverDone, ReadsEnded}
-use Rattle.histories.specs.Words.{cubbyhole_is_silent, is_silent, issued_is_silent, lease_is_silent, mount_is_silent}
-use Rattle.histories.specs.Words.{policy_is_silent, secret_is_silent, token_is_silent}
+use Rattle.histories.specs.Words.{disabled, enabled, ℕ, Bool, true, false, not, is_some, Option, Some, None, Result}
+use Rattle.histories.specs.Words.{Ok, codes, refl, sym, ◌∙◌, ap, subst, inl, inr, false≢true, Text, same, IsRefused}
+use Rattle.histories.specs.Words.{Broker, Names, names_of, kept_text, missing, nothing, reply, Answered, Done, some_or}
+use Rattle.histories.specs.Words.{unless, no_ok, ok_step, Refusal, Reply, ok_inj, Found, act, Command, command_of}
+use Rattle.histories.specs.Words.{on_cubbyhole, on_issued, on_lease, on_mount, on_policy, on_secret, on_token}
+use Rattle.histories.specs.Words.{on_wrapping, Outcome, Wrapped, response_to, permits, no_content, request_of, step}
+use Rattle.histories.specs.Words.{traits, act_on_issued, act_on_leases, are_none, act_on_mounts, Place, object_left}
+use Rattle.histories.specs.Words.{version_reply, act_on_secrets, is_privileged, making_path, may_make, new_policies}
+use Rattle.histories.specs.Words.{act_on_tokens, holder, known, revoke_token, act_on_wrappings, found, Reason, Status}
+use Rattle.histories.specs.Words.{CubbyholeCommand, IssuedCommand, LeaseCommand, MountCommand, PolicyCommand}
+use Rattle.histories.specs.Words.{SecretCommand, TokenCommand, WrappingCommand, Asking, clocked, AllStatusesFollow}
+use Rattle.histories.specs.Words.{IsNeverDone, ReadsEnded, cubbyhole_is_silent, is_silent, issued_is_silent}
+use Rattle.histories.specs.Words.{lease_is_silent, mount_is_silent, policy_is_silent, secret_is_silent}
+use Rattle.histories.specs.Words.{token_is_silent}
 use Rattle.histories.proofs.EventSecrets.{is_200}
 use Rattle.histories.proofs.Order.{spent, wrapped_cases, asked_at, means_at_clock, Served, nothing_is_no_reply}
 use Rattle.histories.proofs.Order.{refused_or_served}

@@ -1,4 +1,5 @@
 -- Who makes which token, and what a 200 to a creation made.
+use Rattle.std.proofs.Common.{◌≡◌, ◌<◌, ◌==◌, ◌&&◌, if◌then◌else◌}
 use Rattle.histories.specs.Words.{true, false, cond, Option, Some, None, Ok, refl, sym, option_map_or, ◌∙◌, ap, inl}
 use Rattle.histories.specs.Words.{inr, arith, lt-ltb, Text, same, get, put, get-put, get-put_self, Broker, is_under}
 use Rattle.histories.specs.Words.{Names, names_of, reply, Done, no_ok, ok_step, is_spent, status_code, Token, Tokens}
@@ -6,9 +7,9 @@ use Rattle.histories.specs.Words.{token_text, token_entry, ok_inj, AllThatIsGran
 use Rattle.histories.specs.Words.{wrap_object, reply_text, wrap_reply, TokenCreation, act, Command, command_of}
 use Rattle.histories.specs.Words.{on_token, allowed, OperationsDoAsTold, Outcome, response_to, unwrapped, wrap_200}
 use Rattle.histories.specs.Words.{wraps, permits, ok, request_of, step, traits, is_privileged, making_path, may_make}
-use Rattle.histories.specs.Words.{new_parent, new_policies, new_token, auth_reply, known, Status, Making, ◌≡◌, ◌<◌}
-use Rattle.histories.specs.Words.{◌==◌, ◌&&◌, if◌then◌else◌, TokenCommand, GivesToken, Asking, clocked, spent_by}
-use Rattle.histories.specs.Words.{telling_body, unwrapped_body, AllMadeAsAllowed, CreatesAtPath, has_no_use}
+use Rattle.histories.specs.Words.{new_parent, new_policies, new_token, auth_reply, known, Status, Making, TokenCommand}
+use Rattle.histories.specs.Words.{GivesToken, Asking, clocked, spent_by, telling_body, unwrapped_body}
+use Rattle.histories.specs.Words.{AllMadeAsAllowed, CreatesAtPath, has_no_use}
 use Rattle.histories.proofs.Created.{new_unspent}
 use Rattle.histories.proofs.Descent.{Makes, follows, parent_is}
 use Rattle.histories.proofs.Order.{some_ok, spent, spent_clock, asked_at, means_at_clock, tells_body, served}

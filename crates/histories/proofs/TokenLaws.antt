@@ -1,24 +1,25 @@
 -- The laws of who makes which token, how long it lives, and whose each lease is.
+use Rattle.std.proofs.Common.{◌≡◌, ◌≢◌, ◌≤◌, ◌⊎◌, ◌+◌, ◌-◌, ◌==◌, ◌||◌, ◌∷◌, if◌then◌else◌, ◌&&◌}
 use Rattle.broker_model.specs.Words.{min-le_left, min-le_right, one_entry, WasBefore, root_token, IsGranted}
 use Rattle.broker_model.specs.Words.{no_more_policies, root_is_own, use_limit}
 use Rattle.leases.specs.Leases as leases
-use Rattle.histories.specs.Words.{◌≡◌, ◌≢◌, ◌≤◌, ◌⊎◌, ◌+◌, ◌-◌, ◌==◌, ◌||◌, ◌∷◌, if◌then◌else◌, ℕ, List, [], codes}
-use Rattle.histories.specs.Words.{Bool, true, false, min, not, Option, Some, None, is_none, zero, suc, max}
-use Rattle.histories.specs.Words.{option_and_then, list_all, list_any, refl, sym, ◌∙◌, ap, subst, inl, inr, arith}
-use Rattle.histories.specs.Words.{false≢true, and_parts, eqb-true, false_from_ne_true, or_cases, or_right, none-some}
-use Rattle.histories.specs.Words.{same_Some, longest_ttl, Map, get, is_nothing, mapped_none, Text, same, same_self}
-use Rattle.histories.specs.Words.{same_true, Token, Lease, no_entry, Broker, lease_of, id, token_text, alive_is, has}
-use Rattle.histories.specs.Words.{token_entry, grants, AllThatIsGranted, OnlyWhatIsGranted, RootMayDoAll, is_root, Sudo}
-use Rattle.histories.specs.Words.{TokenCreation, allowed, asked_time, asked_ttl, has_no_end, have_root, is_privileged}
-use Rattle.histories.specs.Words.{makes_orphans, making_path, new_parent, new_policies, new_token, or_longest, new_end}
-use Rattle.histories.specs.Words.{prolonged_end, chained, OperationsDoAsTold, Verb, Making, OfCaller, WithoutParent}
-use Rattle.histories.specs.Words.{HasRoot, HasSudo, IsWithin, MightMake, AreAsked, AskedAt, Asking, History, clocked}
-use Rattle.histories.specs.Words.{Beginning, IsAsked, begun, EndsInTime, AllEndInTime, EndInTimeAt, with_changed}
-use Rattle.histories.specs.Words.{CreatesAtPath, path_of, IsIssuedTo, AllLeasesAreOfCallers, AllTokensEndInTime}
-use Rattle.histories.specs.Words.{TokensEndInTimeSinceStart, ◌&&◌, Ok, option_map, option_map_or, put, get-map_values}
-use Rattle.histories.specs.Words.{get-put_self, is_under, Names, names_of, Done, no_ok, is_spent, status_code, Tokens}
-use Rattle.histories.specs.Words.{credential_object, lease_reply, reply_text, command_of, on_issued, step, Place}
-use Rattle.histories.specs.Words.{Status, IssuedCommand, spent_by, GivesLease, has_no_use}
+use Rattle.histories.specs.Words.{ℕ, List, [], codes, Bool, true, false, min, not, Option, Some, None, is_none, zero}
+use Rattle.histories.specs.Words.{suc, max, option_and_then, list_all, list_any, refl, sym, ◌∙◌, ap, subst, inl, inr}
+use Rattle.histories.specs.Words.{arith, false≢true, and_parts, eqb-true, false_from_ne_true, or_cases, or_right}
+use Rattle.histories.specs.Words.{none-some, same_Some, longest_ttl, Map, get, is_nothing, mapped_none, Text, same}
+use Rattle.histories.specs.Words.{same_self, same_true, Token, Lease, no_entry, Broker, lease_of, id, token_text}
+use Rattle.histories.specs.Words.{alive_is, has, token_entry, grants, AllThatIsGranted, OnlyWhatIsGranted}
+use Rattle.histories.specs.Words.{RootMayDoAll, is_root, Sudo, TokenCreation, allowed, asked_time, asked_ttl}
+use Rattle.histories.specs.Words.{has_no_end, have_root, is_privileged, makes_orphans, making_path, new_parent}
+use Rattle.histories.specs.Words.{new_policies, new_token, or_longest, new_end, prolonged_end, chained}
+use Rattle.histories.specs.Words.{OperationsDoAsTold, Verb, Making, OfCaller, WithoutParent, HasRoot, HasSudo}
+use Rattle.histories.specs.Words.{IsWithin, MightMake, AreAsked, AskedAt, Asking, History, clocked, Beginning, IsAsked}
+use Rattle.histories.specs.Words.{begun, EndsInTime, AllEndInTime, EndInTimeAt, with_changed, CreatesAtPath, path_of}
+use Rattle.histories.specs.Words.{IsIssuedTo, AllLeasesAreOfCallers, AllTokensEndInTime, TokensEndInTimeSinceStart, Ok}
+use Rattle.histories.specs.Words.{option_map, option_map_or, put, get-map_values, get-put_self, is_under, Names}
+use Rattle.histories.specs.Words.{names_of, Done, no_ok, is_spent, status_code, Tokens, credential_object, lease_reply}
+use Rattle.histories.specs.Words.{reply_text, command_of, on_issued, step, Place, Status, IssuedCommand, spent_by}
+use Rattle.histories.specs.Words.{GivesLease, has_no_use}
 use Rattle.histories.proofs.Clients.{from_clock, Course, course}
 use Rattle.histories.proofs.Created.{has_no_end_, has_policies, lasts}
 use Rattle.histories.proofs.Descent.{Makes, follows}

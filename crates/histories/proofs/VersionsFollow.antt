@@ -1,24 +1,25 @@
 -- Versions follow the writes, deletions and destructions that were asked for: each part of the law.
+use Rattle.std.proofs.Common.{◌≡◌, ◌≢◌, ◌⊎◌, ◌+◌, ◌==◌, ◌||◌, ◌∷◌, if◌then◌else◌}
 use Rattle.broker_model.specs.Words.{eqb-false, with_key, with_changed, VersionObject, version_made, version_shown}
 use Rattle.std.specs.FinMap.{from_entries, get-empty}
 use Rattle.kv2.specs.Secrets as secrets
-use Rattle.histories.specs.Words.{◌≡◌, ◌≢◌, ◌⊎◌, ◌+◌, ◌==◌, ◌||◌, ◌∷◌, if◌then◌else◌, ℕ, zero, suc, List, [], Bool}
-use Rattle.histories.specs.Words.{true, false, not, cond, is_none, is_some, Contains, nat_eq, nat_lt, Option}
-use Rattle.histories.specs.Words.{option_map, unwrap_or, Some, None, Ok, starts_with, option_map_or, nat_cmp, refl, sym}
-use Rattle.histories.specs.Words.{◌∙◌, ap, subst, inl, inr, arith, eq-eqb, eqb-true, false≢true, ltb-false, ltb-true}
-use Rattle.histories.specs.Words.{none-some, same_Some, any_contained, Text, same, same_self, Map, entries, get}
-use Rattle.histories.specs.Words.{get-keep, get-put_self, get-without_self, valued_is, Broker, Mount, Names, names_of}
-use Rattle.histories.specs.Words.{missing, nothing, plainly, reply, Done, found_or_not, mapped, some_or, no_ok, ok_step}
-use Rattle.histories.specs.Words.{Key, Version, spend, status_code, Status, ok_inj, Written, secret_name, written}
-use Rattle.histories.specs.Words.{get-change_versions, Found, asked_number, checked, described, destroyed, is_among}
-use Rattle.histories.specs.Words.{numbered, key_or_new, restored, soft_deleted, versions_kept, with_version, disabled}
-use Rattle.histories.specs.Words.{secret_object, plain_reply, reply_text, KeySettings, SecretWrite, act, Command}
-use Rattle.histories.specs.Words.{command_of, on_mount, on_secret, chained, OperationsDoAsTold, step, without_kept}
-use Rattle.histories.specs.Words.{Place, object_left, version_answered, version_reply, written_reply, act_on_secrets}
-use Rattle.histories.specs.Words.{given_settings, Refusal, MountCommand, SecretCommand, AreAsked, Asking, IsAsked}
-use Rattle.histories.specs.Words.{AskedAt, History, clocked, AllVersionsFollow, AreSet, Commands, Deletes, DidSet}
-use Rattle.histories.specs.Words.{DidWrite, DisablesAbove, SecretGoes, Holds, IsAsAsked, IsNewKey, ReadsVersion}
-use Rattle.histories.specs.Words.{StandsUnwritten, WroteBefore, Writes, named}
+use Rattle.histories.specs.Words.{ℕ, zero, suc, List, [], Bool, true, false, not, cond, is_none, is_some, Contains}
+use Rattle.histories.specs.Words.{nat_eq, nat_lt, Option, option_map, unwrap_or, Some, None, Ok, starts_with}
+use Rattle.histories.specs.Words.{option_map_or, nat_cmp, refl, sym, ◌∙◌, ap, subst, inl, inr, arith, eq-eqb, eqb-true}
+use Rattle.histories.specs.Words.{false≢true, ltb-false, ltb-true, none-some, same_Some, any_contained, Text, same}
+use Rattle.histories.specs.Words.{same_self, Map, entries, get, get-keep, get-put_self, get-without_self, valued_is}
+use Rattle.histories.specs.Words.{Broker, Mount, Names, names_of, missing, nothing, plainly, reply, Done, found_or_not}
+use Rattle.histories.specs.Words.{mapped, some_or, no_ok, ok_step, Key, Version, spend, status_code, Status, ok_inj}
+use Rattle.histories.specs.Words.{Written, secret_name, written, get-change_versions, Found, asked_number, checked}
+use Rattle.histories.specs.Words.{described, destroyed, is_among, numbered, key_or_new, restored, soft_deleted}
+use Rattle.histories.specs.Words.{versions_kept, with_version, disabled, secret_object, plain_reply, reply_text}
+use Rattle.histories.specs.Words.{KeySettings, SecretWrite, act, Command, command_of, on_mount, on_secret, chained}
+use Rattle.histories.specs.Words.{OperationsDoAsTold, step, without_kept, Place, object_left, version_answered}
+use Rattle.histories.specs.Words.{version_reply, written_reply, act_on_secrets, given_settings, Refusal, MountCommand}
+use Rattle.histories.specs.Words.{SecretCommand, AreAsked, Asking, IsAsked, AskedAt, History, clocked}
+use Rattle.histories.specs.Words.{AllVersionsFollow, AreSet, Commands, Deletes, DidSet, DidWrite, DisablesAbove}
+use Rattle.histories.specs.Words.{SecretGoes, Holds, IsAsAsked, IsNewKey, ReadsVersion, StandsUnwritten, WroteBefore}
+use Rattle.histories.specs.Words.{Writes, named}
 use Rattle.histories.proofs.EventSecrets.{is_404, served_left}
 use Rattle.histories.proofs.Order.{some_ok, spent, asked_at, means_at_clock, tells_body, Served, served}
 use Rattle.histories.proofs.ReadsEnded.{read_404}

@@ -1,23 +1,23 @@
 -- Why a request is refused that policies grant.
+use Rattle.std.proofs.Common.{◌≡◌, ◌≢◌, ◌⊎◌, ◌==◌, ◌||◌, ◌&&◌, ◌∷◌, if◌then◌else◌, ◌-◌}
 use Rattle.leases.specs.Leases as leases
 use Rattle.token_tree.specs.Tokens as tree
 use Rattle.kv2.specs.Secrets as secrets
-use Rattle.histories.specs.Words.{◌≡◌, ◌≢◌, ◌⊎◌, ◌==◌, ◌||◌, ◌&&◌, ◌∷◌, if◌then◌else◌, ◌-◌, ℕ, [], Bool, true, false}
-use Rattle.histories.specs.Words.{not, nat_lt, is_some, Option, Some, None, Result, Ok, Err, option_and_then}
-use Rattle.histories.specs.Words.{option_map, ⊤, codes, refl, sym, ◌∙◌, ap, inl, inr, eqb-true, false≢true, or_left}
-use Rattle.histories.specs.Words.{or_right, Text, same, greatest_version, are_new, same_true, entries, first_where, get}
-use Rattle.histories.specs.Words.{get-change, Broker, Mount, Role, Names, names_of, plainly, reply, Done, ◌>>=◌}
-use Rattle.histories.specs.Words.{some_or, unless, first_where_is, Key, one_less, Lease, Token, Refusal, has_lease}
-use Rattle.histories.specs.Words.{token_entry, metadata_of, Written, secret_name, write_over, written, Found}
-use Rattle.histories.specs.Words.{asked_number, check_and_set, key_or_new, numbered, text_of, lease_object}
-use Rattle.histories.specs.Words.{policy_object, role_object, lease_reply, plain_reply, SecretWrite, TokenRenewal, act}
-use Rattle.histories.specs.Words.{Command, on_cubbyhole, on_issued, on_lease, on_policy, on_secret, on_token, Outcome}
-use Rattle.histories.specs.Words.{Wrapped, finish, wrapped, wraps, permits, Request, operated, request_of, step, traits}
-use Rattle.histories.specs.Words.{shown_lease, Place, metadata_reply, version_answered, written_reply, auth_reply}
-use Rattle.histories.specs.Words.{token_reply, new_end, Denial, Field, Reason, CubbyholeCommand, IssuedCommand}
-use Rattle.histories.specs.Words.{LeaseCommand, PolicyCommand, SecretCommand, TokenCommand, Asking, clocked, spent_by}
-use Rattle.histories.specs.Words.{PoliciesDecide, LacksVersion, named, AllTellWhy, Asks, FailsCheck, IsRefusedBy}
-use Rattle.histories.specs.Words.{LacksCheck, LacksId}
+use Rattle.histories.specs.Words.{ℕ, [], Bool, true, false, not, nat_lt, is_some, Option, Some, None, Result, Ok, Err}
+use Rattle.histories.specs.Words.{option_and_then, option_map, ⊤, codes, refl, sym, ◌∙◌, ap, inl, inr, eqb-true}
+use Rattle.histories.specs.Words.{false≢true, or_left, or_right, Text, same, greatest_version, are_new, same_true}
+use Rattle.histories.specs.Words.{entries, first_where, get, get-change, Broker, Mount, Role, Names, names_of, plainly}
+use Rattle.histories.specs.Words.{reply, Done, ◌>>=◌, some_or, unless, first_where_is, Key, one_less, Lease, Token}
+use Rattle.histories.specs.Words.{Refusal, has_lease, token_entry, metadata_of, Written, secret_name, write_over}
+use Rattle.histories.specs.Words.{written, Found, asked_number, check_and_set, key_or_new, numbered, text_of}
+use Rattle.histories.specs.Words.{lease_object, policy_object, role_object, lease_reply, plain_reply, SecretWrite}
+use Rattle.histories.specs.Words.{TokenRenewal, act, Command, on_cubbyhole, on_issued, on_lease, on_policy, on_secret}
+use Rattle.histories.specs.Words.{on_token, Outcome, Wrapped, finish, wrapped, wraps, permits, Request, operated}
+use Rattle.histories.specs.Words.{request_of, step, traits, shown_lease, Place, metadata_reply, version_answered}
+use Rattle.histories.specs.Words.{written_reply, auth_reply, token_reply, new_end, Denial, Field, Reason}
+use Rattle.histories.specs.Words.{CubbyholeCommand, IssuedCommand, LeaseCommand, PolicyCommand, SecretCommand}
+use Rattle.histories.specs.Words.{TokenCommand, Asking, clocked, spent_by, PoliciesDecide, LacksVersion, named}
+use Rattle.histories.specs.Words.{AllTellWhy, Asks, FailsCheck, IsRefusedBy, LacksCheck, LacksId}
 use Rattle.histories.proofs.Clients.{from_clock}
 use Rattle.histories.proofs.Requests.{asked_at}
 

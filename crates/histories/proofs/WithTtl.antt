@@ -1,16 +1,16 @@
 -- What is answered with a wrap TTL, where the identifiers are new, has the status that it would have without.
+use Rattle.std.proofs.Common.{◌≡◌, ◌<◌, ◌||◌, ◌&&◌, ◌∷◌, if◌then◌else◌}
 use Rattle.broker_model.specs.Words.{IsDistinct}
-use Rattle.histories.specs.Words.{◌≡◌, ◌<◌, ◌||◌, ◌&&◌, ◌∷◌, if◌then◌else◌, [], List, Bool, true, false, not, nat_lt}
-use Rattle.histories.specs.Words.{Some, Option, None, Result, Ok, Err, is_none, ⊤, AllByRecursion, list_any, refl, sym}
-use Rattle.histories.specs.Words.{◌∙◌, ap, arith, lt-ltb, or_right, Text, same, same_self, Response, Broker, Map, get}
-use Rattle.histories.specs.Words.{Names, names_of, Answered, Done, nothing, reply, kept_text, missing, plainly, ◌>>=◌}
-use Rattle.histories.specs.Words.{unless, ok_step, status_code, are_new, Refusal, has, ok_inj, plain_reply, act}
-use Rattle.histories.specs.Words.{Command, command_of, on_cubbyhole, on_issued, on_lease, on_mount, on_policy}
-use Rattle.histories.specs.Words.{on_secret, on_token, on_wrapping, Outcome, Wrapped, finish, needed, response_to}
-use Rattle.histories.specs.Words.{unwrapped, wrap_200, permits, Request, is_wrapped, operated, request_of, step, traits}
-use Rattle.histories.specs.Words.{unwrapped_ask, names_needed, Reason, IssuedCommand, Needs, TokenCommand}
-use Rattle.histories.specs.Words.{WrappingCommand, AllNew, identifiers_made, IsAllowed, Asking, clocked, spent_by}
-use Rattle.histories.specs.Words.{answer_by, unwrapped_answer, PoliciesDecide}
+use Rattle.histories.specs.Words.{[], List, Bool, true, false, not, nat_lt, Some, Option, None, Result, Ok, Err}
+use Rattle.histories.specs.Words.{is_none, ⊤, AllByRecursion, list_any, refl, sym, ◌∙◌, ap, arith, lt-ltb, or_right}
+use Rattle.histories.specs.Words.{Text, same, same_self, Response, Broker, Map, get, Names, names_of, Answered, Done}
+use Rattle.histories.specs.Words.{nothing, reply, kept_text, missing, plainly, ◌>>=◌, unless, ok_step, status_code}
+use Rattle.histories.specs.Words.{are_new, Refusal, has, ok_inj, plain_reply, act, Command, command_of, on_cubbyhole}
+use Rattle.histories.specs.Words.{on_issued, on_lease, on_mount, on_policy, on_secret, on_token, on_wrapping, Outcome}
+use Rattle.histories.specs.Words.{Wrapped, finish, needed, response_to, unwrapped, wrap_200, permits, Request}
+use Rattle.histories.specs.Words.{is_wrapped, operated, request_of, step, traits, unwrapped_ask, names_needed, Reason}
+use Rattle.histories.specs.Words.{IssuedCommand, Needs, TokenCommand, WrappingCommand, AllNew, identifiers_made}
+use Rattle.histories.specs.Words.{IsAllowed, Asking, clocked, spent_by, answer_by, unwrapped_answer, PoliciesDecide}
 use Rattle.histories.proofs.Carried.{carried_for, leads_to, never_wrapped}
 use Rattle.histories.proofs.Order.{command_plain, refused_code}
 

@@ -1,9 +1,11 @@
 -- What the words and the paths of policies mean.
+use Rattle.std.proofs.Common.{◌≡◌, ◌++◌, ◌-◌, ◌∷◌, if◌then◌else◌}
 use Rattle.broker_model.specs.Words.{[], Bool, true, false, cond, length, take, codes, Some, None, option_map, lookup}
-use Rattle.broker_model.specs.Words.{refl, ◌∙◌, ap, arith, take-append_seam, Text, same, ends_in_star, pattern_of, star}
-use Rattle.broker_model.specs.Words.{word_named, Create, Delete, Read, Sudo, Update, Deny, Grant, Patch, Exact, Prefix}
+use Rattle.broker_model.specs.Words.{refl, ◌∙◌, ap, arith, take-append_seam, Text, same, ends_in_star, pattern_of}
+use Rattle.broker_model.specs.Words.{star, word_named, Create, Delete, Read, Sudo, Update, Deny, Grant, Patch, Exact}
+use Rattle.broker_model.specs.Words.{Prefix}
 use Rattle.policies.specs.declared.capability.Capability.TheVariants.{List}
-use Rattle.histories.specs.Words.{◌≡◌, ◌++◌, ◌-◌, ◌∷◌, if◌then◌else◌, PoliciesAreRead, capability_words}
+use Rattle.histories.specs.Words.{PoliciesAreRead, capability_words}
 
 words : (s : Text) → word_named s ≡ lookup (same s) capability_words
 words s =

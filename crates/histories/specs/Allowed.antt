@@ -2,14 +2,15 @@
 -- the others only where what they ask for is not there or may not be made (Vault's documentation, "Tokens"; "Token auth
 -- method (API)"; "Lease, renew, and revoke"; "Response wrapping"; "/sys/policies"; "/sys/mounts"; "KV secrets engine -
 -- version 2 (API)"; "Cubbyhole secrets engine (API)"; the engine that issues credentials is this project's).
-use Rattle.histories.specs.Common.{◌≡◌, ◌≢◌, ◌⊎◌, ◌<◌, ◌++◌, ◌∷◌, nat_eq, ℕ, List, [], Bool, true, false, Some, None}
-use Rattle.histories.specs.Common.{Ok, ⊤, codes, IsDistinct, starts_with, Text, same, get, Broker, Engine, Mount, Role}
-use Rattle.histories.specs.Common.{Waiting, IsNew, is_name, names_of, lease_of, Key, Version, status_code, Lease, Token}
-use Rattle.histories.specs.Common.{has, slash, is_policy, LeaseRenewal, MountCreation, SecretWrite, TokenCreation}
-use Rattle.histories.specs.Common.{TokenRenewal, Command, command_of, on_cubbyhole, on_issued, on_lease, on_secret}
-use Rattle.histories.specs.Common.{on_token, on_mount, on_policy, on_wrapping, no_content, ok, is_open, Place, Status}
-use Rattle.histories.specs.Common.{WithoutParent, SecretCommand, TokenCommand, WrappingCommand, Making}
-use Rattle.histories.specs.Common.{CubbyholeCommand, IssuedCommand, LeaseCommand, MountCommand, PolicyCommand}
+use Rattle.std.specs.Prelude.{◌≡◌, ◌≢◌, ◌⊎◌, ◌<◌, ◌++◌, ◌∷◌}
+use Rattle.histories.specs.Common.{nat_eq, ℕ, List, [], Bool, true, false, Some, None, Ok, ⊤, codes, IsDistinct}
+use Rattle.histories.specs.Common.{starts_with, Text, same, get, Broker, Engine, Mount, Role, Waiting, IsNew, is_name}
+use Rattle.histories.specs.Common.{names_of, lease_of, Key, Version, status_code, Lease, Token, has, slash, is_policy}
+use Rattle.histories.specs.Common.{LeaseRenewal, MountCreation, SecretWrite, TokenCreation, TokenRenewal, Command}
+use Rattle.histories.specs.Common.{command_of, on_cubbyhole, on_issued, on_lease, on_secret, on_token, on_mount}
+use Rattle.histories.specs.Common.{on_policy, on_wrapping, no_content, ok, is_open, Place, Status, WithoutParent}
+use Rattle.histories.specs.Common.{SecretCommand, TokenCommand, WrappingCommand, Making, CubbyholeCommand}
+use Rattle.histories.specs.Common.{IssuedCommand, LeaseCommand, MountCommand, PolicyCommand}
 use Rattle.histories.specs.History.{AreAsked, Asking, AskedAt, History, clocked}
 use Rattle.histories.specs.Creations.{AsksNoEnd, HasRoot, HasSudo}
 use Rattle.histories.specs.Callers.{IsAllowed}

@@ -1,5 +1,6 @@
 -- The law of who is served, as a statement (Vault's documentation, "Policies"; "Tokens"; "Response wrapping").
-use Rattle.histories.specs.Common.{◌≡◌, ◌⊎◌, ℕ, true, false, Text, without, Broker, Token, is_open}
+use Rattle.std.specs.Prelude.{◌≡◌, ◌⊎◌}
+use Rattle.histories.specs.Common.{ℕ, true, false, Text, without, Broker, Token, is_open}
 use Rattle.histories.specs.History.{AreAsked, Asking, AskedAt, History, clocked, spent_by}
 use Rattle.histories.specs.Refused.{Calls, HasNoCaller, HasResponse, IsDenial, IsDenied, is_granted}
 

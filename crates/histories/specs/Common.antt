@@ -1,7 +1,6 @@
 -- What the specs cite of std and of the crates below, passed on from one place. Declares nothing.
 pub use Rattle.serde_json.specs.Data.{Members, object}
 pub use Rattle.serde_json.specs.Written.{compact_text}
-pub use Rattle.std.proofs.Common.{if◌then◌else◌, ◌&&◌, ◌++◌, ◌+◌, ◌-◌, ◌<◌, ◌^◌, ◌||◌, ◌∷◌, ◌≡◌, ◌≢◌, ◌≤◌, ◌⊎◌}
 pub use Rattle.broker_model.specs.Words.{[], are_bytes, Ask, asked, asks_sudo, at_moment, auth_object, body_members}
 pub use Rattle.broker_model.specs.Words.{Bool, Broker, children, codes, Command, command_of, Contains}
 pub use Rattle.broker_model.specs.Words.{credential_object, Engine, entries, Evolves, false, folder, from_entries, get}

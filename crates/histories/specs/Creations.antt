@@ -1,10 +1,11 @@
 -- The law of who may make which token, as a statement (Vault's documentation, "Token auth method (API)", create token;
 -- "Tokens", token hierarchies and orphan tokens, root tokens, periodic tokens; what `sudo` allows is this project's).
+use Rattle.std.specs.Prelude.{◌≡◌, ◌≢◌, ◌⊎◌, ◌<◌, ◌+◌, ◌-◌, ◌∷◌}
 use Rattle.broker_model.specs.Words.{is_some, Reply, IsGranted, AuthObject}
-use Rattle.histories.specs.Common.{◌≡◌, ◌≢◌, ◌⊎◌, ◌<◌, ◌+◌, ◌-◌, ◌∷◌, ℕ, min, [], true, false, Some, None, Ok, is_none}
-use Rattle.histories.specs.Common.{unwrap_or, codes, from_entries, option_map_or, Text, entries, get, names_of, Token}
-use Rattle.histories.specs.Common.{Broker, are_bytes, Sudo, has, auth_object, reply_text, TokenCreation, command_of}
-use Rattle.histories.specs.Common.{on_token, ok, Verb, Status, WithoutParent, TokenCommand, Making}
+use Rattle.histories.specs.Common.{ℕ, min, [], true, false, Some, None, Ok, is_none, unwrap_or, codes, from_entries}
+use Rattle.histories.specs.Common.{option_map_or, Text, entries, get, names_of, Token, Broker, are_bytes, Sudo, has}
+use Rattle.histories.specs.Common.{auth_object, reply_text, TokenCreation, command_of, on_token, ok, Verb, Status}
+use Rattle.histories.specs.Common.{WithoutParent, TokenCommand, Making}
 use Rattle.histories.specs.History.{Asking, AskedAt, History, clocked}
 use Rattle.histories.specs.KeptResponses.{telling_body, unwrapped_body}
 use Rattle.histories.specs.Revocation.{IsMade, WasToken}

@@ -1,6 +1,7 @@
 -- The law of a mount that is disabled, as a statement (Vault's documentation, "/sys/mounts", disable secrets engine).
-use Rattle.histories.specs.Common.{◌≡◌, ◌≢◌, ◌⊎◌, ℕ, true, false, None, Ok, Text, get, Broker, lease_of, on_mount}
-use Rattle.histories.specs.Common.{command_of, Status, MountCommand}
+use Rattle.std.specs.Prelude.{◌≡◌, ◌≢◌, ◌⊎◌}
+use Rattle.histories.specs.Common.{ℕ, true, false, None, Ok, Text, get, Broker, lease_of, on_mount, command_of, Status}
+use Rattle.histories.specs.Common.{MountCommand}
 use Rattle.histories.specs.History.{AreAsked, Asking, AskedAt, History, clocked}
 use Rattle.histories.specs.LeaseEnds.{is_below}
 

@@ -1,12 +1,13 @@
 -- What permission, look-ups and lists are to be by the documentation, in its words, as statements (Vault's
 -- documentation, "Policies", root policy, capabilities, root-protected API endpoints; "Token auth method (API)", look
 -- up by accessor; "KV secrets engine - version 2 (API)" and "Cubbyhole secrets engine (API)", list secrets).
+use Rattle.std.specs.Prelude.{◌≡◌, ◌⊎◌, ◌++◌, ◌∷◌}
 use Rattle.broker_model.specs.Words.{lookup, empty, Done, is_ascending, key_at, Route, route_of, Cubbyholes, Secrets}
 use Rattle.broker_model.specs.Words.{pattern_of, word_named, Capability, Word, Deny, Grant, Patch, Exact, Prefix}
 use Rattle.broker_model.specs.Words.{find_accessor, permits, act_on_tokens, CubbyholeOperation}
-use Rattle.histories.specs.Common.{◌≡◌, ◌⊎◌, ◌++◌, ◌∷◌, ℕ, List, [], Contains, true, codes, Some, None, Ok, Text, same}
-use Rattle.histories.specs.Common.{Map, get, Broker, Names, Token, Verb, children, has, lacks, slash, object_at}
-use Rattle.histories.specs.Common.{asks_sudo, grants, asked, SecretOperation, TokenCommand}
+use Rattle.histories.specs.Common.{ℕ, List, [], Contains, true, codes, Some, None, Ok, Text, same, Map, get, Broker}
+use Rattle.histories.specs.Common.{Names, Token, Verb, children, has, lacks, slash, object_at, asks_sudo, grants}
+use Rattle.histories.specs.Common.{asked, SecretOperation, TokenCommand}
 
 -- ---- root
 

@@ -1,7 +1,8 @@
 -- Histories: what the events of a run ask of the broker, one after another (this project's definition).
+use Rattle.std.specs.Prelude.{◌≡◌, ◌≢◌, ◌<◌, ◌≤◌, ◌^◌, ◌∷◌}
 use Rattle.broker_model.specs.Words.{flat_map, greatest_moment, first_broker, Sound, forms}
-use Rattle.histories.specs.Common.{◌≡◌, ◌≢◌, ◌<◌, ◌≤◌, ◌^◌, ◌∷◌, ℕ, List, [], Option, Some, None, slice_index_or, ⊤}
-use Rattle.histories.specs.Common.{option_map_or, Text, Broker, at_moment, spend, Ask, Words, Outcome, step}
+use Rattle.histories.specs.Common.{ℕ, List, [], Option, Some, None, slice_index_or, ⊤, option_map_or, Text, Broker}
+use Rattle.histories.specs.Common.{at_moment, spend, Ask, Words, Outcome, step}
 
 -- ---- what is asked
 

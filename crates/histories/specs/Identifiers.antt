@@ -1,6 +1,7 @@
 -- The law that no identifier is given out twice, as a statement (this project's).
+use Rattle.std.specs.Prelude.{◌≡◌, ◌⊎◌, ◌∷◌}
 use Rattle.broker_types.specs.Words.{take, list_any, id, AllUsed, IsUsed, identifier_at, Place}
-use Rattle.histories.specs.Common.{◌≡◌, ◌⊎◌, ◌∷◌, ℕ, true, Some, IsDistinct, Text, same, get, Broker, Waiting, IsNew}
+use Rattle.histories.specs.Common.{ℕ, true, Some, IsDistinct, Text, same, get, Broker, Waiting, IsNew}
 use Rattle.histories.specs.History.{Asking, AskedAt, Beginning, History, clocked, given_out}
 
 -- the identifier was in the place before the event, and at its clock still

@@ -1,5 +1,6 @@
 -- The laws over a history, together, as a statement (this project's).
-use Rattle.histories.specs.Common.{◌≡◌, Broker}
+use Rattle.std.specs.Prelude.{◌≡◌}
+use Rattle.histories.specs.Common.{Broker}
 use Rattle.histories.specs.Allowed.{DoesAllowed}
 use Rattle.histories.specs.Callers.{ServesAllowed}
 use Rattle.histories.specs.Creations.{MadeAsAllowed}

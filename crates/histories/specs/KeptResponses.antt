@@ -1,10 +1,11 @@
 -- The laws of responses that were kept, as statements: each is handed out once, by an unwrap, and is the reply that was
 -- kept (Vault's documentation, "Response wrapping").
+use Rattle.std.specs.Prelude.{◌≡◌, ◌≢◌, ◌<◌, ◌≤◌, ◌⊎◌, ◌+◌}
 use Rattle.broker_model.specs.Words.{Err, waiting_object, wrap_object, wrap_reply, wrap_info, unwrapped_ask}
-use Rattle.histories.specs.Common.{◌≡◌, ◌≢◌, ◌<◌, ◌≤◌, ◌⊎◌, ◌+◌, Members, object, compact_text, ℕ, max, List, [], Bool}
-use Rattle.histories.specs.Common.{true, false, Option, Some, None, Ok, Result, Text, IsRefused, Response, get, Broker}
-use Rattle.histories.specs.Common.{Waiting, Names, names_of, token_text, Refusal, body_members, plain_reply, reply_text}
-use Rattle.histories.specs.Common.{Command, on_wrapping, command_of, ok, is_open, step, Status, WrappingCommand}
+use Rattle.histories.specs.Common.{Members, object, compact_text, ℕ, max, List, [], Bool, true, false, Option, Some}
+use Rattle.histories.specs.Common.{None, Ok, Result, Text, IsRefused, Response, get, Broker, Waiting, Names, names_of}
+use Rattle.histories.specs.Common.{token_text, Refusal, body_members, plain_reply, reply_text, Command, on_wrapping}
+use Rattle.histories.specs.Common.{command_of, ok, is_open, step, Status, WrappingCommand}
 use Rattle.histories.specs.History.{Asking, AskedAt, History, clocked}
 use Rattle.histories.specs.Revocation.{Revokes, RevokesAlone}
 

@@ -1,6 +1,7 @@
 -- The law of what takes a kept response away, as a statement (Vault's documentation, "Response wrapping",
 -- "/sys/wrapping/unwrap", "/sys/wrapping/rewrap", "Token auth method (API)").
-use Rattle.histories.specs.Common.{◌≡◌, ◌≤◌, ◌⊎◌, ◌+◌, ℕ, max, Some, Text, get, Broker, Waiting, names_of, token_text}
+use Rattle.std.specs.Prelude.{◌≡◌, ◌≤◌, ◌⊎◌, ◌+◌}
+use Rattle.histories.specs.Common.{ℕ, max, Some, Text, get, Broker, Waiting, names_of, token_text}
 use Rattle.histories.specs.History.{AreAsked, Asking, AskedAt, History, clocked}
 use Rattle.histories.specs.KeptResponses.{Rewraps, TakesTokenOut, Unwraps}
 

@@ -1,5 +1,6 @@
 -- The laws over all histories, as statements (this project's).
-use Rattle.histories.specs.Common.{◌<◌, ℕ, Broker, Evolves}
+use Rattle.std.specs.Prelude.{◌<◌}
+use Rattle.histories.specs.Common.{ℕ, Broker, Evolves}
 use Rattle.histories.specs.Creations.{MadeAsAllowed}
 use Rattle.histories.specs.History.{AreAsked, AreSteps, Asking, AskedAt, Beginning, History, begun}
 use Rattle.histories.specs.Identifiers.{AreUsed, GivesOutNew, NoIdentifierTwice}

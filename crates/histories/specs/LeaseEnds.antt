@@ -1,8 +1,9 @@
 -- The law that a revoked lease stays revoked, as a statement (Vault's documentation, "Lease, renew, and revoke",
 -- "/sys/leases", "/sys/mounts").
-use Rattle.histories.specs.Common.{◌≡◌, ◌≢◌, ◌≤◌, ◌⊎◌, ◌++◌, ℕ, Bool, true, Some, None, Ok, nat_eq, codes, starts_with}
-use Rattle.histories.specs.Common.{IsRefused, Text, get, Lease, Broker, lease_of, Command, on_lease, on_mount}
-use Rattle.histories.specs.Common.{command_of, no_content, Status, LeaseCommand, MountCommand}
+use Rattle.std.specs.Prelude.{◌≡◌, ◌≢◌, ◌≤◌, ◌⊎◌, ◌++◌}
+use Rattle.histories.specs.Common.{ℕ, Bool, true, Some, None, Ok, nat_eq, codes, starts_with, IsRefused, Text, get}
+use Rattle.histories.specs.Common.{Lease, Broker, lease_of, Command, on_lease, on_mount, command_of, no_content}
+use Rattle.histories.specs.Common.{Status, LeaseCommand, MountCommand}
 use Rattle.histories.specs.History.{AreAsked, Asking, AskedAt, History, clocked}
 use Rattle.histories.specs.Revocation.{LacksLease}
 

@@ -1,8 +1,9 @@
 -- The law of whose each lease is, and how long it lasts, as a statement (Vault's documentation, "Lease, renew, and
 -- revoke"; "Tokens", use limits; the engine that issues credentials is this project's).
-use Rattle.histories.specs.Common.{◌≡◌, ◌≢◌, ◌⊎◌, ◌<◌, ◌+◌, ◌++◌, ◌∷◌, ℕ, min, Some, None, Ok, codes, Text, get, Role}
-use Rattle.histories.specs.Common.{Token, Lease, WasBefore, names_of, lease_of, slash, credential_object, lease_reply}
-use Rattle.histories.specs.Common.{reply_text, on_issued, command_of, Place, Status, IssuedCommand}
+use Rattle.std.specs.Prelude.{◌≡◌, ◌≢◌, ◌⊎◌, ◌<◌, ◌+◌, ◌++◌, ◌∷◌}
+use Rattle.histories.specs.Common.{ℕ, min, Some, None, Ok, codes, Text, get, Role, Token, Lease, WasBefore, names_of}
+use Rattle.histories.specs.Common.{lease_of, slash, credential_object, lease_reply, reply_text, on_issued, command_of}
+use Rattle.histories.specs.Common.{Place, Status, IssuedCommand}
 use Rattle.histories.specs.History.{Asking, AskedAt, History, clocked}
 use Rattle.histories.specs.KeptResponses.{unwrapped_body}
 use Rattle.histories.specs.Revocation.{IsClient}

@@ -1,7 +1,8 @@
 -- What the paths mean that end leases (Vault's documentation, "/sys/leases", "/sys/mounts").
-use Rattle.histories.specs.Common.{◌≡◌, ◌++◌, ◌∷◌, ℕ, [], true, Result, Ok, codes, Text, Map, Mount, Ask, Verb, Refusal}
-use Rattle.histories.specs.Common.{lacks, slash, are_bytes, Command, command_of, meant_by, on_lease, on_mount, read_as}
-use Rattle.histories.specs.Common.{read_none, LeaseCommand, MountCommand}
+use Rattle.std.specs.Prelude.{◌≡◌, ◌++◌, ◌∷◌}
+use Rattle.histories.specs.Common.{ℕ, [], true, Result, Ok, codes, Text, Map, Mount, Ask, Verb, Refusal, lacks, slash}
+use Rattle.histories.specs.Common.{are_bytes, Command, command_of, meant_by, on_lease, on_mount, read_as, read_none}
+use Rattle.histories.specs.Common.{LeaseCommand, MountCommand}
 use Rattle.api_json.specs.Readers as reader
 
 -- the verb means this at the path, or is refused by it, whatever mounts there are

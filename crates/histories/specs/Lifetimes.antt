@@ -1,6 +1,7 @@
 -- The law of how long a token lives, as a statement (Vault's documentation, "Tokens", token time-to-live, explicit max
 -- TTLs, periodic tokens, root tokens; the 32 days are Vault's default for the longest).
-use Rattle.histories.specs.Common.{◌≡◌, ◌≢◌, ◌≤◌, ◌+◌, ℕ, Some, None, Text, get, Token, Broker}
+use Rattle.std.specs.Prelude.{◌≡◌, ◌≢◌, ◌≤◌, ◌+◌}
+use Rattle.histories.specs.Common.{ℕ, Some, None, Text, get, Token, Broker}
 use Rattle.histories.specs.Creations.{HasRoot}
 use Rattle.histories.specs.History.{Asking, AskedAt, History, clocked}
 

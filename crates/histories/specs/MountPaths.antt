@@ -1,11 +1,12 @@
 -- What the paths mean that lead to a mount which was enabled, and those of policies, of mounts and of cubbyholes that
 -- are not in the other lists (Vault's documentation, "KV secrets engine - version 2 (API)", "/sys/policies",
 -- "/sys/mounts", "Cubbyhole secrets engine (API)"; the engine that issues credentials is this project's).
+use Rattle.std.specs.Prelude.{◌≡◌, ◌++◌, ◌∷◌}
 use Rattle.broker_model.specs.Words.{is_mount_name, full_text, at}
-use Rattle.histories.specs.Common.{◌≡◌, ◌++◌, ◌∷◌, Members, ℕ, [], true, Result, Ok, Some, codes, Text, Map, get}
-use Rattle.histories.specs.Common.{Engine, Mount, issued, kv, ◌>>=◌, Ask, Verb, Refusal, lacks, slash, are_bytes}
-use Rattle.histories.specs.Common.{body_members, Command, command_of, meant_by, on_cubbyhole, on_issued, on_mount}
-use Rattle.histories.specs.Common.{on_policy, on_secret, read_as, Place, CubbyholeCommand, IssuedCommand, MountCommand}
+use Rattle.histories.specs.Common.{Members, ℕ, [], true, Result, Ok, Some, codes, Text, Map, get, Engine, Mount}
+use Rattle.histories.specs.Common.{issued, kv, ◌>>=◌, Ask, Verb, Refusal, lacks, slash, are_bytes, body_members}
+use Rattle.histories.specs.Common.{Command, command_of, meant_by, on_cubbyhole, on_issued, on_mount, on_policy}
+use Rattle.histories.specs.Common.{on_secret, read_as, Place, CubbyholeCommand, IssuedCommand, MountCommand}
 use Rattle.histories.specs.Common.{PolicyCommand, SecretCommand}
 use Rattle.api_json.specs.Readers as reader
 use Rattle.histories.specs.LeasePaths.{AskedMeans}

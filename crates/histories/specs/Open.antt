@@ -1,6 +1,7 @@
 -- The law of open requests, which need no caller, as statements (Vault's documentation, "/sys/wrapping/lookup" and
 -- "/sys/wrapping/unwrap"; that a rewrap may be open is this project's).
-use Rattle.histories.specs.Common.{◌≡◌, ℕ, true, Ok, ⊤, codes, Map, Broker, Mount, at_moment, Ask, Words, Command}
+use Rattle.std.specs.Prelude.{◌≡◌}
+use Rattle.histories.specs.Common.{ℕ, true, Ok, ⊤, codes, Map, Broker, Mount, at_moment, Ask, Words, Command}
 use Rattle.histories.specs.Common.{on_wrapping, command_of, is_open, step, Verb, WrappingCommand}
 
 -- ---- what an open ask means

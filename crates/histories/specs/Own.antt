@@ -1,9 +1,10 @@
 -- The law that what is another's stays, as a statement: what makes a token go, what may change of one that stands, and
 -- who reads a cubbyhole (Vault's documentation, "Tokens"; "Lease, renew, and revoke"; "Cubbyhole secrets engine").
-use Rattle.histories.specs.Common.{◌≡◌, ◌≢◌, ◌⊎◌, ◌≤◌, ◌+◌, ℕ, min, true, Option, Some, None, Ok, ⊤, Text, Map, get}
-use Rattle.histories.specs.Common.{keys, Token, Lease, is_under, names_of, lease_of, children, folder, keys_object}
-use Rattle.histories.specs.Common.{plain_reply, reply_text, LeaseRenewal, on_cubbyhole, on_lease, on_token, command_of}
-use Rattle.histories.specs.Common.{ok, Status, CubbyholeCommand, LeaseCommand, TokenCommand}
+use Rattle.std.specs.Prelude.{◌≡◌, ◌≢◌, ◌⊎◌, ◌≤◌, ◌+◌}
+use Rattle.histories.specs.Common.{ℕ, min, true, Option, Some, None, Ok, ⊤, Text, Map, get, keys, Token, Lease}
+use Rattle.histories.specs.Common.{is_under, names_of, lease_of, children, folder, keys_object, plain_reply}
+use Rattle.histories.specs.Common.{reply_text, LeaseRenewal, on_cubbyhole, on_lease, on_token, command_of, ok, Status}
+use Rattle.histories.specs.Common.{CubbyholeCommand, LeaseCommand, TokenCommand}
 use Rattle.histories.specs.Revocation.{IsClient, IsDue, IsMade, Revokes, RevokesAlone, WasToken}
 use Rattle.histories.specs.History.{Asking, AskedAt, History, clocked, spent_by}
 use Rattle.histories.specs.KeptResponses.{unwrapped_answer}

@@ -1,10 +1,11 @@
 -- What the paths mean of which the laws over histories speak by their commands (Vault's documentation, "Token auth
 -- method (API)", "/sys/wrapping", "/sys/leases", "Cubbyhole secrets engine (API)").
-use Rattle.histories.specs.Common.{◌≡◌, ◌++◌, ◌∷◌, ℕ, [], true, Option, Some, None, Result, Ok, codes, Members, object}
-use Rattle.histories.specs.Common.{compact_text, Text, Map, Mount, ◌>>=◌, Ask, Refusal, are_bytes, body_members}
-use Rattle.histories.specs.Common.{TokenCreation, Command, on_cubbyhole, on_lease, on_token, on_wrapping, command_of}
-use Rattle.histories.specs.Common.{meant_by, read_as, read_none, token_meant, Verb, OfCaller, WithoutParent}
-use Rattle.histories.specs.Common.{CubbyholeCommand, LeaseCommand, TokenCommand, Making, WrappingCommand}
+use Rattle.std.specs.Prelude.{◌≡◌, ◌++◌, ◌∷◌}
+use Rattle.histories.specs.Common.{ℕ, [], true, Option, Some, None, Result, Ok, codes, Members, object, compact_text}
+use Rattle.histories.specs.Common.{Text, Map, Mount, ◌>>=◌, Ask, Refusal, are_bytes, body_members, TokenCreation}
+use Rattle.histories.specs.Common.{Command, on_cubbyhole, on_lease, on_token, on_wrapping, command_of, meant_by}
+use Rattle.histories.specs.Common.{read_as, read_none, token_meant, Verb, OfCaller, WithoutParent, CubbyholeCommand}
+use Rattle.histories.specs.Common.{LeaseCommand, TokenCommand, Making, WrappingCommand}
 use Rattle.api_json.specs.Readers as reader
 use Rattle.histories.specs.LeasePaths.{AskedMeans}
 

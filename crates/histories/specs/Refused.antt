@@ -1,11 +1,11 @@
 -- The laws of refused requests, and of what policies decide, as statements (Vault's documentation, "Policies";
 -- "Tokens", use limits; "Response wrapping").
+use Rattle.std.specs.Prelude.{◌≡◌, ◌≢◌, ◌≤◌, ◌⊎◌, ◌&&◌, ◌||◌}
 use Rattle.broker_model.specs.Words.{end_spent, drop_waiting, finish, operated}
-use Rattle.histories.specs.Common.{◌≡◌, ◌≢◌, ◌≤◌, ◌⊎◌, ◌&&◌, ◌||◌, ℕ, Bool, true, false, not, Some, None, Ok, Text, get}
-use Rattle.histories.specs.Common.{without, IsRefused, Response, refused, Broker, at_moment, names_of, ◌>>=◌, spend}
-use Rattle.histories.specs.Common.{status_code, Token, Ask, Words, asks_sudo, grants, Sudo, asked, on_wrapping}
-use Rattle.histories.specs.Common.{command_of, Outcome, permission_denied, is_open, step, Refusal, Status}
-use Rattle.histories.specs.Common.{WrappingCommand, Denial}
+use Rattle.histories.specs.Common.{ℕ, Bool, true, false, not, Some, None, Ok, Text, get, without, IsRefused, Response}
+use Rattle.histories.specs.Common.{refused, Broker, at_moment, names_of, ◌>>=◌, spend, status_code, Token, Ask, Words}
+use Rattle.histories.specs.Common.{asks_sudo, grants, Sudo, asked, on_wrapping, command_of, Outcome, permission_denied}
+use Rattle.histories.specs.Common.{is_open, step, Refusal, Status, WrappingCommand, Denial}
 
 -- ---- what a refused request leaves
 

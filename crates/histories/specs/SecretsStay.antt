@@ -1,6 +1,7 @@
 -- The law of versioned secrets over all histories, as statements (Vault's documentation, "KV secrets engine - version
 -- 2").
-use Rattle.histories.specs.Common.{◌≡◌, ℕ, List, Contains, Some, None, Ok, Broker, Text, get, Key, Version, secret_name}
+use Rattle.std.specs.Prelude.{◌≡◌}
+use Rattle.histories.specs.Common.{ℕ, List, Contains, Some, None, Ok, Broker, Text, get, Key, Version, secret_name}
 use Rattle.histories.specs.Common.{on_secret, command_of, VersionsStay, Place, Status, SecretCommand}
 use Rattle.histories.specs.History.{AreAsked, Asking, AskedAt, History, clocked}
 

@@ -1,10 +1,11 @@
 -- The law of what becomes of roles, policies and mounts, as a statement: each changes by requests for it alone, to what
 -- these ask for (Vault's documentation, "/sys/policies", "/sys/mounts", "KV secrets engine - version 2 (API)",
 -- configure; the engine that issues credentials is this project's).
-use Rattle.histories.specs.Common.{◌≡◌, ◌≢◌, ◌⊎◌, ℕ, Bool, false, Option, Some, None, Ok, codes, Text, get, Broker}
-use Rattle.histories.specs.Common.{Engine, Mount, Role, issued, kv, RoleSettings, MountCreation, MountSettings}
-use Rattle.histories.specs.Common.{command_of, on_issued, on_mount, on_policy, on_secret, Place, Status, IssuedCommand}
-use Rattle.histories.specs.Common.{MountCommand, PolicyCommand, SecretCommand}
+use Rattle.std.specs.Prelude.{◌≡◌, ◌≢◌, ◌⊎◌}
+use Rattle.histories.specs.Common.{ℕ, Bool, false, Option, Some, None, Ok, codes, Text, get, Broker, Engine, Mount}
+use Rattle.histories.specs.Common.{Role, issued, kv, RoleSettings, MountCreation, MountSettings, command_of, on_issued}
+use Rattle.histories.specs.Common.{on_mount, on_policy, on_secret, Place, Status, IssuedCommand, MountCommand}
+use Rattle.histories.specs.Common.{PolicyCommand, SecretCommand}
 use Rattle.histories.specs.History.{AreAsked, Asking, AskedAt, History, clocked}
 use Rattle.histories.specs.Versions.{DisablesAbove, named}
 

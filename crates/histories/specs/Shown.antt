@@ -1,6 +1,7 @@
 -- The law of what look-ups answer, as a statement (Vault's documentation, "Token auth method (API)",
 -- "/sys/leases", "/sys/policies", "KV secrets engine - version 2 (API)"; the engine that issues credentials is this
 -- project's). The forms of objects are those of `api_json`.
+use Rattle.std.specs.Prelude.{◌≡◌, ◌≢◌, ◌⊎◌, ◌<◌, ◌≤◌, ◌+◌, ◌-◌, ◌++◌, ◌∷◌}
 use Rattle.broker_model.specs.Words.{map, key_object, lease_object, policy_object, role_object, mounts_object}
 use Rattle.broker_model.specs.Words.{settings_object, token_object, valid_object, LeaseObject, MountObject, KeyObject}
 use Rattle.broker_model.specs.Words.{TokenObject, ℕ, min, List, [], Bool, true, false, Some, None, Ok, is_none}
@@ -9,8 +10,8 @@ use Rattle.broker_model.specs.Words.{Mount, Role, issued, kv, names_of, lease_of
 use Rattle.broker_model.specs.Words.{folder, auth_object, keys_object, lease_reply, plain_reply, reply_text}
 use Rattle.broker_model.specs.Words.{VersionObject, Command, command_of, on_issued, on_lease, on_mount, on_policy}
 use Rattle.broker_model.specs.Words.{on_secret, on_token, on_wrapping, Place, Status}
-use Rattle.histories.specs.Common.{◌≡◌, ◌≢◌, ◌⊎◌, ◌<◌, ◌≤◌, ◌+◌, ◌-◌, ◌++◌, ◌∷◌, IssuedCommand, LeaseCommand}
-use Rattle.histories.specs.Common.{MountCommand, PolicyCommand, SecretCommand, TokenCommand, WrappingCommand}
+use Rattle.histories.specs.Common.{IssuedCommand, LeaseCommand, MountCommand, PolicyCommand, SecretCommand}
+use Rattle.histories.specs.Common.{TokenCommand, WrappingCommand}
 use Rattle.histories.specs.History.{AreAsked, Asking, AskedAt, History, clocked, spent_by}
 use Rattle.histories.specs.Own.{IsNewEnd, RenewsLease, RenewsToken, increment_of}
 use Rattle.histories.specs.Creations.{told_of, with_token}

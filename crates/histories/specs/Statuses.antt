@@ -1,8 +1,9 @@
 -- The law of how a request is answered that is not refused, as a statement (Vault's documentation, "HTTP API", HTTP
 -- status codes; RFC 9110, sections 15.3.1, 15.3.5 and 15.5.5).
-use Rattle.histories.specs.Common.{◌≡◌, ◌⊎◌, ℕ, Bool, true, false, None, Ok, codes, IsRefused, Text, Broker, Command}
-use Rattle.histories.specs.Common.{command_of, on_cubbyhole, on_issued, on_lease, on_mount, on_policy, on_secret}
-use Rattle.histories.specs.Common.{on_token, on_wrapping, no_content, Place, Status, CubbyholeCommand, IssuedCommand}
+use Rattle.std.specs.Prelude.{◌≡◌, ◌⊎◌}
+use Rattle.histories.specs.Common.{ℕ, Bool, true, false, None, Ok, codes, IsRefused, Text, Broker, Command, command_of}
+use Rattle.histories.specs.Common.{on_cubbyhole, on_issued, on_lease, on_mount, on_policy, on_secret, on_token}
+use Rattle.histories.specs.Common.{on_wrapping, no_content, Place, Status, CubbyholeCommand, IssuedCommand}
 use Rattle.histories.specs.Common.{LeaseCommand, MountCommand, PolicyCommand, SecretCommand, TokenCommand}
 use Rattle.histories.specs.History.{AreAsked, Asking, AskedAt, History, clocked}
 use Rattle.histories.specs.Versions.{ShowsEnded}

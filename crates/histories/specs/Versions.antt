@@ -1,11 +1,12 @@
 -- The law of what becomes of versioned secrets, as a statement (Vault's documentation, "KV secrets engine - version 2",
 -- check-and-set, deleting and destroying data, key metadata; "/sys/mounts", disable secrets engine).
+use Rattle.std.specs.Prelude.{◌≡◌, ◌≢◌, ◌⊎◌, ◌<◌, ◌≤◌, ◌+◌, ◌++◌, ◌∷◌}
 use Rattle.broker_model.specs.Words.{secret_object, version_object, KeySettings, not_found}
-use Rattle.histories.specs.Common.{◌≡◌, ◌≢◌, ◌⊎◌, ◌<◌, ◌≤◌, ◌+◌, ◌++◌, ◌∷◌, ℕ, List, [], Contains, Bool, true, false}
-use Rattle.histories.specs.Common.{nat_eq, Some, None, Ok, is_none, starts_with, refused, Text, get, Broker, Mount}
-use Rattle.histories.specs.Common.{names_of, Key, Version, slash, plain_reply, reply_text, SecretWrite, VersionObject}
-use Rattle.histories.specs.Common.{on_mount, on_secret, command_of, Place, Refusal, Status, entries, from_entries}
-use Rattle.histories.specs.Common.{MountCommand, SecretCommand}
+use Rattle.histories.specs.Common.{ℕ, List, [], Contains, Bool, true, false, nat_eq, Some, None, Ok, is_none}
+use Rattle.histories.specs.Common.{starts_with, refused, Text, get, Broker, Mount, names_of, Key, Version, slash}
+use Rattle.histories.specs.Common.{plain_reply, reply_text, SecretWrite, VersionObject, on_mount, on_secret}
+use Rattle.histories.specs.Common.{command_of, Place, Refusal, Status, entries, from_entries, MountCommand}
+use Rattle.histories.specs.Common.{SecretCommand}
 use Rattle.histories.specs.History.{AreAsked, Asking, AskedAt, History, clocked}
 use Rattle.histories.specs.KeptResponses.{unwrapped_body}
 

@@ -2,11 +2,12 @@
 -- there, or that check-and-set does not let it pass (Vault's documentation, "HTTP API", HTTP status codes; "KV secrets
 -- engine - version 2 (API)", "Token auth method (API)"; the engine that issues credentials, and the texts of refusals,
 -- are this project's).
-use Rattle.histories.specs.Common.{◌≡◌, ◌≢◌, ◌⊎◌, ℕ, true, Some, None, Ok, codes, Text, refused, get, Broker, Mount}
-use Rattle.histories.specs.Common.{lease_of, Key, Token, Refusal, LeaseRenewal, SecretWrite, TokenRenewal, Command}
-use Rattle.histories.specs.Common.{command_of, on_cubbyhole, on_issued, on_lease, on_policy, on_secret, on_token, Place}
-use Rattle.histories.specs.Common.{Reason, Denial, CubbyholeCommand, IssuedCommand, LeaseCommand, PolicyCommand}
-use Rattle.histories.specs.Common.{SecretCommand, TokenCommand}
+use Rattle.std.specs.Prelude.{◌≡◌, ◌≢◌, ◌⊎◌}
+use Rattle.histories.specs.Common.{ℕ, true, Some, None, Ok, codes, Text, refused, get, Broker, Mount, lease_of, Key}
+use Rattle.histories.specs.Common.{Token, Refusal, LeaseRenewal, SecretWrite, TokenRenewal, Command, command_of}
+use Rattle.histories.specs.Common.{on_cubbyhole, on_issued, on_lease, on_policy, on_secret, on_token, Place, Reason}
+use Rattle.histories.specs.Common.{Denial, CubbyholeCommand, IssuedCommand, LeaseCommand, PolicyCommand, SecretCommand}
+use Rattle.histories.specs.Common.{TokenCommand}
 use Rattle.histories.specs.History.{AreAsked, Asking, AskedAt, History, clocked}
 use Rattle.histories.specs.Versions.{LacksVersion, named}
 use Rattle.histories.specs.Callers.{IsAllowed}

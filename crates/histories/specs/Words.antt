@@ -2,7 +2,6 @@
 -- of std and the ported crates
 pub use Rattle.serde_json.specs.Data.{Members, object}
 pub use Rattle.serde_json.specs.Written.{compact_text}
-pub use Rattle.std.proofs.Common.{if◌then◌else◌, ◌&&◌, ◌++◌, ◌+◌, ◌-◌, ◌<◌, ◌==◌, ◌||◌, ◌∷◌, ◌≡◌, ◌≢◌, ◌≤◌, ◌⊎◌}
 -- of the crates below
 pub use Rattle.api_json.specs.Words.{Field}
 pub use Rattle.broker_model.specs.Words.{[], AccessorsNameTheirTokens, act, act_on_issued, act_on_leases, act_on_mounts}
