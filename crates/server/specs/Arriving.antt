@@ -1,5 +1,5 @@
 -- What a listener hands out (this project's definition).
-use Rattle.std.specs.Prelude.{◌≡◌, ◌∷◌, List, [], Option, None, Some}
+use Rattle.std.specs.Prelude.{◌≡◌, List, [], Option, None, Some}
 use Rattle.hub.specs.Supplies.{GivesInTurn}
 use Rattle.server.specs.declared.ends.Arrival.{Arrival}
 use Rattle.server.specs.declared.ends.Arrival.TheVariants.{Came, Failed, Interrupted, Lost, NoneWaits, Scarce}

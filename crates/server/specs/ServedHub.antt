@@ -1,13 +1,10 @@
 -- What serving connections leaves of the hub, and which faults end it (this project's definition).
-use Rattle.std.specs.Prelude.{◌≡◌, ◌≢◌, ◌<◌, ℕ, Bool, true, false, List, [], Result, Err, IsTrue, IfErr, MatchResult}
-use Rattle.records.specs.Words.{None, Fault, Memory, Storage, Damaged, BadStart, Kept, IsHonestStore}
-use Rattle.hub.specs.Words.{ConnectionsRepresent, HubRepresents, hub_store, AreKnown, Step, StepsBetween, StepsFrom}
-use Rattle.hub.specs.Words.{StepsTaken, before_fault, Connections, World}
-use Rattle.hub.specs.declared.event.Event.{Event}
+use Rattle.std.specs.Prelude.{◌≡◌, ◌≢◌, ℕ, Bool, true, false}
+use Rattle.records.specs.Words.{None, Memory, Storage, Damaged, BadStart}
+use Rattle.hub.specs.Words.{ConnectionsRepresent, Connections}
 use Rattle.hub.specs.declared.hub.Hub.{Hub}
 use Rattle.hub.specs.declared.serve.ConnectionFault.{ConnectionFault}
 use Rattle.hub.specs.declared.serve.ConnectionFault.TheVariants.{Broker, Read, Write}
-use Rattle.histories.specs.Words.{KeepsLaws}
 
 -- whether the others are served on after this fault of one: running out of memory, reading and writing (1, 5, 6)
 abbrev pub is_skipped : ConnectionFault → Bool

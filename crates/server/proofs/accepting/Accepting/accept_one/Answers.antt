@@ -1,4 +1,4 @@
-use Rattle.std.proofs.Common.{◌∙◌, inl, refl, rules, sym, []}
+use Rattle.std.proofs.Common.{inl, refl, rules, []}
 use Rattle.server.proofs.ServingLemmas.{accepted_none, hands_none, hands_one, hands_then}
 use Rattle.server.proofs.accepting.Accepting.accept_one.Goals as goal
 

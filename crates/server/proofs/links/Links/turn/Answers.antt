@@ -1,4 +1,4 @@
-use Rattle.std.proofs.Common.{◌≡◌, ◌∙◌, Ok, Err, ap, refl, []}
+use Rattle.std.proofs.Common.{◌≡◌, Ok, refl, []}
 use Rattle.hub.specs.Words.{Supplies, Supplies-nil}
 use Rattle.server.proofs.ServingLemmas.{joins_none, serves_fault, serves_on, serves_same, serves_then}
 use Rattle.server.proofs.links.Links.turn.Goals as goal

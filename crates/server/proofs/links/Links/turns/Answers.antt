@@ -1,6 +1,6 @@
 use Rattle.std.proofs.Common.{◌∙◌, Ok, Err, ap, refl, []}
 use Rattle.records.specs.Words.{err_from_is_err_and}
-use Rattle.hub.specs.Words.{Supplies, Supplies-append, Supplies-nil}
+use Rattle.hub.specs.Words.{Supplies-append, Supplies-nil}
 use Rattle.server.proofs.ServingLemmas.{serves_on, serves_same}
 use Rattle.server.proofs.links.Links.turns.Goals as goal
 

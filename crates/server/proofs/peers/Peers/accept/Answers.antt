@@ -1,6 +1,4 @@
 use Rattle.std.proofs.Common.{◌∷◌, [], refl}
-use Rattle.server.specs.Numbers.{connection_at}
-use Rattle.server.proofs.AcceptedLemmas.{are_served_same}
 use Rattle.server.proofs.ServingLemmas.{accepted_none, accepted_one}
 use Rattle.server.proofs.peers.Peers.accept.Goals as goal
 
