@@ -8,7 +8,6 @@ pub mod HubLemmas
 pub mod KeepsLemmas
 pub mod KnownLemmas
 pub mod ListedLemmas
-pub mod OrderLemmas
 pub mod RequestLemmas
 pub mod RunHistories
 pub mod RunLemmas

@@ -1,6 +1,6 @@
 -- What a hub does on all of its connections, one step after another (this project's definition).
-use Rattle.std.specs.Prelude.{◌≡◌, ◌∷◌, ℕ, List, [], Option, None, ⊤, IsTrue}
-use Rattle.broker_model.specs.Words.{All, flat_map, Kept, IsHonestStore}
+use Rattle.std.specs.Prelude.{◌≡◌, ◌∷◌, ℕ, List, [], Option, None, ⊤, IsTrue, filter}
+use Rattle.broker_model.specs.Words.{nat_eq, All, concat, flat_map, Kept, IsHonestStore}
 use Rattle.histories.specs.Words.{AreAsked, Asking, History, left_by}
 use Rattle.hub.specs.Feeding.{IsLater}
 use Rattle.hub.specs.Histories.{EventAsked}
@@ -44,6 +44,20 @@ fed_by (closed conn) = []
 -- the events that were fed, those with a fault among them
 abbrev pub fed_in : List Step → List Event
 fed_in steps = flat_map fed_by steps
+
+-- the steps of the connection, in their order
+abbrev pub steps_of : ℕ → List Step → List Step
+steps_of conn steps = filter (λ s. nat_eq (conn_of s) conn) steps
+
+-- the reply, if an event was answered
+abbrev pub reply_by : Step → List (List ℕ)
+reply_by (answered e bytes) = bytes ∷ []
+reply_by (faulted e) = []
+reply_by (closed conn) = []
+
+-- the replies, joined
+abbrev pub replies_in : List Step → List ℕ
+replies_in steps = concat (flat_map reply_by steps)
 
 -- the events, answered with these replies
 abbrev pub answers_of : List Event → List (List ℕ) → List Step

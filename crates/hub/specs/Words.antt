@@ -25,8 +25,6 @@ pub use Rattle.hub.specs.Histories.{EventAsked, EventsAsked, RunKeeps}
 pub use Rattle.hub.specs.Links.{number_of, unsent}
 pub use Rattle.hub.specs.ListedReplies.{IsListedReply}
 pub use Rattle.hub.specs.Numbers.{IsNext, IsNextNumber}
-pub use Rattle.hub.specs.Ordering.{EndsBy, HaveNumbers, IsAnswer, IsCaused, IsOther, IsServedLine, number_at}
-pub use Rattle.hub.specs.Ordering.{replies_in, reply_by, ServesLines, steps_of, TurnsLine}
 pub use Rattle.hub.specs.Pending.{closed_at, ConnectionRepresents, EntryRepresents, is_closed, OpenedAs, Unanswered}
 pub use Rattle.hub.specs.Representing.{ConnectionsRepresent, hub_connections, hub_store, hub_waiting, HubRepresents}
 pub use Rattle.hub.specs.Representing.{waiting}
@@ -36,7 +34,8 @@ pub use Rattle.hub.specs.ServedConnection.{Exchange, HasEnded, IsAllowed, IsAnsw
 pub use Rattle.hub.specs.ServedConnection.{KeepsStore, LeavesClosed, LeavesOthers, longest_piece, pieces_in, Proceeds}
 pub use Rattle.hub.specs.ServedConnection.{RunsBefore, sent_in, Serves, Stops}
 pub use Rattle.hub.specs.Steps.{answered, answers_of, AreKnown, before_fault, closed, conn_of, faulted, fed_by, fed_in}
-pub use Rattle.hub.specs.Steps.{IsStepOf, Step, StepsBetween, StepsFrom, StepsTaken, stop_of}
+pub use Rattle.hub.specs.Steps.{IsStepOf, replies_in, reply_by, Step, steps_of, StepsBetween, StepsFrom, StepsTaken}
+pub use Rattle.hub.specs.Steps.{stop_of}
 pub use Rattle.hub.specs.Supplies.{Supplies}
 pub use Rattle.hub.specs.Turning.{Passes, Says, TakesTurn, TurnsLink, TurnStops}
 pub use Rattle.hub.specs.World.{AreReplyBytes, Connections, FollowsRequests, front_closes, front_effect, History}

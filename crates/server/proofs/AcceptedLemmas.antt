@@ -10,9 +10,9 @@ use Rattle.std.proofs.lemmas.List.Elements.{All-head, All-tail, filter-append}
 use Rattle.std.specs.Io.KnownBytes.{Appends, Consumes}
 use Rattle.std.specs.List.{concat}
 use Rattle.std.specs.Option.{option_or}
-use Rattle.hub.specs.Ordering.{replies_in, reply_by, steps_of}
 use Rattle.hub.specs.ServedConnection.{pieces_in}
-use Rattle.hub.specs.Steps.{IsStepOf, Step, answered, closed, conn_of, faulted, fed_by, fed_in}
+use Rattle.hub.specs.Steps.{IsStepOf, Step, answered, closed, conn_of, faulted, fed_by, fed_in, replies_in, reply_by}
+use Rattle.hub.specs.Steps.{steps_of}
 use Rattle.hub.specs.Turning.{Passes}
 use Rattle.hub.specs.declared.event.Event.{Event}
 use Rattle.server.specs.Accepted.{AreServed, Connection, IsServed, begun, new_connection, numbered}

@@ -1,19 +1,15 @@
 -- What serving leaves, and then serving on.
-use Rattle.std.proofs.Common.{◌≡◌, ◌≢◌, ◌⊎◌, ◌<◌, ◌≤◌, ◌+◌, ◌∷◌, ◌++◌, ◌∙◌, ℕ, Bool, List, [], length, Option, Some}
-use Rattle.std.proofs.Common.{None}
+use Rattle.std.proofs.Common.{◌≡◌, ◌≢◌, ◌⊎◌, ◌<◌, ◌≤◌, ◌+◌, ◌∷◌, ◌++◌, ◌∙◌, ℕ, Bool, List, [], Option, Some, None}
 use Rattle.std.proofs.Common.{Result, Ok, Err, IsTrue, MatchResult, refl, sym, ap, subst, inl, inr, append-nil, arith}
-use Rattle.std.proofs.Common.{All}
-use Rattle.std.proofs.Common.{nat_cmp, option_map, true, ⊎_elim}
+use Rattle.std.proofs.Common.{All, nat_cmp, option_map, true, ⊎_elim}
 use Rattle.std.specs.BTreeMap.{get}
 use Rattle.records.specs.Words.{All-cons, All-nil, cases_lt, update_apart, Fault, Storage, Kept, IsHonestStore}
 use Rattle.histories.specs.Words.{AllKeepLaws}
-use Rattle.hub.specs.Ordering.{steps_of}
 use Rattle.hub.specs.Supplies.{GivesInTurn}
 use Rattle.hub.specs.SuppliesLaws.{GivesInTurn-append}
 use Rattle.hub.specs.Words.{IsLater, IsNext, ConnectionsRepresent, HubRepresents, hub_store, LeavesClosed, LeavesOthers}
 use Rattle.hub.specs.Words.{IsStepOf, Step, StepsBetween, closed, known_open, steps_close, steps_none, steps_on}
-use Rattle.hub.specs.Words.{Connections}
-use Rattle.hub.specs.Words.{World, history_at, number_of}
+use Rattle.hub.specs.Words.{Connections, World, history_at, number_of}
 use Rattle.hub.specs.declared.event.Event.{Event}
 use Rattle.hub.specs.declared.hub.Hub.{Hub}
 use Rattle.server.specs.Accepted.{AreServed, begun, Connection, IsServed, LeavesBetween, new_connection, numbered}

@@ -1,20 +1,15 @@
 -- What one turn of a peer leaves.
 use Rattle.std.proofs.Common.{◌≡◌, ◌≢◌, ◌∷◌, ◌++◌, ◌∙◌, ℕ, Bool, true, false, List, [], Option, None, Some, Result, Ok}
-use Rattle.std.proofs.Common.{Err}
-use Rattle.std.proofs.Common.{IfErr, MatchResult, length, refl, sym, ap, subst, append-nil, arith, flat_map, All}
-use Rattle.std.proofs.Common.{IsTrue, take, drop}
-use Rattle.std.proofs.Common.{take-append-drop}
+use Rattle.std.proofs.Common.{Err, IfErr, MatchResult, length, refl, sym, ap, subst, append-nil, arith, flat_map, All}
+use Rattle.std.proofs.Common.{take, drop, take-append-drop}
 use Rattle.std.proofs.KnownBytes.{Appends-nil, Consumes-nil}
 use Rattle.std.specs.Io.KnownBytes.{Appends, Consumes, Keeps, WriteAppends}
 use Rattle.std.specs.List.{concat}
-use Rattle.records.specs.Words.{All-nil, Fault, Memory, Storage, Damaged, BadStart, Kept, IsHonestStore}
-use Rattle.hub.specs.Ordering.{replies_in, reply_by}
+use Rattle.records.specs.Words.{All-nil, Fault, Memory, Storage, Damaged, BadStart, Kept}
 use Rattle.hub.specs.ServedConnection.{LeavesOthers, pieces_in}
-use Rattle.hub.specs.Words.{ConnectionsRepresent, HubRepresents, hub_store, IsAllowed, IsStepOf, Step, answers_of}
-use Rattle.hub.specs.Words.{StepsBetween, fed_in, answers_each, fed_answers, fed_stopped, stop_of, steps_none}
-use Rattle.hub.specs.Words.{steps_proceeding}
-use Rattle.hub.specs.Words.{steps_stopping, stops_each, KeepsStore, Passes, TurnsLink, Connections, World, number_of}
-use Rattle.hub.specs.Words.{unsent}
+use Rattle.hub.specs.Words.{hub_store, IsAllowed, IsStepOf, Step, answers_of, fed_in, answers_each, fed_answers}
+use Rattle.hub.specs.Words.{fed_stopped, stop_of, steps_none, replies_in, reply_by, steps_proceeding, steps_stopping}
+use Rattle.hub.specs.Words.{stops_each, KeepsStore, Passes, TurnsLink, number_of, unsent}
 use Rattle.hub.specs.declared.event.Event.{Event}
 use Rattle.hub.specs.declared.hub.Hub.{Hub}
 use Rattle.hub.specs.declared.link.Link.{Link}
@@ -27,8 +22,6 @@ use Rattle.server.specs.Patience.{is_farewell}
 use Rattle.server.specs.ServedHub.{is_skipped}
 use Rattle.server.specs.Serving.{EndsBy, TurnsPeer}
 use Rattle.server.specs.declared.peer.Peer.{Peer}
-use Rattle.server.specs.declared.pulling.Pulling.{Pulling}
-use Rattle.server.specs.declared.replying.Replying.{Replying}
 use Rattle.server.proofs.AcceptedLemmas.{replies_on}
 
 -- ---- how a turn ends

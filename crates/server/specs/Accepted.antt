@@ -4,10 +4,9 @@ use Rattle.std.specs.Prelude.{◌≡◌, ◌⊎◌, ◌<◌, ◌≤◌, ◌+◌,
 use Rattle.std.specs.Prelude.{nat_eq, Option, None, Some}
 use Rattle.std.specs.Io.KnownBytes.{Appends, Consumes}
 use Rattle.std.specs.Option.{option_or}
-use Rattle.hub.specs.Ordering.{replies_in, steps_of}
 use Rattle.hub.specs.Representing.{ConnectionsRepresent}
 use Rattle.hub.specs.ServedConnection.{pieces_in}
-use Rattle.hub.specs.Steps.{Step, fed_in}
+use Rattle.hub.specs.Steps.{Step, fed_in, replies_in, steps_of}
 use Rattle.hub.specs.Turning.{Passes}
 use Rattle.hub.specs.World.{Connections}
 use Rattle.hub.specs.declared.hub.Hub.{Hub}

@@ -6,9 +6,8 @@ use Rattle.std.specs.Ordering.{nat_cmp}
 use Rattle.records.specs.Words.{None, Some, Fault, Memory, Storage, Kept, IsHonestStore, All}
 use Rattle.histories.specs.Words.{KeepsLaws}
 use Rattle.hub.specs.Links.{number_of}
-use Rattle.hub.specs.Ordering.{steps_of}
 use Rattle.hub.specs.ServedConnection.{LeavesOthers}
-use Rattle.hub.specs.Steps.{AreKnown, IsStepOf, Step, StepsBetween, StepsFrom, StepsTaken, before_fault}
+use Rattle.hub.specs.Steps.{AreKnown, IsStepOf, Step, StepsBetween, StepsFrom, StepsTaken, before_fault, steps_of}
 use Rattle.hub.specs.Words.{ConnectionsRepresent, HubRepresents, hub_store, Connections, World}
 use Rattle.hub.specs.declared.event.Event.{Event}
 use Rattle.hub.specs.declared.hub.Hub.{Hub}

@@ -1,14 +1,11 @@
 //! Turns on connections whose ends do not wait: ones in memory that would wait at every other call, or that fail.
 
-ghost use Rattle.std.specs.Prelude.{◌≡◌};
-ghost use Rattle.hub.specs.Links.{number_of};
-
 use crate::exchange::{CLOSING, Counting, FOUND, Fixed, READ, WRITE, WRITTEN, moment};
 use crate::streams::{NOT_FOUND, NOT_FOUND_CLOSING, started};
 use broker::ListStore;
 use endpoints::{NowReading, NowWriting};
-use hub::{ConnectionFault, Hub, Line, Link, Turn, serve_order, take_turn};
-use std::alloc::{AllocGlobal, Global};
+use hub::{ConnectionFault, Hub, Link, Turn, take_turn};
+use std::alloc::AllocGlobal;
 use std::io;
 use std::process::Abort;
 use std::test::Fail;
@@ -76,54 +73,6 @@ impl io::Write for Breaking {
     fn flush(&mut self) -> io::Result<()> {
         Ok(())
     }
-}
-
-/// A writer that keeps what it takes. If it breaks, it takes ten bytes, fails at the second write, and takes all bytes
-/// again after that.
-#[derive(Drop)]
-struct Keeping<'o> {
-    output: &'o mut Vec<u8>,
-    breaks: bool,
-    writes: u32,
-}
-
-impl<'o> io::Write for Keeping<'o> {
-    fn write(&mut self, bytes: &[u8]) -> io::Result<usize> {
-        self.writes = self.writes.saturating_add(1);
-        if !self.breaks || self.writes > 2 {
-            return self.output.write(bytes);
-        }
-        if self.writes == 2 {
-            return Err(io::Error::from(io::ErrorKind::BrokenPipe));
-        }
-        self.output.write(&bytes[..bytes.len().min(10)])
-    }
-
-    fn flush(&mut self) -> io::Result<()> {
-        Ok(())
-    }
-}
-
-/// A line with this input, and a writer that keeps what it takes.
-fn line<'s>(
-    alloc: Global,
-    conn: u64,
-    input: &'s str,
-    output: &'s mut Vec<u8>,
-    breaks: bool,
-) -> Line<NowReading<&'s [u8]>, NowWriting<Keeping<'s>>>
-    ensures { number_of result.link ≡ conn }
-{
-    let writer = Keeping {
-        output,
-        breaks,
-        writes: 0,
-    };
-    Line::new(
-        Link::new(alloc, conn),
-        NowReading::new(input.as_bytes()),
-        NowWriting::new(writer),
-    )
 }
 
 /// What each turn answers where both ends would wait at every other call.
@@ -240,41 +189,4 @@ fn expect_nothing_more(
 fn nothing_is_read_after_a_close(rt: HostRuntime) -> Result<(), Fail> {
     let mut hub = started(rt.alloc(), moment()?)?;
     expect_nothing_more(&rt, &mut hub)
-}
-
-/// What three lines write, and which connections close: a line that reads, one that closes its connection, and one that
-/// writes. The writer of the first fails.
-fn expect_lines(rt: &(impl Abort + AllocGlobal), hub: &mut Hub<ListStore>) -> Result<(), Fail> {
-    let alloc = rt.alloc();
-    let mut first = Vec::new(alloc);
-    let mut second = Vec::new(alloc);
-    let mut third = Vec::new(alloc);
-    let mut lines = Vec::with_capacity(alloc, 3)?;
-    lines.push(line(alloc, 4, READ, &mut first, true)).unwrap();
-    lines
-        .push(line(alloc, 9, CLOSING, &mut second, false))
-        .unwrap();
-    lines
-        .push(line(alloc, 2, WRITE, &mut third, false))
-        .unwrap();
-    let mut words = Counting { next: 16 };
-    let mut clock = Fixed(moment()?);
-    let order = [2, 0, 1, 3, 0, 0, 2, 0];
-    serve_order(hub, lines.as_mut_slice(), &order, &mut clock, &mut words);
-    let faults = [lines[0].fault(), lines[1].fault(), lines[2].fault()];
-    drop(lines);
-    assert!(rt; faults == [Some(ConnectionFault::Write), None, None]);
-    assert!(rt; hub.is_closed(4) && hub.is_closed(9) && !hub.is_closed(2));
-    assert_eq!(rt; first.as_slice(), &FOUND.as_bytes()[..10]);
-    assert_eq!(rt; second.as_slice(), NOT_FOUND_CLOSING.as_bytes());
-    assert_eq!(rt; third.as_slice(), WRITTEN.as_bytes());
-    Ok(())
-}
-
-/// The first line reads what the third wrote before. After its failed write nothing more is sent on it, though its
-/// writer would take it. Computes `ServesLines`, `IsServedLine`.
-#[test]
-fn lines_are_served_in_the_order_of_their_turns(rt: HostRuntime) -> Result<(), Fail> {
-    let mut hub = started(rt.alloc(), moment()?)?;
-    expect_lines(&rt, &mut hub)
 }
