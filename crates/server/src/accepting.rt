@@ -14,7 +14,7 @@ use std::cell::Cell;
 use std::rc::Rc;
 
 /// The token of the listener: no connection has it.
-pub(crate) const LISTENER: Token = Token(usize::MAX);
+pub const LISTENER: Token = Token(usize::MAX);
 
 /// The token of standard input, if its end is waited for: no connection has it.
 pub(crate) const INPUT: Token = Token(usize::MAX - 1);

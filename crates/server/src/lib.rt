@@ -34,6 +34,7 @@ mod time_text;
 mod waiting;
 mod watched;
 
+pub use accepting::LISTENER;
 pub use database_files::DatabaseFiles;
 pub use drawn::{DrawnWords, seeded};
 pub use ends::{Arrival, Listener, Reader, Writer};

@@ -30,6 +30,7 @@ use std::cell::Cell;
 use std::net::Net;
 use std::os::fd::RawFd;
 use std::rc::Rc;
+use std::rt::HostRuntime;
 use std::time::{Clock, Duration, Instant};
 use std::{io, net, thread};
 
@@ -95,12 +96,45 @@ impl ListeningSockets {
         // Without an end there are more than a program can ever accept.
         let left = connections.map_or(u64::MAX, u64::from);
         let accepting = Accepting::new(listener, left, at_once, are_all);
+        let links = Links::new(rt.alloc(), at_once, notes, log)?;
+        Listening::of(rt, poll, accepting, links)
+    }
+}
+
+impl<L: Drop, R: Reader, W: Writer> Listening<L, R, W> {
+    /// From any listener, which is reported under `LISTENER`, so many connections are to be served, and at most
+    /// `at_once` of them at once, without a log. It fails as `new` does.
+    pub fn over(
+        rt: &HostRuntime,
+        poll: Poll,
+        listener: L,
+        connections: u32,
+        at_once: u32,
+    ) -> io::Result<Listening<L, R, W>> {
+        let at_once = places(at_once);
+        let are_all = Rc::new(rt.alloc(), Cell::new(false))?;
+        let Ok(notes) = Notes::shared(rt, false) else {
+            return Err(io::Error::from(io::ErrorKind::OutOfMemory));
+        };
+        let accepting = Accepting::new(listener, u64::from(connections), at_once, are_all);
+        let links = Links::new(rt.alloc(), at_once, notes, None)?;
+        Listening::of(rt, poll, accepting, links)
+    }
+
+    /// Nothing was reported yet.
+    fn of<T: AllocGlobal + Clock>(
+        rt: &T,
+        poll: Poll,
+        accepting: Accepting<L>,
+        links: Links<R, W>,
+    ) -> io::Result<Listening<L, R, W>> {
+        let at_once = accepting.at_once();
         Ok(Listening {
             poll,
             // One for each connection, for the listeners, and for standard input: a round knows all that can be done.
             events: Events::with_capacity(rt.alloc(), at_once.saturating_add(OPERATORS + 3))?,
             accepting,
-            links: Links::new(rt.alloc(), at_once, notes, log)?,
+            links,
             operators: None,
             start: Instant::now(rt)?,
             age: 0,
@@ -110,9 +144,7 @@ impl ListeningSockets {
             leaves_by: None,
         })
     }
-}
 
-impl<L: Drop, R: Reader, W: Writer> Listening<L, R, W> {
     /// The end of standard input, or a byte on it, is to stop the serving: no more connections are accepted, those that
     /// are open end once what was begun on them is done, after `LONGEST_EXCHANGE` at the latest, and then all is done.
     /// Nothing is read there. It fails if standard input is a file, or `/dev/null`: they cannot be waited for.

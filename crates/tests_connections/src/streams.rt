@@ -31,8 +31,8 @@ const MALFORMED: &str = "HTTP/1.1 400 Bad Request\r\n\
 
 /// A store whose storage fails at each request.
 #[derive(Drop)]
-struct Broken {
-    failed: bool,
+pub(crate) struct Broken {
+    pub(crate) failed: bool,
 }
 
 impl Store for Broken {
