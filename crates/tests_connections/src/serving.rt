@@ -86,8 +86,8 @@ fn a_stream_receives_its_replies(rt: HostRuntime) -> Result<(), Fail> {
     Ok(())
 }
 
-/// Slow peers beside quick ones: each receives its own replies, whole. Of a request without its end there is none. Where
-/// others wait for a place, no reply takes so many rounds that its peer would lose it.
+/// Slow peers beside quick ones: each receives its own replies, whole. Of a request without its end there is none.
+/// Where others wait for a place, no reply takes so many rounds that its peer would lose it.
 #[test]
 fn slow_peers_receive_their_replies(rt: HostRuntime) -> Result<(), Fail> {
     let alloc = rt.alloc();
