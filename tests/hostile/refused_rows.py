@@ -50,10 +50,11 @@ NUMBERS = itertools.count()  # of runs
 
 # The fewest allocations of an event on average, without the start, in the five rows and in others, of which some have
 # requests that are refused by their heads; and the fewest runs of a hundred with an allocation after the start refused
-# in which the request has to be sent once more; in one run it may be otherwise.
+# in which the request has to be sent once more; in one run it may be otherwise. Over SQL a row that was read is not
+# remembered where memory is refused for it, and the request is answered.
 ALLOCATIONS = {"list": 50, "sql": 150}
 ALLOCATIONS_OF_OTHERS = {"list": 10, "sql": 30}
-SENT = {"list": 95, "sql": 95}
+SENT = {"list": 95, "sql": 90}
 FAULTS = {"list": "1", "sql": "12"}
 
 TOLD = {"list": re.compile(rb"event ([1-9][0-9]*): fault (1), sent once more\n"),
